@@ -1,0 +1,24 @@
+use mathlib.Core.Path.{ap, _∙_}
+use Rattle.words.specs.Words.{lowBits}
+use native.Mathlib.Omega.{arith}
+use Rattle.envelope.specs.Envelope.{rounded}
+use Rattle.envelope.proofs.Levels.{product-fits, signed-last}
+use borrow.Author.Needs.{needs}
+use Rattle.envelope.proofs.enveloped.Statement.{statement}
+use Rattle.envelope.proofs.enveloped.Tie as tie
+
+mul-magnitude : tie.Need-mul-magnitude
+mul-magnitude c = omega (arith, product-fits (c .before .pre .0) (c .before .pre .1))
+
+add-magnitude : tie.Need-add-magnitude
+add-magnitude c = omega (arith, product-fits (c .before .pre .0) (c .before .pre .1))
+
+word20-requires : tie.Need-word20-requires
+word20-requires c κs = search needs
+
+returns : tie.Need-returns
+unfolding rounded
+returns c = c .word20 .ensures ∙ ap (lowBits 20) (signed-last _ _ _)
+
+pub enveloped-spec : {M : Type 1} → statement M
+enveloped-spec = tie.close (tie.spec mul-magnitude add-magnitude word20-requires returns)

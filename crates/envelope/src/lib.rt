@@ -1,0 +1,67 @@
+// The envelope of a generator, and the wave under it.
+ghost use Prim.Native.Nat.{_<_, _^_};
+ghost use mathlib.Core.Path.{_≡_};
+ghost use lib.Dec.{eqb};
+ghost use Rattle.words.specs.Words.{lowBits, valueOf};
+ghost use Rattle.exponential.specs.Exponential.{entries};
+ghost use Rattle.envelope.specs.Envelope.{overflows, decayed, qOf, level, enveloped};
+use words::SignMagnitude;
+
+// Whether GQ plus GP leaves the range of GQ.
+pub fn overflows(gq: u32, gp: u32) -> bool
+    requires { ⌜ (gq < 2 ^ 24) × (gp < 2 ^ 20) ⌝ }
+    ensures { λ r. ⌜ r ≡ overflows gq gp ⌝ }
+{
+    words::outside24(gq, gp)
+}
+
+// GQ plus GP; of an overflow GQ is kept where free is not 1, and wraps where it is.
+pub fn decayed(free: u8, gq: u32, gp: u32) -> u32
+    requires { ⌜ (gq < 2 ^ 24) × (gp < 2 ^ 20) ⌝ }
+    ensures { λ r. ⌜ r ≡ decayed (eqb free 1) gq gp ⌝ }
+{
+    if overflows(gq, gp) {
+        if free == 1 {
+            return words::into24(gq, gp);
+        }
+        return gq;
+    }
+    words::into24(gq, gp)
+}
+
+// Q: the high bits of GQ, or their exponential.
+fn q(table: &[u16; 256], mode: u32, gq: u32) -> u32
+    requires { ⌜ now table ≡ entries 256 ⌝ }
+    requires { ⌜ gq < 2 ^ 24 ⌝ }
+    ensures { λ r. ⌜ r ≡ qOf mode gq ⌝ }
+{
+    if 2 <= mode {
+        return exponential::exponential(table, gq);
+    }
+    gq / 4096
+}
+
+// V: GL minus or plus Q.
+pub fn level(table: &[u16; 256], mode: u32, gl: u32, gq: u32) -> u32
+    requires { ⌜ now table ≡ entries 256 ⌝ }
+    requires { ⌜ (gl < 2 ^ 12) × (gq < 2 ^ 24) ⌝ }
+    ensures { λ r. ⌜ r ≡ level mode gl gq ⌝ }
+{
+    let q = q(table, mode, gq);
+    if mode % 2 == 0 {
+        return words::subtract12(gl, q);
+    }
+    words::add12(gl, q)
+}
+
+// P: the wave under the level v, rounded and then signed, as a word of 20 bits.
+pub fn enveloped(w: SignMagnitude, v: u32) -> u32
+    requires { ⌜ (w .magnitude < 2 ^ 12) × (v < 2 ^ 12) ⌝ }
+    ensures { λ r. ⌜ r ≡ lowBits 20 (enveloped (valueOf w) v) ⌝ }
+{
+    let magnitude = (w.magnitude * v + 32) / 64;
+    words::word20(SignMagnitude {
+        negative: w.negative,
+        magnitude,
+    })
+}

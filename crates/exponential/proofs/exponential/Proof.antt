@@ -1,0 +1,32 @@
+-- `exponential::exponential` meets its contract.
+-- Assumes nothing.
+use borrow.Author.Needs.{needs}
+use native.Mathlib.Omega.{arith}
+use lib.Dec.{lit<}
+use Rattle.exponential.proofs.Entries.{exponential-at}
+use Rattle.exponential.proofs.exponential.Statement.{statement}
+use Rattle.exponential.proofs.exponential.Tie as tie
+
+cast-f : tie.Need-cast-f
+cast-f c = search needs
+
+mul-wide : tie.Need-mul-wide
+mul-wide c = search needs
+
+element-copy-out-wide : tie.Need-element-copy-out-wide
+element-copy-out-wide c = search needs
+
+wide-requires : tie.Need-wide-requires
+wide-requires c κs = search needs
+
+shr-result : tie.Need-shr-result
+shr-result c = search needs
+
+returns : tie.Need-returns
+returns c =
+    rw (c .wide .ensures, c .before .before .pre .0)
+    (exponential-at 256 _ _ _ (lit< tt) (omega arith) (omega arith))
+
+pub exponential-spec : {M : Type 1} → statement M
+exponential-spec =
+    tie.close (tie.spec cast-f mul-wide element-copy-out-wide wide-requires shr-result returns)

@@ -1,0 +1,19 @@
+use borrow.Author.Tests.{eq-eqb, ne-eqb}
+use Rattle.generator.specs.Steps.{endedOf}
+use borrow.Author.Needs.{needs}
+use Rattle.generator.proofs.Generator.ended.Statement.{statement}
+use Rattle.generator.proofs.Generator.ended.Tie as tie
+
+with-run-mode-requires : tie.Need-with-run-mode-requires
+with-run-mode-requires c κs = search needs
+
+returns : tie.Need-returns
+unfolding endedOf
+returns c = rw (eq-eqb _ 13 (c .before .if1 .taken)) (c .with-run-mode .ensures)
+
+returns-2 : tie.Need-returns-2
+unfolding endedOf
+returns-2 c = rw (ne-eqb _ 13 (c .if1 .left))
+
+pub ended-spec : {M : Type 1} → statement M
+ended-spec = tie.close (tie.spec with-run-mode-requires returns returns-2)

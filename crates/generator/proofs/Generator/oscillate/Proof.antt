@@ -1,0 +1,23 @@
+use mathlib.Core.Path.{_∙_}
+use borrow.Author.Tests.{eq-eqb, ne-eqb}
+use Rattle.generator.specs.Steps.{oscillated}
+use borrow.Author.Needs.{needs}
+use Rattle.generator.proofs.Generator.oscillate.Statement.{statement}
+use Rattle.generator.proofs.Generator.oscillate.Tie as tie
+
+sweep-requires : tie.Need-sweep-requires
+sweep-requires c κs = search needs
+
+turn-requires : tie.Need-turn-requires
+turn-requires c κs = (rw (c .sweep .ensures) (c .before .before .pre .0 .gk-low), c .before .before .pre .1)
+
+returns : tie.Need-returns
+unfolding oscillated
+returns c = rw (eq-eqb _ 1 (c .before .before .if1 .taken)) (c .turn .ensures ∙ rw (c .before .sweep .ensures))
+
+returns-2 : tie.Need-returns-2
+unfolding oscillated
+returns-2 c = rw (ne-eqb _ 1 (c .if1 .left))
+
+pub oscillate-spec : {M : Type 1} → statement M
+oscillate-spec = tie.close (tie.spec sweep-requires turn-requires returns returns-2)

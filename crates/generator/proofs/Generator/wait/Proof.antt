@@ -1,0 +1,29 @@
+use mathlib.Core.Path.{_∙_}
+use Rattle.generator.specs.Steps.{oscillated}
+use Rattle.generator.proofs.Turns.{turn-waits}
+use borrow.Author.Needs.{needs}
+use Rattle.generator.proofs.Generator.wait.Statement.{statement}
+use Rattle.generator.proofs.Generator.wait.Tie as tie
+
+phase-requires : tie.Need-phase-requires
+phase-requires c κs = search needs
+
+oscillate-requires : tie.Need-oscillate-requires
+oscillate-requires c κs = search needs
+
+with-run-mode-requires : tie.Need-with-run-mode-requires
+with-run-mode-requires c κs = search needs
+
+returns : tie.Need-returns
+unfolding oscillated
+returns c = let b = c .before .before .before .before in
+    rw (turn-waits (b .args .self) (b .args .f) (b .args .told) (b .pre .1 .0), c .before .if1 .taken, ← (c .before .before .before .phase .ensures .0)) (c .with-run-mode .ensures ∙ rw (c .before .before .oscillate .ensures))
+
+returns-2 : tie.Need-returns-2
+unfolding oscillated
+returns-2 c = let b = c .before .before .before in
+    rw (turn-waits (b .args .self) (b .args .f) (b .args .told) (b .pre .1 .0), c .if1 .left, ← (c .before .before .phase .ensures .0)) (c .before .oscillate .ensures)
+
+pub wait-spec : {M : Type 1} → statement M
+wait-spec =
+    tie.close (tie.spec phase-requires oscillate-requires with-run-mode-requires returns returns-2)

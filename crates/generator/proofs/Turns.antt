@@ -1,0 +1,128 @@
+-- The code's steps, one after the other, are the turn that Generator.antt defines.
+-- Assumes nothing.
+use mathlib.Core.Path.{_≡_, refl, sym, ap, _∙_}
+use mathlib.Core.Bool.{Bool, true, false, cond, _&&_}
+use Prim.Native.Nat.{ℕ, _^_, _<_}
+use lib.Dec.{eqb}
+use borrow.Author.Tests.{eqb-true}
+use Rattle.words.specs.Words.{sum, sumInto}
+use Rattle.modes.specs.declared.Switches.{Switches}
+use Rattle.modes.specs.Modes.{oscillatorOn, envelopeOn, free, wait, runningC, switchesOf}
+use Rattle.modes.proofs.RunModes.{oscillator-tells, free-tells}
+use Rattle.envelope.specs.Envelope.{overflows, decayed}
+use Rattle.lists.specs.Lists.{isOneOf}
+use Rattle.generator.specs.declared.Generator.{Generator}
+use Rattle.generator.specs.Generator.{updated, Ranged, runMode, withRunMode, jOf, kOf, leftRange, wOf, pOf, gjAfter, gkAfter, gqAfter, gmodeAfter, triggers, after, soundedOf}
+use Rattle.generator.specs.Steps.{oscillated, kBy, leftBy, outputBy, endedOf}
+
+-- P, of J and the oscillator's switch.
+pub output-is : (g : Generator) (f : ℕ) → outputBy (oscillatorOn (runMode g)) g f (jOf g f) ≡ pOf g f
+unfolding outputBy kBy leftBy pOf wOf kOf leftRange
+output-is g f = refl
+
+-- A generator whose envelope is on doesn't wait.
+pub sounds-not-waits : (r : ℕ) → envelopeOn r ≡ true → eqb r wait ≡ false
+unfolding envelopeOn isOneOf
+sounds-not-waits r e = go (eqb r wait) refl
+  where
+    go : (b : Bool) → eqb r wait ≡ b → b ≡ false
+    go false h = refl
+    go true h = sym e ∙ ap envelopeOn (eqb-true r wait h)
+
+and-true : (a : Bool) → (a && true) ≡ a
+and-true true = refl
+and-true false = refl
+
+and-false : (a : Bool) → (a && false) ≡ false
+and-false true = refl
+and-false false = refl
+
+-- GP added into GQ.
+abbrev decays : Bool → Generator → Generator
+decays b g = updated g (g .gj) (g .gk) (decayed b (g .gq) (g .gp)) (g .gmode)
+
+decays-by : (g : Generator) (b o : Bool) (gj gk : ℕ) →
+    decays b (cond o (updated g gj gk (g .gq) (g .gmode)) g)
+    ≡ updated g (cond o gj (g .gj)) (cond o gk (g .gk)) (decayed b (g .gq) (g .gp)) (g .gmode)
+decays-by g b true gj gk = refl
+decays-by g b false gj gk = refl
+
+ends-by : (g : Generator) → endedOf g ≡ updated g (g .gj) (g .gk) (g .gq) (cond (eqb (runMode g) runningC) (withRunMode wait (g .gmode)) (g .gmode))
+unfolding endedOf
+ends-by g = go (eqb (runMode g) runningC)
+  where
+    go : (b : Bool) →
+        cond b (updated g (g .gj) (g .gk) (g .gq) (withRunMode wait (g .gmode))) g
+        ≡ updated g (g .gj) (g .gk) (g .gq) (cond b (withRunMode wait (g .gmode)) (g .gmode))
+    go true = refl
+    go false = refl
+
+-- The turn of a generator whose envelope is on: one that triggers, and one that doesn't.
+module _ (g : Generator) (f : ℕ) (told : Bool) (sounds : envelopeOn (runMode g) ≡ true) where
+  pub turn-triggers : triggers g ≡ true →
+      endedOf (decays (free (runMode g)) (oscillated (oscillatorOn (runMode g)) g (jOf g f))) ≡ after g f told
+  unfolding after gjAfter gkAfter gqAfter gmodeAfter oscillated
+  turn-triggers t =
+      ap endedOf (decays-by g (free (runMode g)) (oscillatorOn (runMode g)) _ _)
+      ∙ ends-by _
+      ∙ rw (sounds, t, and-true, sounds-not-waits (runMode g) sounds)
+
+  pub turn-quiet : triggers g ≡ false →
+      decays (free (runMode g)) (oscillated (oscillatorOn (runMode g)) g (jOf g f)) ≡ after g f told
+  unfolding after gjAfter gkAfter gqAfter gmodeAfter oscillated
+  turn-quiet t =
+      decays-by g (free (runMode g)) (oscillatorOn (runMode g)) _ _
+      ∙ rw (sounds, t, and-false, sounds-not-waits (runMode g) sounds)
+
+-- The turn by the code's values: J, P, the registers u after the oscillator's steps, and whether it triggers.
+module _ (g : Generator) (f : ℕ) (on : Switches) (same : on ≡ switchesOf (runMode g)) (sounds : envelopeOn (runMode g) ≡ true)
+    (j p : ℕ) (u v : Generator) (t : Bool) (is-j : j ≡ jOf g f) (is-p : p ≡ outputBy (eqb (on .oscillator) 1) g f j)
+    (is-u : u ≡ oscillated (eqb (on .oscillator) 1) g j) (is-v : v ≡ decays (eqb (on .free) 1) u)
+    (is-t : t ≡ (eqb (on .free) 1 && overflows (g .gq) (g .gp))) where
+  oscillator-same : eqb (on .oscillator) 1 ≡ oscillatorOn (runMode g)
+  oscillator-same = rw same (oscillator-tells (runMode g))
+
+  free-same : eqb (on .free) 1 ≡ free (runMode g)
+  free-same = rw same (free-tells (runMode g))
+
+  p-same : p ≡ pOf g f
+  p-same = rw (is-p, is-j, oscillator-same) (output-is g f)
+
+  t-same : t ≡ triggers g
+  unfolding triggers
+  t-same = rw (is-t, free-same)
+
+  pub sounded-triggers : {w : Generator} → w ≡ endedOf v → t ≡ true → record { unit = w; p = p; triggers = true } ≡ soundedOf g f
+  unfolding soundedOf
+  sounded-triggers {w} e h = rw (whole, p-same, ← t-same, h)
+    where
+      whole : w ≡ after g f false
+      whole = rw (e, is-v, is-u, is-j, oscillator-same, free-same) (turn-triggers g f false sounds (sym t-same ∙ h))
+
+  pub sounded-quiet : t ≡ false → record { unit = v; p = p; triggers = false } ≡ soundedOf g f
+  unfolding soundedOf
+  sounded-quiet h = rw (whole, p-same, ← t-same, h)
+    where
+      whole : v ≡ after g f false
+      whole = rw (is-v, is-u, is-j, oscillator-same, free-same) (turn-quiet g f false sounds (sym t-same ∙ h))
+
+oscillated-gq : (o : Bool) (g : Generator) (j : ℕ) → oscillated o g j .gq ≡ g .gq
+unfolding oscillated
+oscillated-gq true g j = refl
+oscillated-gq false g j = refl
+
+oscillated-gp : (o : Bool) (g : Generator) (j : ℕ) → oscillated o g j .gp ≡ g .gp
+unfolding oscillated
+oscillated-gp true g j = refl
+oscillated-gp false g j = refl
+
+-- GQ and GP are within their widths after the oscillator's steps.
+pub still-ranged : (o : Bool) (g : Generator) (j : ℕ) → Ranged g → (oscillated o g j .gq < 2 ^ 24) × (oscillated o g j .gp < 2 ^ 20)
+still-ranged o g j r = (rw (oscillated-gq o g j) (r .gq-low), rw (oscillated-gp o g j) (r .gp-low))
+
+-- The turn of a generator that waits.
+pub turn-waits : (g : Generator) (f : ℕ) (told : Bool) → runMode g ≡ wait →
+    after g f told
+    ≡ updated g (sumInto 28 20 (g .gj) (g .go)) (sum 20 (g .gk) (jOf g f)) (g .gq) (cond told (withRunMode runningC (g .gmode)) (g .gmode))
+unfolding after gjAfter gkAfter gqAfter gmodeAfter oscillatorOn envelopeOn isOneOf
+turn-waits g f told h = rw h

@@ -1,0 +1,135 @@
+-- One generator: its registers, what its turn in a pass brings, and its registers afterwards (document 01, "The machine" and "A generator").
+-- Assumes nothing.
+use Prim.Native.Nat.{ℕ, _+_, _*_, _/_, _%_, _^_, _<_}
+use mathlib.Core.Bool.{Bool, false, cond, _&&_, _||_}
+use mathlib.Core.List.{List}
+use lib.Dec.{eqb}
+use lib.IntN.{ℤ}
+use lib.ListN.{getD, set}
+use Rattle.words.specs.Words.{lowBits, sum, sumInto, leaves}
+use Rattle.modes.specs.Modes.{oscillatorOn, envelopeOn, free, wait, runningC}
+use Rattle.oscillator.specs.Oscillator.{waveOf}
+use Rattle.envelope.specs.Envelope.{overflows, decayed, level, enveloped}
+use Rattle.generator.specs.declared.Generator.{Generator}
+use Rattle.generator.specs.declared.Sounded.{Sounded}
+
+-- The generator whose eleven words a part of the machine starts with, each register at its width.
+unfoldable pub loaded : List ℕ → Generator
+loaded m =
+    record {
+      go = getD m 0 0 % 2 ^ 20;
+      gj = getD m 1 0 % 2 ^ 28;
+      gk = getD m 2 0 % 2 ^ 20;
+      gn = getD m 3 0 % 2 ^ 11;
+      gm = getD m 4 0 % 2 ^ 4;
+      gp = getD m 5 0 % 2 ^ 20;
+      gq = getD m 6 0 % 2 ^ 24;
+      gl = getD m 7 0 % 2 ^ 12;
+      gsum = getD m 8 0 % 2 ^ 6;
+      gfm = getD m 9 0 % 2 ^ 7;
+      gmode = getD m 10 0 % 2 ^ 10;
+    }
+
+-- That part of the machine with the registers that a turn can change written back: GJ, GK, GQ and GMODE.
+unfoldable pub stored : List ℕ → Generator → List ℕ
+stored m g = set (set (set (set m 1 (g .gj)) 2 (g .gk)) 6 (g .gq)) 10 (g .gmode)
+
+-- A generator with other GJ, GK, GQ and GMODE.
+abbrev pub updated : Generator → ℕ → ℕ → ℕ → ℕ → Generator
+updated g gj gk gq gmode =
+    record {
+      go = g .go;
+      gj = gj;
+      gk = gk;
+      gn = g .gn;
+      gm = g .gm;
+      gp = g .gp;
+      gq = gq;
+      gl = g .gl;
+      gsum = g .gsum;
+      gfm = g .gfm;
+      gmode = gmode;
+    }
+
+-- Every register is within its width.
+pub record Ranged (g : Generator) : Type 0 where
+  pub go-low : g .go < 2 ^ 20
+  pub gj-low : g .gj < 2 ^ 28
+  pub gk-low : g .gk < 2 ^ 20
+  pub gn-low : g .gn < 2 ^ 11
+  pub gm-low : g .gm < 2 ^ 4
+  pub gp-low : g .gp < 2 ^ 20
+  pub gq-low : g .gq < 2 ^ 24
+  pub gl-low : g .gl < 2 ^ 12
+  pub gsum-low : g .gsum < 2 ^ 6
+  pub gfm-low : g .gfm < 2 ^ 7
+  pub gmode-low : g .gmode < 2 ^ 10
+
+-- GMODE is run mode (4 bits), envelope mode (2), oscillator mode (4).
+abbrev pub runMode : Generator → ℕ
+runMode g = g .gmode / 2 ^ 6
+
+abbrev pub envelopeMode : Generator → ℕ
+envelopeMode g = g .gmode / 2 ^ 4 % 2 ^ 2
+
+abbrev pub oscillatorMode : Generator → ℕ
+oscillatorMode g = g .gmode % 2 ^ 4
+
+-- Step 1. J: the high 20 bits of GJ plus F.
+unfoldable pub jOf : Generator → ℕ → ℕ
+jOf g f = sum 20 (g .gj / 2 ^ 8) f
+
+-- Step 2. GJ afterwards: oscillator on, GO is added into it.
+unfoldable pub gjAfter : Generator → ℕ
+gjAfter g = cond (oscillatorOn (runMode g)) (sumInto 28 20 (g .gj) (g .go)) (g .gj)
+
+-- Step 3. E: J in the oscillator mode 1000, else GK. K: the high 13 bits of E.
+unfoldable pub kOf : Generator → ℕ → ℕ
+kOf g f = cond (eqb (oscillatorMode g) 8) (jOf g f) (g .gk) / 2 ^ 7
+
+-- Step 4. GK afterwards: oscillator on, J is added into it.
+unfoldable pub gkAfter : Generator → ℕ → ℕ
+gkAfter g f = cond (oscillatorOn (runMode g)) (sum 20 (g .gk) (jOf g f)) (g .gk)
+
+-- Whether the signed sum of step 1, or of step 4 where it is done, left its range.
+unfoldable pub leftRange : Generator → ℕ → Bool
+leftRange g f = leaves 20 (g .gj / 2 ^ 8) f || (oscillatorOn (runMode g) && leaves 20 (g .gk) (jOf g f))
+
+-- Step 6. W.
+unfoldable pub wOf : Generator → ℕ → ℤ
+wOf g f = waveOf (oscillatorMode g) (kOf g f) (g .gm) (leftRange g f)
+
+-- Step 7. GQ afterwards: envelope on, GP is added into it.
+unfoldable pub gqAfter : Generator → ℕ
+gqAfter g = cond (envelopeOn (runMode g)) (decayed (free (runMode g)) (g .gq) (g .gp)) (g .gq)
+
+-- Step 8. V.
+unfoldable pub vOf : Generator → ℕ
+vOf g = level (envelopeMode g) (g .gl) (g .gq)
+
+-- Step 9. P, as a word of 20 bits.
+unfoldable pub pOf : Generator → ℕ → ℕ
+pOf g f = lowBits 20 (enveloped (wOf g f) (vOf g))
+
+-- A free overflow is a trigger.
+unfoldable pub triggers : Generator → Bool
+triggers g = free (runMode g) && overflows (g .gq) (g .gp)
+
+-- GMODE with another run mode, its other bits kept.
+abbrev pub withRunMode : ℕ → ℕ → ℕ
+withRunMode r gmode = r * 2 ^ 6 + gmode % 2 ^ 6
+
+-- GMODE afterwards: 1101 goes to 1001 as it triggers; 1001 goes to 1101 where it is told that its lower neighbour was taken earlier in this pass and triggered.
+unfoldable pub gmodeAfter : Generator → Bool → ℕ
+gmodeAfter g told =
+    cond (eqb (runMode g) runningC && triggers g) (withRunMode wait (g .gmode))
+    (cond (eqb (runMode g) wait && told) (withRunMode runningC (g .gmode))
+    (g .gmode))
+
+-- The generator after its turn.
+unfoldable pub after : Generator → ℕ → Bool → Generator
+after g f told = updated g (gjAfter g) (gkAfter g f) (gqAfter g) (gmodeAfter g told)
+
+-- What a generator whose envelope is on brings. It is not in 1001, so what it is told makes no difference.
+unfoldable pub soundedOf : Generator → ℕ → Sounded
+soundedOf g f = record { unit = after g f false; p = pOf g f; triggers = triggers g }

@@ -1,0 +1,33 @@
+-- The steps of a generator's turn as the code takes them, of values that it has at hand: J, and whether the oscillator is on. Laws in proofs/ join them to the definitions of Generator.antt, which alone say what is right.
+-- Assumes nothing.
+use Prim.Native.Nat.{ℕ, _/_, _^_}
+use mathlib.Core.Bool.{Bool, cond, _&&_, _||_}
+use lib.Dec.{eqb}
+use Rattle.words.specs.Words.{lowBits, sum, sumInto, leaves}
+use Rattle.modes.specs.Modes.{wait, runningC}
+use Rattle.oscillator.specs.Oscillator.{waveOf}
+use Rattle.envelope.specs.Envelope.{enveloped}
+use Rattle.generator.specs.declared.Generator.{Generator}
+use Rattle.generator.specs.Generator.{updated, runMode, oscillatorMode, withRunMode, vOf}
+
+-- Steps 2 and 4.
+unfoldable pub oscillated : Bool → Generator → ℕ → Generator
+oscillated on g j =
+    cond on (updated g (sumInto 28 20 (g .gj) (g .go)) (sum 20 (g .gk) j) (g .gq) (g .gmode)) g
+
+-- Step 3.
+unfoldable pub kBy : Generator → ℕ → ℕ
+kBy g j = cond (eqb (oscillatorMode g) 8) j (g .gk) / 2 ^ 7
+
+-- Whether a sum of step 1 or 4 left its range.
+unfoldable pub leftBy : Bool → Generator → ℕ → ℕ → Bool
+leftBy on g f j = leaves 20 (g .gj / 2 ^ 8) f || (on && leaves 20 (g .gk) j)
+
+-- Steps 6 to 9.
+unfoldable pub outputBy : Bool → Generator → ℕ → ℕ → ℕ
+outputBy on g f j = lowBits 20 (enveloped (waveOf (oscillatorMode g) (kBy g j) (g .gm) (leftBy on g f j)) (vOf g))
+
+-- 1101 goes to 1001.
+unfoldable pub endedOf : Generator → Generator
+endedOf g =
+    cond (eqb (runMode g) runningC) (updated g (g .gj) (g .gk) (g .gq) (withRunMode wait (g .gmode))) g

@@ -1,0 +1,281 @@
+// One generator by value: its registers, and its turn in a pass.
+ghost use Prim.Native.Nat.{_≤_, _<_, _^_};
+ghost use mathlib.Core.Path.{_≡_};
+ghost use mathlib.Core.Bool.{true, _&&_};
+ghost use lib.Dec.{eqb};
+ghost use lib.ListN.{length};
+ghost use Rattle.words.specs.Words.{sum, sumInto};
+ghost use Rattle.sine.specs.Sine.{quarter};
+ghost use Rattle.exponential.specs.Exponential.{entries};
+ghost use Rattle.modes.specs.Modes.{switchesOf, envelopeOn, wait};
+ghost use Rattle.oscillator.specs.Oscillator.{Wave, waveOf};
+ghost use Rattle.envelope.specs.Envelope.{overflows, decayed};
+ghost use Rattle.generator.specs.Generator.{loaded, stored, updated, Ranged, runMode, oscillatorMode, withRunMode, jOf, after, soundedOf};
+ghost use Rattle.generator.specs.Steps.{oscillated, kBy, leftBy, outputBy, endedOf};
+use modes::Switches;
+use words::SignMagnitude;
+
+pub struct Generator {
+    pub go: u32,
+    pub gj: u32,
+    pub gk: u32,
+    pub gn: u32,
+    pub gm: u32,
+    pub gp: u32,
+    pub gq: u32,
+    pub gl: u32,
+    pub gsum: u32,
+    pub gfm: u32,
+    pub gmode: u32,
+}
+
+// What a generator whose envelope is on brings: its registers afterwards, P, and whether it triggers.
+pub struct Sounded {
+    pub unit: Generator,
+    pub p: u32,
+    pub triggers: bool,
+}
+
+impl Generator {
+    // The generator whose words a part of the machine starts with.
+    pub fn load(m: &[u32]) -> Generator
+        requires { ⌜ 11 ≤ length (now m) ⌝ }
+        ensures { λ r. ⌜ r ≡ loaded (now (m .entry)) ⌝ }
+    {
+        let go = m[0] % 1048576;
+        let gj = m[1] % 268435456;
+        let gk = m[2] % 1048576;
+        let gn = m[3] % 2048;
+        let gm = m[4] % 16;
+        let gp = m[5] % 1048576;
+        let gq = m[6] % 16777216;
+        let gl = m[7] % 4096;
+        let gsum = m[8] % 64;
+        let gfm = m[9] % 128;
+        let gmode = m[10] % 1024;
+        Generator {
+            go,
+            gj,
+            gk,
+            gn,
+            gm,
+            gp,
+            gq,
+            gl,
+            gsum,
+            gfm,
+            gmode,
+        }
+    }
+
+    // The registers that a turn can change are written back.
+    pub fn store(self, m: &mut [u32])
+        requires { ⌜ 11 ≤ length (now m) ⌝ }
+        ensures { λ r. ⌜ now (m .exit) ≡ stored (now (m .entry)) self ⌝ }
+    {
+        m[1] = self.gj;
+        m[2] = self.gk;
+        m[6] = self.gq;
+        m[10] = self.gmode;
+    }
+
+    // Step 1: J, the high 20 bits of GJ plus F.
+    fn phase(self, f: u32) -> u32
+        requires { ⌜ Ranged self ⌝ }
+        requires { ⌜ f < 2 ^ 20 ⌝ }
+        ensures { λ r. ⌜ (r ≡ jOf self f) × (r < 2 ^ 20) ⌝ }
+    {
+        words::add20(self.gj / 256, f)
+    }
+
+    // Step 2: GO is added into GJ.
+    pub fn sweep(mut self) -> Generator
+        requires { ⌜ Ranged self ⌝ }
+        ensures { λ r. ⌜ r ≡ updated self (sumInto 28 20 (self .gj) (self .go)) (self .gk) (self .gq) (self .gmode) ⌝ }
+    {
+        self.gj = words::into28(self.gj, self.go);
+        self
+    }
+
+    // Step 4: J is added into GK.
+    pub fn turn(mut self, j: u32) -> Generator
+        requires { ⌜ (self .gk < 2 ^ 20) × (j < 2 ^ 20) ⌝ }
+        ensures { λ r. ⌜ r ≡ updated self (self .gj) (sum 20 (self .gk) j) (self .gq) (self .gmode) ⌝ }
+    {
+        self.gk = words::add20(self.gk, j);
+        self
+    }
+
+    // Step 7: GP is added into GQ.
+    pub fn decay(mut self, free: u8) -> Generator
+        requires { ⌜ (self .gq < 2 ^ 24) × (self .gp < 2 ^ 20) ⌝ }
+        ensures { λ r. ⌜ r ≡ updated self (self .gj) (self .gk) (decayed (eqb free 1) (self .gq) (self .gp)) (self .gmode) ⌝ }
+    {
+        self.gq = envelope::decayed(free, self.gq, self.gp);
+        self
+    }
+
+    // Whether step 7 overflows.
+    pub fn overflows(self) -> bool
+        requires { ⌜ (self .gq < 2 ^ 24) × (self .gp < 2 ^ 20) ⌝ }
+        ensures { λ r. ⌜ r ≡ overflows (self .gq) (self .gp) ⌝ }
+    {
+        envelope::overflows(self.gq, self.gp)
+    }
+
+    // Another run mode, the other bits of GMODE kept.
+    fn with_run_mode(mut self, run: u32) -> Generator
+        requires { ⌜ run < 2 ^ 4 ⌝ }
+        ensures { λ r. ⌜ r ≡ updated self (self .gj) (self .gk) (self .gq) (withRunMode run (self .gmode)) ⌝ }
+    {
+        self.gmode = run * 64 + self.gmode % 64;
+        self
+    }
+
+    // Steps 2 and 4, where the oscillator is on.
+    fn oscillate(self, on: u8, j: u32) -> Generator
+        requires { ⌜ Ranged self ⌝ }
+        requires { ⌜ j < 2 ^ 20 ⌝ }
+        ensures { λ r. ⌜ r ≡ oscillated (eqb on 1) self j ⌝ }
+    {
+        if on == 1 {
+            let swept = self.sweep();
+            return swept.turn(j);
+        }
+        self
+    }
+
+    // Step 3: K, the high 13 bits of J or of GK.
+    fn k(self, j: u32) -> u32
+        ensures { λ r. ⌜ r ≡ kBy self j ⌝ }
+    {
+        if self.gmode % 16 == 8 {
+            return j / 128;
+        }
+        self.gk / 128
+    }
+
+    // Whether the sum of step 1, or of step 4 where it is done, leaves its range.
+    fn left_range(self, on: u8, f: u32, j: u32) -> bool
+        requires { ⌜ Ranged self ⌝ }
+        requires { ⌜ (f < 2 ^ 20) × (j < 2 ^ 20) ⌝ }
+        ensures { λ r. ⌜ r ≡ leftBy (eqb on 1) self f j ⌝ }
+    {
+        if words::leaves20(self.gj / 256, f) {
+            return true;
+        }
+        if on == 1 {
+            return words::leaves20(self.gk, j);
+        }
+        false
+    }
+
+    // Step 6 in the oscillator modes 0001, 0010 and 0011.
+    fn shaped(self, on: u8, f: u32, j: u32, k: u32) -> SignMagnitude
+        requires { ⌜ Ranged self ⌝ }
+        requires { ⌜ (f < 2 ^ 20) × (j < 2 ^ 20) × (k < 2 ^ 13) ⌝ }
+        requires { ⌜ (0 < oscillatorMode self) × (oscillatorMode self < 4) ⌝ }
+        ensures { λ r. ⌜ Wave (waveOf (oscillatorMode self) k (self .gm) (leftBy (eqb on 1) self f j)) r ⌝ }
+    {
+        let mode = self.gmode % 16;
+        if mode == 1 {
+            return oscillator::sawtooth(k);
+        }
+        if mode == 2 {
+            return oscillator::square(k);
+        }
+        oscillator::pulse(self.left_range(on, f, j))
+    }
+
+    // Step 6: W.
+    fn wave(self, sine: &[u16; 2048], on: u8, f: u32, j: u32) -> SignMagnitude
+        requires { ⌜ Ranged self ⌝ }
+        requires { ⌜ now sine ≡ quarter ⌝ }
+        requires { ⌜ (f < 2 ^ 20) × (j < 2 ^ 20) ⌝ }
+        ensures { λ r. ⌜ Wave (waveOf (oscillatorMode self) (kBy self j) (self .gm) (leftBy (eqb on 1) self f j)) r ⌝ }
+    {
+        let k = self.k(j);
+        let mode = self.gmode % 16;
+        if mode == 0 {
+            return oscillator::sine_wave(sine, k, self.gm);
+        }
+        if mode < 4 {
+            return self.shaped(on, f, j, k);
+        }
+        oscillator::sine_wave(sine, k, self.gm)
+    }
+
+    // Steps 3 and 6 to 9: P, of J and whether the oscillator is on.
+    fn output(self, sine: &[u16; 2048], decay: &[u16; 256], on: u8, f: u32, j: u32) -> u32
+        requires { ⌜ Ranged self ⌝ }
+        requires { ⌜ (now sine ≡ quarter) × (now decay ≡ entries 256) ⌝ }
+        requires { ⌜ (f < 2 ^ 20) × (j < 2 ^ 20) ⌝ }
+        ensures { λ r. ⌜ r ≡ outputBy (eqb on 1) self f j ⌝ }
+    {
+        let w = self.wave(sine, on, f, j);
+        let v = envelope::level(decay, self.gmode / 16 % 4, self.gl, self.gq);
+        envelope::enveloped(w, v)
+    }
+
+    // Whether a generator triggers, where free is 1 for a free envelope.
+    fn fires(self, free: u8) -> bool
+        requires { ⌜ Ranged self ⌝ }
+        ensures { λ r. ⌜ r ≡ (eqb free 1 && overflows (self .gq) (self .gp)) ⌝ }
+    {
+        if free == 1 {
+            return self.overflows();
+        }
+        false
+    }
+
+    // 1101 goes to 1001.
+    fn ended(self) -> Generator
+        ensures { λ r. ⌜ r ≡ endedOf self ⌝ }
+    {
+        if self.gmode / 64 == 13 {
+            return self.with_run_mode(9);
+        }
+        self
+    }
+
+    // The turn of a generator whose envelope is on; on is its run mode's switches.
+    pub fn sound(self, sine: &[u16; 2048], decay: &[u16; 256], on: Switches, f: u32) -> Sounded
+        requires { ⌜ Ranged self ⌝ }
+        requires { ⌜ (now sine ≡ quarter) × (now decay ≡ entries 256) ⌝ }
+        requires { ⌜ (on ≡ switchesOf (runMode self)) × (envelopeOn (runMode self) ≡ true) ⌝ }
+        requires { ⌜ f < 2 ^ 20 ⌝ }
+        ensures { λ r. ⌜ r ≡ soundedOf self f ⌝ }
+    {
+        let j = self.phase(f);
+        let p = self.output(sine, decay, on.oscillator, f, j);
+        let turned = self.oscillate(on.oscillator, j);
+        let decayed = turned.decay(on.free);
+        if self.fires(on.free) {
+            let ended = decayed.ended();
+            return Sounded {
+                unit: ended,
+                p,
+                triggers: true,
+            };
+        }
+        Sounded {
+            unit: decayed,
+            p,
+            triggers: false,
+        }
+    }
+
+    // The turn of a generator in 1001, told whether its lower neighbour has triggered in this pass.
+    pub fn wait(self, f: u32, told: bool) -> Generator
+        requires { ⌜ Ranged self ⌝ }
+        requires { ⌜ (runMode self ≡ wait) × (f < 2 ^ 20) ⌝ }
+        ensures { λ r. ⌜ r ≡ after self f told ⌝ }
+    {
+        let j = self.phase(f);
+        let turned = self.oscillate(1, j);
+        if told {
+            return turned.with_run_mode(13);
+        }
+        turned
+    }
+}

@@ -1,0 +1,18 @@
+-- `modes::built_oscillator` meets its contract: one test over the 16 numbers.
+-- Assumes nothing.
+use borrow.Author.Needs.{needs}
+use Rattle.lists.specs.Lists.{isOneOf}
+use Rattle.lists.proofs.Masks.{tells, bit-tells}
+use Rattle.modes.specs.Modes.{builtOscillators, builtOscillator}
+use Rattle.modes.proofs.built_oscillator.Statement.{statement}
+use Rattle.modes.proofs.built_oscillator.Tie as tie
+
+shr-result : tie.Need-shr-result
+shr-result c = search needs
+
+returns : tie.Need-returns
+unfolding builtOscillator tells isOneOf
+returns c = bit-tells _ builtOscillators 16 tt (c .args .s) (c .pre)
+
+pub built-oscillator-spec : {M : Type 1} → statement M
+built-oscillator-spec = tie.close (tie.spec shr-result returns)

@@ -1,0 +1,18 @@
+-- `modes::built_run` meets its contract: one test over the 16 numbers.
+-- Assumes nothing.
+use borrow.Author.Needs.{needs}
+use Rattle.lists.specs.Lists.{isOneOf}
+use Rattle.lists.proofs.Masks.{tells, bit-tells}
+use Rattle.modes.specs.Modes.{builtRuns, builtRun}
+use Rattle.modes.proofs.built_run.Statement.{statement}
+use Rattle.modes.proofs.built_run.Tie as tie
+
+shr-result : tie.Need-shr-result
+shr-result c = search needs
+
+returns : tie.Need-returns
+unfolding builtRun tells isOneOf
+returns c = bit-tells _ builtRuns 16 tt (c .args .r) (c .pre)
+
+pub built-run-spec : {M : Type 1} → statement M
+built-run-spec = tie.close (tie.spec shr-result returns)

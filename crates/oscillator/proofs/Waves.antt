@@ -1,0 +1,56 @@
+-- The shapes of the wave by sign and magnitude.
+-- Assumes nothing.
+use mathlib.Core.Path.{_≡_, refl, ap, _∙_}
+use mathlib.Core.Bool.{Bool, true, false, cond}
+use Prim.Native.Nat.{ℕ, suc, _-_, _/_, _%_, _^_, _<_, _≤_}
+use native.Mathlib.Nat.{div-le-self}
+use native.Mathlib.Omega.{arith}
+use lib.Dec.{eqb, leb}
+use lib.IntN.{ℤ, pos, negsuc, negℤ}
+use borrow.Author.Tests.{lt-ltb, le-ltb, leb-true, leb-false, eqb-true, eqb-false}
+use Rattle.words.specs.Words.{signed}
+use Rattle.sine.specs.Sine.{magnitude}
+use Rattle.sine.proofs.Quarter.{magnitude-low}
+use Rattle.oscillator.specs.Oscillator.{sawtooth, square}
+
+-- A negative K of 13 bits: its magnitude, but 0 at -4,096.
+saw-negative : (n : ℕ) → n < 4096 → negℤ (pos (suc n % 4096)) ≡ sawtooth (negsuc n)
+unfolding sawtooth
+saw-negative n h = go (eqb n 4095) refl
+  where
+    go : (b : Bool) → eqb n 4095 ≡ b → negℤ (pos (suc n % 4096)) ≡ cond b (pos 0) (negsuc n)
+    go true e = ap (λ (x : ℕ). negℤ (pos x)) zero-left
+      where
+        zero-left : suc n % 4096 ≡ 0
+        zero-left = omega (arith, eqb-true n 4095 e)
+    go false e = ap (λ (x : ℕ). negℤ (pos x)) all-left
+      where
+        below : (eqb n 4095 ≡ false) → n < 4095
+        below e = omega (arith, eqb-false n 4095 e)
+
+        all-left : suc n % 4096 ≡ suc n
+        all-left = omega (arith, below e)
+
+module _ (k : ℕ) (h : k < 2 ^ 13) where
+  pub saw-low : k < 4096 → pos k ≡ sawtooth (signed 13 k)
+  unfolding sawtooth signed
+  saw-low l = simp (lt-ltb k 4096 l)
+
+  pub saw-high : 4096 ≤ k → negℤ (pos ((8192 - k) % 4096)) ≡ sawtooth (signed 13 k)
+  unfolding signed
+  saw-high l = simp (le-ltb k 4096 l) (ap (λ (x : ℕ). negℤ (pos (x % 4096))) whole ∙ saw-negative (8192 - suc k) (omega arith))
+    where
+      whole : 8192 - k ≡ suc (8192 - suc k)
+      whole = omega arith
+
+  pub square-by : cond (leb 4096 k) (negℤ (pos 2048)) (pos 2048) ≡ square (signed 13 k)
+  unfolding square signed
+  square-by = go (leb 4096 k) refl
+    where
+      go : (b : Bool) → leb 4096 k ≡ b → cond b (negℤ (pos 2048)) (pos 2048) ≡ square (signed 13 k)
+      go true e = simp (le-ltb k 4096 (leb-true 4096 k e))
+      go false e = simp (lt-ltb k 4096 (leb-false 4096 k e))
+
+-- A shifted sine has 12 bits.
+pub shifted-low : (k gm : ℕ) → magnitude k / 2 ^ gm < 2 ^ 12
+shifted-low k gm = omega (arith, div-le-self (magnitude k) (2 ^ gm), magnitude-low k)

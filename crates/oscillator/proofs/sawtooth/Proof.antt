@@ -1,0 +1,22 @@
+use native.Mathlib.Omega.{arith}
+use Rattle.words.specs.Words.{valueOf}
+use Rattle.oscillator.proofs.Waves.{saw-low, saw-high}
+use borrow.Author.Needs.{needs}
+use Rattle.oscillator.proofs.sawtooth.Statement.{statement}
+use Rattle.oscillator.proofs.sawtooth.Tie as tie
+use Rattle.oscillator.proofs.sawtooth.Reads as reads
+use Rattle.oscillator.proofs.sawtooth.Lts as lts
+
+returns : tie.Need-returns
+unfolding valueOf
+returns c = record { is = saw-low _ (c .before .pre) (c .if1 .taken); low = omega arith }
+
+sub-t3 : tie.Need-sub-t3
+sub-t3 c = search needs
+
+returns-2 : tie.Need-returns-2
+unfolding valueOf
+returns-2 c = record { is = saw-high _ (c .before .pre) (c .if1 .left); low = omega arith }
+
+pub sawtooth-spec : {M : Type 1} → statement M
+sawtooth-spec = tie.close (tie.spec returns sub-t3 returns-2)

@@ -1,0 +1,64 @@
+// The wave of a generator: one function for each shape.
+ghost use Prim.Native.Nat.{_<_, _^_};
+ghost use mathlib.Core.Path.{_≡_};
+ghost use Rattle.words.specs.Words.{signed};
+ghost use Rattle.sine.specs.Sine.{quarter};
+ghost use Rattle.oscillator.specs.Oscillator.{sawtooth, square, pulse, sineWave, Wave};
+use words::SignMagnitude;
+
+// K itself, but 0 at -4,096.
+pub fn sawtooth(k: u32) -> SignMagnitude
+    requires { ⌜ k < 2 ^ 13 ⌝ }
+    ensures { λ r. ⌜ Wave (sawtooth (signed 13 k)) r ⌝ }
+{
+    if k < 4096 {
+        return SignMagnitude {
+            negative: false,
+            magnitude: k,
+        };
+    }
+    SignMagnitude {
+        negative: true,
+        magnitude: (8192 - k) % 4096,
+    }
+}
+
+// 2,048 with the sign of K.
+pub fn square(k: u32) -> SignMagnitude
+    requires { ⌜ k < 2 ^ 13 ⌝ }
+    ensures { λ r. ⌜ Wave (square (signed 13 k)) r ⌝ }
+{
+    SignMagnitude {
+        negative: 4096 <= k,
+        magnitude: 2048,
+    }
+}
+
+// 2,048 where a signed sum left its range.
+pub fn pulse(left: bool) -> SignMagnitude
+    ensures { λ r. ⌜ Wave (pulse left) r ⌝ }
+{
+    if left {
+        return SignMagnitude {
+            negative: false,
+            magnitude: 2048,
+        };
+    }
+    SignMagnitude {
+        negative: false,
+        magnitude: 0,
+    }
+}
+
+// The sine of K, shifted right GM places.
+pub fn sine_wave(table: &[u16; 2048], k: u32, gm: u32) -> SignMagnitude
+    requires { ⌜ now table ≡ quarter ⌝ }
+    requires { ⌜ (k < 2 ^ 13) × (gm < 2 ^ 4) ⌝ }
+    ensures { λ r. ⌜ Wave (sineWave k gm) r ⌝ }
+{
+    let magnitude = sine::magnitude(table, k);
+    SignMagnitude {
+        negative: sine::is_negative(k),
+        magnitude: magnitude >> gm,
+    }
+}

@@ -1,0 +1,40 @@
+use borrow.Author.Needs.{needs}
+use Rattle.product.proofs.Integers.{is-fits, kept, scale, exact, at-scale}
+use Rattle.product.proofs.multiplied.Statement.{statement}
+use Rattle.product.proofs.multiplied.Tie as tie
+
+cast-k : tie.Need-cast-k
+cast-k c = search needs
+
+shl-k : tie.Need-shl-k
+shl-k c = search needs
+
+cast-k-2 : tie.Need-cast-k-2
+cast-k-2 c = is-fits (scale _ (c .pre .0)) tt
+
+value20-requires : tie.Need-value20-requires
+value20-requires c κs = search needs
+
+value20-requires-2 : tie.Need-value20-requires-2
+value20-requires-2 c κs = search needs
+
+mul-result : tie.Need-mul-result
+mul-result c =
+    is-fits
+    (exact _ _ (c .before .before .pre .1) (c .before .before .pre .2) (c .before .value20 .ensures) (c .value202 .ensures))
+    tt
+
+mul-result-2 : tie.Need-mul-result-2
+mul-result-2 c =
+    is-fits
+    (at-scale _ _ (c .before .before .pre .1) (c .before .before .pre .2) (c .before .value20 .ensures) (c .value202 .ensures) _ (c .before .before .pre .0))
+    tt
+
+returns : tie.Need-returns
+returns c =
+    kept
+    (at-scale _ _ (c .before .before .pre .1) (c .before .before .pre .2) (c .before .value20 .ensures) (c .value202 .ensures) _ (c .before .before .pre .0))
+    tt .same
+
+pub multiplied-spec : {M : Type 1} → statement M
+multiplied-spec = tie.close (tie.spec cast-k shl-k cast-k-2 value20-requires value20-requires-2 mul-result mul-result-2 returns)

@@ -1,0 +1,31 @@
+use borrow.Author.Needs.{needs}
+use mathlib.Core.Path.{ap}
+use lib.IntN.{ℤ, pos}
+use lib.Signed.{ltZ}
+use Rattle.product.specs.Product.{opposite}
+use Rattle.product.proofs.Integers.{is-fits, kept, exact}
+use Rattle.product.proofs.opposite20.Statement.{statement}
+use Rattle.product.proofs.opposite20.Tie as tie
+
+value20-requires : tie.Need-value20-requires
+value20-requires c κs = search needs
+
+value20-requires-2 : tie.Need-value20-requires-2
+value20-requires-2 c κs = search needs
+
+mul-result : tie.Need-mul-result
+mul-result c =
+    is-fits
+    (exact _ _ (c .before .before .pre .0) (c .before .before .pre .1) (c .before .value20 .ensures) (c .value202 .ensures))
+    tt
+
+returns : tie.Need-returns
+unfolding opposite
+returns c =
+    ap (λ (z : ℤ). ltZ z (pos 0))
+    (kept
+    (exact _ _ (c .before .before .pre .0) (c .before .before .pre .1) (c .before .value20 .ensures) (c .value202 .ensures))
+    tt .same)
+
+pub opposite20-spec : {M : Type 1} → statement M
+opposite20-spec = tie.close (tie.spec value20-requires value20-requires-2 mul-result returns)

@@ -1,0 +1,81 @@
+-- A signed word by its bias, a number 2^(w-1) above it; and whether an exact sum leaves its range, told from such numbers, at any width.
+-- Assumes nothing.
+use mathlib.Core.Path.{_≡_, refl, sym}
+use mathlib.Core.Bool.{Bool, true, false, cond, not}
+use Prim.Native.Nat.{ℕ, suc, _+_, _-_, _%_, _^_, _<_, _≤_}
+use native.Mathlib.Nat.{mod-eq-of-lt, mod-eq-sub-mod}
+use native.Mathlib.Omega.{arith}
+use lib.Dec.{T, leb, ltb, ltb→lt, nltb→le}
+use lib.IntN.{ℤ, pos, negsuc, _+ℤ_, _-ℤ_}
+use lib.Signed.{mag}
+use borrow.Author.Tests.{le-leb, lt-leb, leb-true, leb-false}
+use Rattle.words.specs.Words.{signed, leaves, exactSum, outside}
+use Rattle.words.proofs.Differences.{add-law, Difference, is-difference, sum-difference, is-minus}
+
+-- A word of m numbers, where a test against t tells its halves, of h numbers, apart.
+halves : (t m h n : ℕ) → m ≡ h + h → n < m → (n < t → n < h) → (t ≤ n → h ≤ n)
+    → Difference (cond (ltb n t) (pos n) (negsuc (m - suc n))) ((n + h) % m) h
+halves t m h n e k f g = by (ltb n t) (λ b. f (ltb→lt n t b)) (λ b. g (nltb→le n t b))
+  where
+    by : (c : Bool) → (T c → n < h) → (T (not c) → h ≤ n) → Difference (cond c (pos n) (negsuc (m - suc n))) ((n + h) % m) h
+    by true f g = record { said = omega (arith, f tt, mod-eq-of-lt {n = n + h} {m = m} (omega (arith, f tt))) }
+    by false f g = record {
+      said = omega (arith, g tt, mod-eq-sub-mod {n = n + h} {m = m} (omega (arith, g tt)), mod-eq-of-lt {n = n + h - m} {m = m} (omega (arith, g tt)));
+    }
+
+pub bias : (w n : ℕ) → 2 ^ w ≡ 2 ^ (w - 1) + 2 ^ (w - 1) → n < 2 ^ w → signed w n ≡ pos ((n + 2 ^ (w - 1)) % 2 ^ w) -ℤ pos (2 ^ (w - 1))
+unfolding signed
+bias w n e k = is-minus (halves _ (2 ^ w) (2 ^ (w - 1)) n e k (λ l. omega arith) (λ l. omega arith))
+
+-- Two tests that pass and fail together are one.
+pub alike : (c d : Bool) → (c ≡ true → d ≡ true) → (c ≡ false → d ≡ false) → c ≡ d
+alike true d f g = sym (f refl)
+alike false d f g = sym (g refl)
+
+-- An integer n - k beside the range from -h to h - 1.
+mag-below : (h : ℕ) {z : ℤ} {n k : ℕ} → Difference z n k → n + h < k → leb h (mag z) ≡ true
+mag-below h {z = pos a} d l = le-leb h a (omega arith)
+mag-below h {z = negsuc a} d l = le-leb h a (omega arith)
+
+mag-above : (h : ℕ) {z : ℤ} {n k : ℕ} → Difference z n k → k ≤ n + h → leb h (mag z) ≡ leb (k + h) n
+mag-above h {z = pos a} {n} {k} d l =
+    alike _ _ (λ e. le-leb (k + h) n (omega (arith, leb-true))) (λ e. lt-leb (k + h) n (omega (arith, leb-false)))
+mag-above h {z = negsuc a} {n} {k} d l =
+    alike _ _ (λ e. le-leb (k + h) n (omega (arith, leb-true))) (λ e. lt-leb (k + h) n (omega (arith, leb-false)))
+
+-- Whether the sum of two signed words leaves its range, by the sum of the two as numbers with their bias.
+module _ (w a b m n : ℕ) (p : signed w a ≡ pos m -ℤ pos (2 ^ (w - 1))) (q : signed w b ≡ pos n -ℤ pos (2 ^ (w - 1))) where
+  both : Difference (signed w a +ℤ signed w b) (m + n) (2 ^ (w - 1) + 2 ^ (w - 1))
+  both = sum-difference (is-difference m (2 ^ (w - 1)) p) (is-difference n (2 ^ (w - 1)) q)
+
+  pub leaves-below : m + n < 2 ^ (w - 1) → leaves w a b ≡ true
+  unfolding leaves
+  leaves-below h = mag-below (2 ^ (w - 1)) both (omega arith)
+
+  pub leaves-above : 2 ^ (w - 1) ≤ m + n → leaves w a b ≡ leb (2 ^ (w - 1) + 2 ^ (w - 1) + 2 ^ (w - 1)) (m + n)
+  unfolding leaves
+  leaves-above h = mag-above (2 ^ (w - 1)) both (omega arith)
+
+-- An integer n - k beside the range from 0 to 2^u - 1.
+beside-below : (u : ℕ) {z : ℤ} {n k : ℕ} → Difference z n k → n < k → outside u z ≡ true
+unfolding outside
+beside-below u {z = pos a} d l = absurd (omega arith)
+beside-below u {z = negsuc a} d l = refl
+
+beside-above : (u : ℕ) {z : ℤ} {n k : ℕ} → Difference z n k → k ≤ n → outside u z ≡ leb (2 ^ u + k) n
+unfolding outside
+beside-above u {z = pos a} {n} {k} d l =
+    alike _ _ (λ e. le-leb (2 ^ u + k) n (omega (arith, leb-true))) (λ e. lt-leb (2 ^ u + k) n (omega (arith, leb-false)))
+beside-above u {z = negsuc a} d l = absurd (omega arith)
+
+-- Whether the sum of an unsigned register of u bits and a signed word is outside the register's range.
+module _ (u w a b n : ℕ) (p : signed w b ≡ pos n -ℤ pos (2 ^ (w - 1))) where
+  exact : Difference (exactSum w a b) (a + n) (2 ^ (w - 1))
+  unfolding exactSum
+  exact = record { said = omega (arith, add-law (pos a) (signed w b), is-difference n (2 ^ (w - 1)) p .said) }
+
+  pub outside-below : a + n < 2 ^ (w - 1) → outside u (exactSum w a b) ≡ true
+  outside-below h = beside-below u exact h
+
+  pub outside-above : 2 ^ (w - 1) ≤ a + n → outside u (exactSum w a b) ≡ leb (2 ^ u + 2 ^ (w - 1)) (a + n)
+  outside-above h = beside-above u exact h

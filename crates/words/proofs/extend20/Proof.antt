@@ -1,0 +1,26 @@
+use borrow.Author.Needs.{needs}
+use mathlib.Core.Path.{sym, ap, _∙_}
+use Prim.Native.Nat.{_^_}
+use native.Mathlib.Nat.{mod-eq-of-lt}
+use native.Mathlib.Omega.{arith}
+use lib.Dec.{lit≤}
+use Rattle.words.specs.Words.{lowBits, extended}
+use Rattle.words.proofs.Residues.{minus-code}
+use Rattle.words.proofs.extend20.Statement.{statement}
+use Rattle.words.proofs.extend20.Tie as tie
+
+biased20-requires : tie.Need-biased20-requires
+biased20-requires c κs = search needs
+
+wrapping-sub-u32-requires : tie.Need-wrapping-sub-u32-requires
+wrapping-sub-u32-requires c κs = search needs
+
+returns : tie.Need-returns
+unfolding extended
+returns c =
+    sym (mod-eq-of-lt (omega arith))
+    ∙ minus-code 32 _ (2 ^ 19) _ (lit≤ tt) (c .wrapping-sub-u32 .ensures)
+    ∙ ap (lowBits 32) (sym (c .before .biased20 .ensures .1))
+
+pub extend20-spec : {M : Type 1} → statement M
+extend20-spec = tie.close (tie.spec biased20-requires wrapping-sub-u32-requires returns)

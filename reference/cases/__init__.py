@@ -1,0 +1,1 @@
+"""Cases worked by hand from the documents; each gives (name, got, expected)."""

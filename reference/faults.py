@@ -1,0 +1,31 @@
+"""Five wrong behaviours, each off unless a trial switches it on."""
+
+from contextlib import contextmanager
+
+
+class Faults:
+    """The switches; the reference is right only with all of them off."""
+
+    def __init__(self):
+        self.early_read_sees_previous = False
+        self.round_after_sign = False
+        self.scales_exchanged = False
+        self.swept_gj_read = False
+        self.trigger_in_own_pass = False
+
+
+faults = Faults()
+
+NAMES = tuple(vars(faults))
+
+
+@contextmanager
+def switched_on(name):
+    """One fault on for the length of a with block."""
+    if name not in NAMES:
+        raise ValueError(f"no such fault: {name}")
+    setattr(faults, name, True)
+    try:
+        yield
+    finally:
+        setattr(faults, name, False)

@@ -1,0 +1,110 @@
+"""One generator's turn, by the nine steps of document 01."""
+
+from reference import layout
+from reference.faults import faults
+from reference.tables import exponential, sine
+from reference.words import leaves_range, low, signed
+
+SIGNED_K_LEAST = -4096
+HALF_SCALE = 2048
+
+
+def acting_mode(gmode, told):
+    """The run mode that acts in this pass: the one that the GMODE holds."""
+    mode = layout.run_mode(gmode)
+    if faults.trigger_in_own_pass and told and mode == layout.WAIT:
+        return layout.RUNNING_C
+    return mode
+
+
+def modulated(gj, f):
+    """Step 1: J, and whether the signed sum left its range."""
+    total = signed(gj >> 8, 20) + signed(f, 20)
+    return low(total, 20), leaves_range(total, 20)
+
+
+def sweep(gj, go):
+    """Step 2: GJ with the signed GO added into it."""
+    return low(gj + signed(go, 20), 28)
+
+
+def turned(gk, j):
+    """Step 4: GK with J added into it, and whether the signed sum left its range."""
+    total = signed(gk, 20) + signed(j, 20)
+    return low(total, 20), leaves_range(total, 20)
+
+
+def wave(mode, k, gm, left_range):
+    """Step 6: W by the oscillator mode, from the signed K."""
+    if mode == layout.SAWTOOTH:
+        return 0 if k == SIGNED_K_LEAST else k
+    if mode == layout.SQUARE:
+        return -HALF_SCALE if k < 0 else HALF_SCALE
+    if mode == layout.PULSE_TRAIN:
+        return HALF_SCALE if left_range else 0
+    negative, magnitude = sine(low(k, 13))
+    shifted = magnitude >> gm
+    return -shifted if negative else shifted
+
+
+def decay(gq, gp, free):
+    """Step 7 with the envelope on: GQ afterwards, and whether it overflowed."""
+    total = gq + signed(gp, 20)
+    overflow = not 0 <= total < 1 << 24
+    return (gq if overflow and not free else low(total, 24)), overflow
+
+
+def envelope(mode, gl, h):
+    """Step 8: V, 12 bits unsigned."""
+    exponential_mode = mode in (layout.L_MINUS_EXPONENTIAL, layout.L_PLUS_EXPONENTIAL)
+    q = exponential(h) if exponential_mode else h
+    minus = mode in (layout.L_MINUS_Q, layout.L_MINUS_EXPONENTIAL)
+    return low(gl - q if minus else gl + q, 12)
+
+
+def output(w, v):
+    """Step 9: P as a signed number."""
+    if faults.round_after_sign:
+        return (w * v + 32) // 64
+    magnitude = (abs(w) * v + 32) // 64
+    return -magnitude if w * v < 0 else magnitude
+
+
+def next_mode(mode, triggers, told):
+    """The run mode for the next pass."""
+    if mode == layout.RUNNING_C and triggers:
+        return layout.WAIT
+    if mode == layout.WAIT and told:
+        return layout.RUNNING_C
+    return mode
+
+
+def generator_turn(words, f, told):
+    """A generator's eleven words after its turn, P as a 20-bit word, and whether it triggers.
+
+    f is the word at GFM; told says that the lower neighbour was taken earlier in
+    this pass and triggered. P is what steps 6 to 9 give, whatever the run mode.
+    """
+    go, gj, gk, gn, gm, gp, gq, gl, gsum, gfm, gmode = words
+    mode = acting_mode(gmode, told)
+    switches = layout.RUN_MODES[mode]
+    oscillator = layout.oscillator_mode(gmode)
+
+    gj_after = sweep(gj, go) if switches.oscillator else gj
+    j, left_range = modulated(gj_after if faults.swept_gj_read else gj, f)
+    e = j if oscillator == layout.SINE_OF_J else gk
+    k = signed(e >> 7, 13)
+    gk_after = gk
+    if switches.oscillator:
+        gk_after, left_again = turned(gk, j)
+        left_range = left_range or left_again
+    w = wave(oscillator, k, gm, left_range)
+
+    h = gq >> 12
+    gq_after, overflow = decay(gq, gp, switches.free) if switches.envelope else (gq, False)
+    triggers = switches.free and overflow
+    p = output(w, envelope(layout.envelope_mode(gmode), gl, h))
+
+    gmode_after = layout.with_run_mode(gmode, next_mode(mode, triggers, told))
+    after = [go, gj_after, gk_after, gn, gm, gp, gq_after, gl, gsum, gfm, gmode_after]
+    return after, low(p, 20), triggers

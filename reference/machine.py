@@ -1,0 +1,225 @@
+"""The machine: a fresh one, its questions, and a pass.
+
+The turns, products and tables have files of their own and are offered here too.
+"""
+
+from reference import layout
+from reference.faults import faults
+from reference.generator import acting_mode, generator_turn
+from reference.modifier import FORMULAS, integer_product, modifier_turn, product
+from reference.tables import exponential, sine
+from reference.words import low
+
+__all__ = [
+    "exponential", "fresh", "fresh_machine", "function_built", "generator_turn",
+    "integer_product", "modifier_turn", "order_refusal", "oscillator_mode_built",
+    "pass_refusal", "product", "refusal", "run_mode_built", "run_pass", "sine",
+]
+
+
+# A fresh machine
+
+def fresh_machine():
+    """The words of a fresh machine: zero but for T and N."""
+    machine = [0] * layout.MACHINE_WORDS
+    machine[layout.T] = layout.FRESH_T
+    machine[layout.N] = layout.FRESH_N
+    return machine
+
+
+def fresh(run):
+    """Makes the run a fresh machine; asks only question 1."""
+    if len(run) != layout.MACHINE_WORDS:
+        return 1, list(run)
+    return 0, fresh_machine()
+
+
+# Questions 1 and 2
+
+def run_mode_built(gmode):
+    """Whether the run mode of a GMODE is built."""
+    return layout.run_mode(gmode) in layout.RUN_MODES
+
+
+def oscillator_mode_built(gmode):
+    """Whether the oscillator mode of a GMODE is built."""
+    return layout.oscillator_mode(gmode) in layout.OSCILLATOR_MODES
+
+
+def function_built(mmode):
+    """Whether the function of an MMODE is built."""
+    return layout.function(mmode) in FORMULAS
+
+
+def source_built(address):
+    """Whether a MIN or MRM has top bits other than 11."""
+    return layout.source_quadrant(address) in layout.MODIFIER_SOURCES
+
+
+def word_ranges():
+    """The least and the greatest value of every word, in sequence."""
+    def wide(width):
+        return 0, (1 << width) - 1
+    ranges = [wide(w) for w in layout.GENERATOR_WIDTHS] * layout.GENERATORS
+    ranges += [wide(w) for w in layout.MODIFIER_WIDTHS] * layout.MODIFIERS
+    ranges += [wide(layout.SUM_WIDTH)] * (4 * layout.QUADRANT_WORDS)
+    ranges += [wide(20)] * layout.DACS
+    ranges += [wide(20), (layout.T_LEAST, layout.T_MOST), (layout.N_LEAST, layout.N_MOST)]
+    ranges += [wide(20), wide(1), wide(20), wide(1)]
+    return ranges
+
+
+RANGES = word_ranges()
+
+
+def column(run, at, step, count):
+    """One register's words in all generators, or in all modifiers."""
+    return run[at:at + step * count:step]
+
+
+def generator_column(run, register):
+    """One register's words in all 256 generators."""
+    return column(run, register, layout.GENERATOR_WORDS, layout.GENERATORS)
+
+
+def modifier_column(run, register):
+    """One register's words in all 128 modifiers."""
+    return column(run, layout.MODIFIERS_AT + register, layout.MODIFIER_WORDS, layout.MODIFIERS)
+
+
+def modes_built(run):
+    """Whether all modes are built and no MIN or MRM has top bits 11."""
+    gmodes = set(generator_column(run, layout.GMODE))
+    mmodes = set(modifier_column(run, layout.MMODE))
+    sources = set(modifier_column(run, layout.MIN)) | set(modifier_column(run, layout.MRM))
+    return (all(map(run_mode_built, gmodes)) and all(map(oscillator_mode_built, gmodes))
+            and all(map(function_built, mmodes)) and all(map(source_built, sources)))
+
+
+def refusal(run):
+    """Questions 1 and 2 of a run of words: 0, 1 or 2."""
+    if len(run) != layout.MACHINE_WORDS:
+        return 1
+    in_range = all(least <= word <= most for word, (least, most) in zip(run, RANGES))
+    return 0 if in_range and modes_built(run) else 2
+
+
+# Questions 5 to 8
+
+def order_refusal(machine, order):
+    """Questions 5 and 6 of one order: 0, 5 or 6."""
+    t = machine[layout.T]
+    if len(order) != t:
+        return 5
+    return 0 if sorted(order) == list(range(t)) else 6
+
+
+def below_t_in(machine, mode):
+    """How many generators below T are in a run mode."""
+    gmodes = generator_column(machine, layout.GMODE)[:machine[layout.T]]
+    return sum(layout.run_mode(gmode) == mode for gmode in gmodes)
+
+
+def pass_refusal(machine, order, items, places):
+    """The first question that a pass fails, or 0."""
+    number = refusal(machine) or order_refusal(machine, order)
+    if number:
+        return number
+    if len(items) < below_t_in(machine, layout.READ_DATA):
+        return 7
+    if len(places) < below_t_in(machine, layout.WRITE_DATA):
+        return 8
+    return 0
+
+
+# The pass
+
+def add_to(machine, place, word):
+    """Adds a 20-bit word into a sum memory word, in place."""
+    machine[place] = low(machine[place] + word, layout.SUM_WIDTH)
+
+
+def take_generator(machine, g, told, items, written):
+    """One generator's turn in place; items is what is left to read. Gives whether it triggers."""
+    at = layout.generator_at(g)
+    words = machine[at:at + layout.GENERATOR_WORDS]
+    f = machine[layout.modulation_place(words[layout.GFM])]
+    mode = acting_mode(words[layout.GMODE], told)
+    after, p, triggers = generator_turn(words, f, told)
+    machine[at:at + layout.GENERATOR_WORDS] = after
+    if mode == layout.WRITE_DATA:
+        written.append(f)
+    if mode == layout.WRITE_DAC:
+        machine[layout.DACS_AT + words[layout.GO] % layout.DACS] = f
+    place = layout.GENERATOR_THIS + words[layout.GSUM]
+    if layout.RUN_MODES[mode].adding:
+        add_to(machine, place, p)
+    if mode == layout.READ_DATA:
+        machine[place] = low(p + items.pop(0), layout.SUM_WIDTH)
+    return triggers
+
+
+def take_generators(machine, order, items):
+    """All generators in their order, in place; gives the count read and the items written."""
+    left, written, triggered = list(items), [], set()
+    for g in order:
+        if take_generator(machine, g, g - 1 in triggered, left, written):
+            triggered.add(g)
+    return len(items) - len(left), written
+
+
+def word_read(machine, address, view):
+    """The word at a MIN or MRM; view is modifier-this as this read sees it."""
+    quadrant = layout.MODIFIER_SOURCES[layout.source_quadrant(address)]
+    place = layout.sum_address(address)
+    return view[place] if quadrant == layout.MODIFIER_THIS else machine[quadrant + place]
+
+
+def take_modifier(machine, m, early, late):
+    """One modifier's turn in place, with its early and late view of modifier-this."""
+    at = layout.modifier_at(m)
+    words = machine[at:at + layout.MODIFIER_WORDS]
+    a_late = layout.function(words[layout.MMODE]) in layout.LATE_A
+    a = word_read(machine, words[layout.MIN], late if a_late else early)
+    b = word_read(machine, words[layout.MRM], early)
+    after, s = modifier_turn(words, a, b)
+    machine[at:at + layout.MODIFIER_WORDS] = after
+    place = layout.MODIFIER_THIS + layout.sum_address(words[layout.MSUM])
+    if layout.replaces(words[layout.MSUM]):
+        machine[place] = s
+    else:
+        add_to(machine, place, s)
+
+
+def take_modifiers(machine):
+    """Modifiers 0..(T div 2)-1 by number, in place."""
+    views = []
+    for m in range(machine[layout.T] // 2):
+        # views[n] is modifier-this after the writes of all modifiers below n.
+        views.append(machine[layout.MODIFIER_THIS:layout.MODIFIER_THIS + layout.QUADRANT_WORDS])
+        early = views[max(m - layout.EARLY_DISTANCE + 1, 0)]
+        if faults.early_read_sees_previous:
+            early = views[m]
+        take_modifier(machine, m, early, views[m])
+
+
+def close(machine):
+    """Copies both this-pass quadrants to last, clears them and counts the pass, in place."""
+    size = layout.QUADRANT_WORDS
+    for this, last in ((layout.GENERATOR_THIS, layout.GENERATOR_LAST),
+                       (layout.MODIFIER_THIS, layout.MODIFIER_LAST)):
+        machine[last:last + size] = machine[this:this + size]
+        machine[this:this + size] = [0] * size
+    machine[layout.COUNTER] = low(machine[layout.COUNTER] + 1, 20)
+
+
+def run_pass(machine, order, items, places):
+    """A pass: its number, the counts read and written, the machine and the places afterwards."""
+    number = pass_refusal(machine, order, items, places)
+    if number:
+        return number, 0, 0, list(machine), list(places)
+    after = list(machine)
+    read, written = take_generators(after, order, items)
+    take_modifiers(after)
+    close(after)
+    return 0, read, len(written), after, written + list(places)[len(written):]

@@ -1,0 +1,102 @@
+"""The bench program: a bench file in, its lines out.
+
+Run as: python3 -m reference.ring < file
+"""
+
+import sys
+
+from reference import layout
+from reference.machine import fresh_machine, run_pass
+from reference.update import run_update
+from reference.words import signed
+
+FILE_MOST = 65536
+PASSES_MOST = 65535
+VALUE_MOST = (1 << 32) - 1
+DIGITS_MOST = 10
+HEXADECIMAL = frozenset(b"0123456789ABCDEF")
+
+
+def number(text, most):
+    """The decimal number that bytes hold, without leading zeros and at most so much, else None."""
+    if not text.isdigit() or len(text) > DIGITS_MOST or (text[:1] == b"0" and text != b"0"):
+        return None
+    value = int(text)
+    return value if value <= most else None
+
+
+def initial_word(text):
+    """The place and value of a word= line's right side, else None."""
+    left, colon, right = text.partition(b":")
+    place, value = number(left, layout.MACHINE_WORDS - 1), number(right, VALUE_MOST)
+    return None if not colon or place is None or value is None else (place, value)
+
+
+def command_word(text):
+    """The command of a command= line's right side, else None."""
+    return int(text, 16) if len(text) == 8 and HEXADECIMAL.issuperset(text) else None
+
+
+def lines_of(file):
+    """The lines of a file in which each ends in LF, else None."""
+    if len(file) > FILE_MOST or not file.endswith(b"\n"):
+        return None
+    return file.split(b"\n")[:-1]
+
+
+def part_of(lines, name, read):
+    """Reads the leading lines of one name; gives what was read and the lines left."""
+    found = []
+    while lines and lines[0].startswith(name):
+        found.append(read(lines[0][len(name):]))
+        lines = lines[1:]
+    return found, lines
+
+
+def bench_file(file):
+    """The passes, initial words and commands of a bench file, else None."""
+    lines = lines_of(file)
+    if lines is None or not lines[0].startswith(b"passes="):
+        return None
+    passes = number(lines[0][len(b"passes="):], PASSES_MOST)
+    words, left = part_of(lines[1:], b"word=", initial_word)
+    commands, left = part_of(left, b"command=", command_word)
+    if passes is None or None in words or None in commands or left:
+        return None
+    return passes, words, commands
+
+
+def pass_line(machine):
+    """The line of a pass: the counter, DAC 0 and DAC 1."""
+    left, right = (signed(machine[layout.DACS_AT + dac], 20) for dac in (0, 1))
+    return f"pass={machine[layout.COUNTER]} left={left} right={right}\n"
+
+
+def pass_lines(machine, passes, commands):
+    """The lines of the passes, each by number and with an update after it."""
+    for _ in range(passes):
+        # The order is a range and not a list: T may be beyond its range here.
+        refused, _, _, machine, _ = run_pass(machine, range(machine[layout.T]), [], [])
+        if not refused:
+            refused, taken, machine = run_update(machine, commands)
+            commands = commands[taken:]
+        if refused:
+            yield f"refused={refused}\n"
+            return
+        yield pass_line(machine)
+
+
+def ring(file):
+    """What the bench program prints for a file, bytes for bytes."""
+    read = bench_file(file)
+    if read is None:
+        return b"refused=9\n"
+    passes, words, commands = read
+    machine = fresh_machine()
+    for place, value in words:
+        machine[place] = value
+    return "".join(pass_lines(machine, passes, commands)).encode()
+
+
+if __name__ == "__main__":
+    sys.stdout.buffer.write(ring(sys.stdin.buffer.read(FILE_MOST + 1)))

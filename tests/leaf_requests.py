@@ -1,0 +1,230 @@
+"""The requests of tests/leaves.py: whole tables, and turns with a bias to extremes.
+
+Each request is a tuple of an operation and its words, all within their widths.
+"""
+
+import random
+from itertools import product as pairs_of
+
+from reference import layout
+from reference.generator import envelope, modulated
+from reference.modifier import FORMULAS, product
+from reference.words import leaves_range, low, signed
+
+SINE, EXPONENTIAL, PRODUCTS, GENERATOR, MODIFIER, BUILT, SUMS = range(7)
+
+ELEVEN, EIGHT = layout.GENERATOR_NAMES, layout.MODIFIER_NAMES
+
+
+# Values with a bias to extremes
+
+def extremes(width):
+    """0, 1, all ones, powers of two and their neighbours, within a width."""
+    near = {0, 1, 2, 3, (1 << width) - 1, (1 << width) - 2}
+    for power in range(max(width - 4, 0), width):
+        near |= {(1 << power) - 1, 1 << power, (1 << power) + 1}
+    return sorted(value for value in near if value < 1 << width)
+
+
+EXTREMES = {width: extremes(width) for width in (4, 6, 7, 8, 11, 12, 20, 24, 28, 30)}
+
+
+def biased(chance, width):
+    """A word of a width: at random, extreme, near 0, or a power of two up to its sign."""
+    kind = chance.randrange(8)
+    if kind < 3:
+        return chance.getrandbits(width)
+    if kind < 6:
+        return chance.choice(EXTREMES[width])
+    if kind == 6:
+        return low(chance.randint(-70, 70), width)
+    return low(chance.choice((1, -1)) << chance.randrange(width), width)
+
+
+def close(chance):
+    """A small signed number."""
+    return chance.randint(-2, 2)
+
+
+def edge(chance, width):
+    """A number close to an end of a signed width."""
+    half = 1 << width - 1
+    return chance.choice((-half, half)) + close(chance)
+
+
+def fits(value, width):
+    """Whether a signed number fits into a width."""
+    return not leaves_range(value, width)
+
+
+# Shapes of a generator: each moves one register so that a step is at an edge
+
+def near_step_1(chance, x):
+    """F puts the sum of step 1 at the edge of its range."""
+    f = edge(chance, 20) - signed(x["GJ"] >> 8, 20)
+    if fits(f, 20):
+        x["F"] = low(f, 20)
+
+
+def near_step_4(chance, x):
+    """GK puts the sum of step 4 at the edge of its range."""
+    j, _ = modulated(x["GJ"], x["F"])
+    gk = edge(chance, 20) - signed(j, 20)
+    if fits(gk, 20):
+        x["GK"] = low(gk, 20)
+
+
+def near_sweep(chance, x):
+    """GJ puts its sum with GO at the edge of 28 bits, or of J's lowest bit."""
+    target = chance.choice((edge(chance, 28), 256 * close(chance) + close(chance)))
+    x["GJ"] = low(target - signed(x["GO"], 20), 28)
+
+
+def near_decay(chance, x):
+    """GQ puts its sum with GP at an end of 0..2^24-1."""
+    gq = chance.choice((0, 1 << 24)) + close(chance) - signed(x["GP"], 20)
+    if 0 <= gq < 1 << 24:
+        x["GQ"] = gq
+
+
+def near_asymptote(chance, x):
+    """GL puts V close to 0."""
+    v = envelope(layout.envelope_mode(x["GMODE"]), 0, x["GQ"] >> 12)
+    x["GL"] = low(close(chance) - v, 12)
+
+
+def near_quarter(chance, x):
+    """GK puts K close to the end of a quarter."""
+    k = 2048 * chance.randint(-2, 2) + close(chance)
+    x["GK"] = low(128 * k + chance.choice((0, 1, 64, 127)), 20)
+
+
+def near_quarter_by_j(chance, x):
+    """F puts J, and so K in mode 1000, close to the end of a quarter."""
+    j = 128 * (2048 * chance.randint(-2, 2) + close(chance)) + chance.choice((0, 1, 127))
+    x["F"] = low(j - (x["GJ"] >> 8), 20)
+
+
+def near_rounding(chance, x):
+    """K and V are small, so that W times V is close to the middle between two P."""
+    v = envelope(layout.envelope_mode(x["GMODE"]), 0, x["GQ"] >> 12)
+    k = chance.choice((1, 2, 3, 4, 8, 16, 32))
+    x["GK"] = low(128 * chance.choice((k, -k)), 20)
+    x["GL"] = low((32 + 64 * chance.randrange(3)) // k + close(chance) - v, 12)
+
+
+GENERATOR_SHAPES = (near_step_1, near_step_4, near_sweep, near_decay, near_asymptote,
+                    near_quarter, near_quarter_by_j, near_rounding)
+GMODES = [run << 6 | env << 4 | osc for run, env, osc in
+          pairs_of(layout.RUN_MODES, range(4), layout.OSCILLATOR_MODES)]
+
+
+def generator_request(chance, number):
+    """A generator's turn; the modes and told go round with the number."""
+    x = {name: biased(chance, width) for name, width in zip(ELEVEN, layout.GENERATOR_WIDTHS)
+         if name != "GMODE"}
+    x["GMODE"] = GMODES[number // 2 % len(GMODES)]
+    x["F"] = biased(chance, 20)
+    if chance.randrange(2):
+        x["GM"] = 0
+    for shape in chance.choices(GENERATOR_SHAPES, k=chance.randrange(4)):
+        shape(chance, x)
+    return (GENERATOR, *(x[name] for name in ELEVEN), x["F"], number % 2)
+
+
+# Shapes of a modifier
+
+def parts(x):
+    """AA, BB and the high bits of M0 and M1."""
+    return x["MMODE"] >> 2 & 3, x["MMODE"] & 3, x["M0"] >> 10, x["M1"] >> 10
+
+
+def alike(chance, x):
+    """A*M0 and B*M1 are equal or close, where the scales are the same."""
+    x["M1"] = x["M0"]
+    x["B"] = low(x["A"] + chance.choice((0, 0, 1, -1)), 20)
+
+
+def unit(chance, x):
+    """Both coefficients are one half and the signals small, so that products are close."""
+    x["M0"], x["M1"] = 1 << 28, 1 << 28
+    for name in ("A", "B", "L0", "L1"):
+        x[name] = low(chance.randint(-4, 4), 20)
+
+
+def near_threshold(chance, x):
+    """L0 puts A*M0 + L0 close to 0 or to the edge of its range."""
+    aa, _, m0, _ = parts(x)
+    x["L0"] = low(chance.choice((0, 1 << 19)) + close(chance) - product(aa, x["A"], m0), 20)
+
+
+def near_sum(chance, x):
+    """A puts L1*M1 + L0*M0 + A at the edge of its range."""
+    aa, bb, m0, m1 = parts(x)
+    s = product(bb, x["L1"], m1) + product(aa, x["L0"], m0)
+    x["A"] = low(edge(chance, 20) - s, 20)
+
+
+def near_coefficient(chance, x):
+    """M0 and M1 put their sums with B at the edge of 30 bits."""
+    for name in ("M0", "M1"):
+        x[name] = low(edge(chance, 30) - signed(x["B"], 20), 30)
+
+
+def powers(chance, x):
+    """Powers of two, so that products vanish, wrap to 0 or lie at a half."""
+    for name in ("A", "B", "L0", "L1"):
+        x[name] = low(chance.choice((1, -1, 3, -3)) << chance.randrange(20), 20)
+    for name in ("M0", "M1"):
+        x[name] = low(chance.choice((1, -1)) << chance.randrange(10, 30), 30)
+
+
+MODIFIER_SHAPES = (alike, unit, near_threshold, near_sum, near_coefficient, powers)
+MMODES = [code << 4 | scales for code, scales in pairs_of(FORMULAS, range(16))]
+
+
+def modifier_request(chance, number):
+    """A modifier's turn; functions and scales go round with the number."""
+    x = {name: biased(chance, width) for name, width in zip(EIGHT, layout.MODIFIER_WIDTHS)
+         if name != "MMODE"}
+    x["MMODE"] = MMODES[number % len(MMODES)]
+    x["MIN"], x["MRM"] = chance.randrange(192), chance.randrange(192)
+    x["A"], x["B"] = biased(chance, 20), biased(chance, 20)
+    for shape in chance.choices(MODIFIER_SHAPES, k=chance.randrange(3)):
+        shape(chance, x)
+    return (MODIFIER, *(x[name] for name in EIGHT), x["A"], x["B"])
+
+
+# The whole of the requests
+
+def table_requests(chance):
+    """Every k, every H, every GMODE and MMODE."""
+    yield from ((SINE, k) for k in range(8192))
+    yield from ((EXPONENTIAL, h << 12 | chance.getrandbits(12)) for h in range(4096))
+    yield from ((BUILT, gmode, gmode % 512) for gmode in range(1024))
+
+
+def word_requests(chance, count):
+    """Products and sums of all extremes, then biased ones."""
+    for a, b in pairs_of(EXTREMES[20], repeat=2):
+        yield from ((PRODUCTS, s, a, b) for s in range(4))
+        yield SUMS, a, b, biased(chance, 24)
+    for a, gq in pairs_of(EXTREMES[20], EXTREMES[24]):
+        yield SUMS, a, biased(chance, 20), gq
+    for number in range(count):
+        yield PRODUCTS, number % 4, biased(chance, 20), biased(chance, 20)
+        a, b, gq = biased(chance, 20), biased(chance, 20), biased(chance, 24)
+        if number % 2:
+            b = low(edge(chance, 20) - signed(a, 20), 20)
+            gq = low(close(chance) - signed(a, 20), 24)
+        yield SUMS, a, b, gq
+
+
+def all_requests(count, seed):
+    """All requests, as a list of words each."""
+    chance = random.Random(seed)
+    requests = list(table_requests(chance))
+    requests += word_requests(chance, count // 4)
+    requests += (generator_request(chance, number) for number in range(count))
+    requests += (modifier_request(chance, number) for number in range(count))
+    return requests
