@@ -4,11 +4,11 @@ use mathlib.Core.Path.{_≡_, refl, sym, ap, _∙_}
 use mathlib.Core.Bool.{Bool, true, false, cond, _&&_}
 use Prim.Native.Nat.{ℕ, _^_, _<_}
 use lib.Dec.{eqb}
-use borrow.Author.Tests.{eqb-true}
 use Rattle.words.specs.Words.{sum, sumInto}
 use Rattle.modes.specs.declared.Switches.{Switches}
 use Rattle.modes.specs.Modes.{oscillatorOn, envelopeOn, free, wait, runningC, switchesOf}
 use Rattle.modes.proofs.RunModes.{oscillator-tells, free-tells}
+use Rattle.modes.proofs.Exclusions.{quiet, off-not-on, on-not-off}
 use Rattle.envelope.specs.Envelope.{overflows, decayed}
 use Rattle.lists.specs.Lists.{isOneOf}
 use Rattle.generator.specs.declared.Generator.{Generator}
@@ -21,13 +21,9 @@ unfolding outputBy kBy leftBy pOf wOf kOf leftRange
 output-is g f = refl
 
 -- A generator whose envelope is on doesn't wait.
-pub sounds-not-waits : (r : ℕ) → envelopeOn r ≡ true → eqb r wait ≡ false
+sounds-not-waits : (r : ℕ) → envelopeOn r ≡ true → eqb r wait ≡ false
 unfolding envelopeOn isOneOf
-sounds-not-waits r e = go (eqb r wait) refl
-  where
-    go : (b : Bool) → eqb r wait ≡ b → b ≡ false
-    go false h = refl
-    go true h = sym e ∙ ap envelopeOn (eqb-true r wait h)
+sounds-not-waits r e = on-not-off envelopeOn r wait e refl
 
 and-true : (a : Bool) → (a && true) ≡ a
 and-true true = refl
@@ -126,3 +122,13 @@ pub turn-waits : (g : Generator) (f : ℕ) (told : Bool) → runMode g ≡ wait 
     ≡ updated g (sumInto 28 20 (g .gj) (g .go)) (sum 20 (g .gk) (jOf g f)) (g .gq) (cond told (withRunMode runningC (g .gmode)) (g .gmode))
 unfolding after gjAfter gkAfter gqAfter gmodeAfter oscillatorOn envelopeOn isOneOf
 turn-waits g f told h = rw h
+
+-- A generator with nothing on is as it was after its turn.
+pub rests : (g : Generator) (f : ℕ) (told : Bool) → envelopeOn (runMode g) ≡ false → oscillatorOn (runMode g) ≡ false → after g f told ≡ g
+unfolding after gjAfter gkAfter gqAfter gmodeAfter triggers oscillatorOn isOneOf
+rests g f told e o = rw (o, e, quiet (runMode g) e .not-free, and-false, off-not-on oscillatorOn (runMode g) wait o refl)
+
+-- What a generator that doesn't wait is told makes no difference.
+pub after-untold : (g : Generator) (f : ℕ) (told : Bool) → eqb (runMode g) wait ≡ false → after g f told ≡ after g f false
+unfolding after gmodeAfter
+after-untold g f told h = rw h

@@ -1,1 +1,2 @@
 pub mod RunModes
+pub mod Exclusions

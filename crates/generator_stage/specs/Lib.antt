@@ -1,0 +1,2 @@
+pub mod GeneratorStage
+pub mod Loops

@@ -1,0 +1,86 @@
+// Where each word of the machine stands: the layout's numbers, each with its one name.
+
+// The length of the machine's run of words.
+pub const MACHINE_LENGTH: usize = 4119;
+
+// The number of its places that a bench file can name.
+pub const FILE_PLACES: usize = 4119;
+
+// Generator g, below GENERATORS, has the GENERATOR_WORDS words from GENERATOR_WORDS * g, in this sequence.
+pub const GENERATORS: usize = 256;
+
+pub const GENERATOR_WORDS: usize = 11;
+
+pub const GO: usize = 0;
+
+pub const GJ: usize = 1;
+
+pub const GK: usize = 2;
+
+pub const GN: usize = 3;
+
+pub const GM: usize = 4;
+
+pub const GP: usize = 5;
+
+pub const GQ: usize = 6;
+
+pub const GL: usize = 7;
+
+pub const GSUM: usize = 8;
+
+pub const GFM: usize = 9;
+
+pub const GMODE: usize = 10;
+
+// Modifier m, below MODIFIERS, has the MODIFIER_WORDS words from MODIFIERS_AT + MODIFIER_WORDS * m, in this sequence.
+pub const MODIFIERS_AT: usize = 2816;
+
+pub const MODIFIERS: usize = 128;
+
+pub const MODIFIER_WORDS: usize = 8;
+
+pub const M0: usize = 0;
+
+pub const M1: usize = 1;
+
+pub const L0: usize = 2;
+
+pub const L1: usize = 3;
+
+pub const MIN: usize = 4;
+
+pub const MRM: usize = 5;
+
+pub const MSUM: usize = 6;
+
+pub const MMODE: usize = 7;
+
+// Sum memory: QUADRANTS quadrants of QUADRANT_WORDS words, generator-this-pass, generator-last, modifier-this, modifier-last.
+pub const SUMS_AT: usize = 3840;
+
+pub const QUADRANTS: usize = 4;
+
+pub const QUADRANT_WORDS: usize = 64;
+
+pub const SUM_WORDS: usize = 256;
+
+// The DAC words.
+pub const DACS_AT: usize = 4096;
+
+pub const DACS: usize = 16;
+
+// DX; T, the processing ticks; N, all ticks of a pass; the pass counter; lingering; the Linger pass; overrun.
+pub const DX_AT: usize = 4112;
+
+pub const T_AT: usize = 4113;
+
+pub const N_AT: usize = 4114;
+
+pub const COUNTER_AT: usize = 4115;
+
+pub const LINGERING_AT: usize = 4116;
+
+pub const LINGER_PASS_AT: usize = 4117;
+
+pub const OVERRUN_AT: usize = 4118;

@@ -1,0 +1,16 @@
+use borrow.Author.Needs.{needs}
+use Rattle.modifier.specs.Modifier.{timesM1}
+use Rattle.product.proofs.Widths.{product-low}
+use Rattle.modifier.proofs.Low.{word-of}
+use Rattle.modifier.proofs.Modifier.times_m1.Statement.{statement}
+use Rattle.modifier.proofs.Modifier.times_m1.Tie as tie
+
+multiply-requires : tie.Need-multiply-requires
+multiply-requires c κs = search needs
+
+returns : tie.Need-returns
+unfolding timesM1
+returns c = word-of (c .multiply .ensures) (product-low _ _ _)
+
+pub times-m1-spec : {M : Type 1} → statement M
+times-m1-spec = tie.close (tie.spec multiply-requires returns)

@@ -1,0 +1,4 @@
+pub mod Registers
+pub mod Views
+pub mod Stage
+pub mod Lags

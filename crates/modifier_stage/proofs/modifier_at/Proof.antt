@@ -1,0 +1,38 @@
+use Rattle.sums.proofs.Blocks.{part-from}
+use Rattle.modifier_stage.specs.ModifierStage.{modifierOf}
+use borrow.Author.Needs.{needs}
+use Rattle.modifier_stage.proofs.modifier_at.Statement.{statement}
+use Rattle.modifier_stage.proofs.modifier_at.Tie as tie
+use Rattle.modifier_stage.proofs.modifier_at.Reads as reads
+use Rattle.modifier_stage.proofs.modifier_at.Lts as lts
+use Rattle.modifier.proofs.Modifier.load.Reads as load-reads
+
+mul-at : tie.Need-mul-at
+mul-at c = search needs
+
+add-at : tie.Need-add-at
+add-at c = search needs
+
+mul-load : tie.Need-mul-load
+mul-load c = search needs
+
+sub-load : tie.Need-sub-load
+sub-load c = search needs
+
+part-load-start : tie.Need-part-load-start
+part-load-start c = search needs
+
+part-load-end : tie.Need-part-load-end
+part-load-end c = search needs
+
+load-requires : tie.Need-load-requires
+load-requires c κs = search needs
+
+returns : tie.Need-returns
+unfolding modifierOf
+returns c = rw (c .load .ensures, part-from)
+
+pub modifier-at-spec : {M : Type 1} → statement M
+modifier-at-spec =
+    tie.close
+    (tie.spec mul-at add-at mul-load sub-load part-load-start part-load-end load-requires returns)

@@ -1,0 +1,2 @@
+pub mod ModifierStage
+pub mod Loops

@@ -1,0 +1,36 @@
+-- What an order that passes questions 5 and 6 is.
+-- Assumes nothing.
+use mathlib.Core.Path.{_≡_, refl}
+use mathlib.Core.Bool.{Bool, true, false, cond}
+use mathlib.Core.List.{List, [], _∷_}
+use Prim.Native.Nat.{ℕ, _<_}
+use native.Mathlib.Omega.{arith}
+use borrow.Author.Tests.{eqb-true}
+use lib.Dec.{eqb}
+use lib.ListN.{length, getD}
+use Rattle.lists.specs.Lists.{count}
+use Rattle.lists.proofs.Below.{below-at}
+use Rattle.lists.proofs.Counts.{once-below}
+use Rattle.machine.specs.Questions.{asked}
+use Rattle.order.specs.Order.{question5, question6, eachOnce}
+
+-- Question 6 answered yes: each number below t is there once.
+pub once-each : (t : ℕ) (order : List ℕ) → eachOnce t order ≡ true → (k : ℕ) → k < t → count k order ≡ 1
+unfolding eachOnce
+once-each t order e k h = eqb-true (count k order) 1 (below-at (λ g. eqb (count g order) 1) t e k h)
+
+-- Questions 5 and 6 answered yes: t entries, each number below t there once, and each entry below t.
+pub record IsOrder (t : ℕ) (order : List ℕ) : Type 0 where
+  pub entries : length order ≡ t
+  pub once : (k : ℕ) → k < t → count k order ≡ 1
+  pub below : (i : ℕ) → i < length order → getD order i 0 < t
+
+pub order-passes : (t : ℕ) (order : List ℕ) → asked (question5 t order ∷ question6 t order ∷ []) ≡ 0 → IsOrder t order
+unfolding asked
+order-passes t order e = by-length (eqb (length order) t) (eachOnce t order) refl refl e where
+  by-length : (a b : Bool) → eqb (length order) t ≡ a → eachOnce t order ≡ b → _≡_ {A = ℕ} (cond a (cond b 0 6) 5) 0 → IsOrder t order
+  by-length true true p q e =
+      let n = eqb-true (length order) t p in
+      record { entries = n; once = once-each t order q; below = once-below t order n (once-each t order q) }
+  by-length true false p q e = absurd (omega arith)
+  by-length false b p q e = absurd (omega arith)

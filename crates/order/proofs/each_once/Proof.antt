@@ -1,0 +1,78 @@
+-- `order::each_once` meets its contract: the entries left, with the marks of those passed, answer for the whole order.
+-- Assumes nothing.
+use mathlib.Core.Path.{_≡_, sym, _∙_}
+use Prim.Native.Nat.{_≤_, _-_}
+use native.Mathlib.Omega.{arith}
+use borrow.Author.Tests.{not-true, not-false}
+use lib.ListN.{length, drop}
+use Rattle.machine.specs.Questions.{zeros}
+use Rattle.order.specs.Order.{eachOnce}
+use Rattle.order.specs.Loops.{eachUnmarked}
+use Rattle.order.proofs.Marks.{unmarked-next, unmarked-stop, unmarked-end, marks-once}
+use Rattle.order.proofs.each_once.Statement.{statement}
+use Rattle.order.proofs.each_once.Tie as tie
+
+abbrev Inv-loop : tie.InvT-loop
+Inv-loop order t marks₀ i₀ marks i = (i ≤ length order) × (eachUnmarked t marks (drop i order) ≡ eachOnce t order)
+
+abbrev μ-loop : tie.MeasureT-loop
+μ-loop order t marks₀ i₀ marks i = length order - i
+
+loop-holds : tie.Need-loop-holds Inv-loop μ-loop
+unfolding zeros
+loop-holds c =
+    let s = c .before in
+    (omega arith, marks-once (s .args .t) (s .args .order .now) (s .pre .0) (s .pre .1))
+
+mul-mark : tie.Need-mul-mark Inv-loop μ-loop
+mul-mark c = omega arith
+
+shared-slice-read-mark : tie.Need-shared-slice-read-mark Inv-loop μ-loop
+shared-slice-read-mark c = omega arith
+
+mark-requires : tie.Need-mark-requires Inv-loop μ-loop
+mark-requires c κs = omega arith
+
+returns : tie.Need-returns Inv-loop μ-loop
+returns c =
+    let z = c .before .before .before .before .before in
+    let a = z .before .before .args in
+    let e = sym (c .before .mark .ensures .0) ∙ not-true _ (c .if1 .taken) in
+    sym (unmarked-stop (a .t) (z .loop .marks) (a .order .now) (z .loop .i) (omega arith) e) ∙ z .loop .inv .1
+
+add-i : tie.Need-add-i Inv-loop μ-loop
+add-i c = omega arith
+
+loop-less : tie.Need-loop-less Inv-loop μ-loop
+loop-less c = omega arith
+
+loop-again : tie.Need-loop-again Inv-loop μ-loop
+loop-again c =
+    let z = c .before .before .before .before .before in
+    let a = z .before .before .args in
+    let e = sym (c .before .mark .ensures .0) ∙ not-false _ (c .if1 .left) in (
+      omega arith,
+      rw (c .before .mark .ensures .1) (unmarked-next (a .t) (z .loop .marks) (a .order .now) (z .loop .i) (omega arith) e) ∙ z .loop .inv .1,
+    )
+
+returns-2 : tie.Need-returns-2 Inv-loop μ-loop
+returns-2 c =
+    let z = c .before in
+    let a = z .before .before .args in
+    sym (unmarked-end (a .t) (z .loop .marks) (a .order .now) (z .loop .i) (omega arith)) ∙ z .loop .inv .1
+
+pub each-once-spec : {M : Type 1} → statement M
+each-once-spec =
+    tie.close
+    (tie.spec
+    Inv-loop
+    μ-loop
+    loop-holds
+    mul-mark
+    shared-slice-read-mark
+    mark-requires
+    returns
+    add-i
+    loop-less
+    loop-again
+    returns-2)

@@ -1,0 +1,22 @@
+-- `order::is_mode` meets its contract.
+-- Assumes nothing.
+use mathlib.Core.Path.{_≡_, refl}
+use mathlib.Core.Bool.{Bool, true, false, cond}
+use borrow.Author.Needs.{needs}
+use lib.Dec.{eqb}
+use mir.Val.{boolByte}
+use Rattle.order.proofs.is_mode.Statement.{statement}
+use Rattle.order.proofs.is_mode.Tie as tie
+
+number : (b : Bool) → boolByte b ≡ cond b 1 0
+number true = refl
+number false = refl
+
+cast-result : tie.Need-cast-result
+cast-result c = search needs
+
+returns : tie.Need-returns
+returns c = number (eqb (c .args .run) (c .args .mode))
+
+pub is-mode-spec : {M : Type 1} → statement M
+is-mode-spec = tie.close (tie.spec cast-result returns)

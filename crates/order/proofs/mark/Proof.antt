@@ -1,0 +1,35 @@
+-- `order::mark` meets its contract.
+-- Assumes nothing.
+use borrow.Author.Needs.{needs}
+use borrow.Author.Tests.{lt-ltb, le-ltb, eq-eqb, ne-eqb}
+use Rattle.order.specs.Loops.{unmarked, marked}
+use Rattle.order.proofs.mark.Statement.{statement}
+use Rattle.order.proofs.mark.Tie as tie
+
+returns : tie.Need-returns
+unfolding unmarked marked
+returns c = (rw (le-ltb _ _ (c .if1 .taken)), rw (le-ltb _ _ (c .if1 .taken)))
+
+element-copy-out-if2 : tie.Need-element-copy-out-if2
+element-copy-out-if2 c = search needs
+
+returns-2 : tie.Need-returns-2
+unfolding unmarked marked
+returns-2 c =
+    let low = lt-ltb _ _ (c .before .before .if1 .left) in
+    let there = ne-eqb _ _ (c .if2 .taken) in
+    (rw (low, there), rw (low, there))
+
+element-write-marks : tie.Need-element-write-marks
+element-write-marks c = search needs
+
+returns-3 : tie.Need-returns-3
+unfolding unmarked marked
+returns-3 c =
+    let low = lt-ltb _ _ (c .before .before .if1 .left) in
+    let free = eq-eqb _ _ (c .if2 .left) in
+    (rw (low, free), rw (low, free))
+
+pub mark-spec : {M : Type 1} → statement M
+mark-spec =
+    tie.close (tie.spec returns element-copy-out-if2 returns-2 element-write-marks returns-3)

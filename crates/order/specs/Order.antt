@@ -1,0 +1,41 @@
+-- An order of the generators, and the generators of a run mode (document 01, "A pass, and two orders of it" and "Questions at the door").
+-- Assumes nothing.
+use Prim.Native.Nat.{ℕ, _/_, _^_, _+_}
+use mathlib.Core.Bool.{Bool}
+use mathlib.Core.List.{List}
+use lib.Dec.{eqb, leb}
+use lib.ListN.{length, getD}
+use Rattle.lists.specs.Lists.{allBelow, count, countBelow}
+use Rattle.layout.specs.Layout.{generatorAt, tAt}
+use Rattle.machine.specs.Questions.{Question}
+
+-- T of a machine.
+abbrev pub ticksOf : List ℕ → ℕ
+ticksOf m = getD m tAt 0
+
+-- The run mode of generator g of a machine.
+abbrev pub runModeAt : List ℕ → ℕ → ℕ
+runModeAt m g = getD m (generatorAt g + 10) 0 / 2 ^ 6
+
+-- Question 5: there are T entries.
+abbrev pub question5 : ℕ → List ℕ → Question
+question5 t order = record { number = 5; yes = eqb (length order) t }
+
+-- Question 6: each number below T is there once.
+unfoldable pub eachOnce : ℕ → List ℕ → Bool
+eachOnce t order = allBelow (λ g. eqb (count g order) 1) t
+
+abbrev pub question6 : ℕ → List ℕ → Question
+question6 t order = record { number = 6; yes = eachOnce t order }
+
+-- How many generators below T are in a run mode.
+unfoldable pub inMode : List ℕ → ℕ → ℕ
+inMode m r = countBelow (λ g. eqb (runModeAt m g) r) (ticksOf m)
+
+-- Question 7: there are read items for all 0111s below T.
+abbrev pub question7 : List ℕ → List ℕ → Question
+question7 m items = record { number = 7; yes = leb (inMode m 7) (length items) }
+
+-- Question 8: there are written places for all 0011s below T.
+abbrev pub question8 : List ℕ → List ℕ → Question
+question8 m places = record { number = 8; yes = leb (inMode m 3) (length places) }

@@ -1,0 +1,25 @@
+-- The stages of a pass, one after the other, are the pass.
+-- Assumes nothing.
+use mathlib.Core.Path.{_≡_, ap, _∙_}
+use mathlib.Core.List.{List}
+use Prim.Native.Nat.{ℕ, _/_}
+use lib.ListN.{set}
+use Rattle.sums.specs.Sums.{sumsOf, closed}
+use Rattle.order.specs.Order.{ticksOf}
+use Rattle.generator_stage.specs.declared.Items.{Items}
+use Rattle.generator_stage.specs.GeneratorStage.{steps, begun}
+use Rattle.generator_stage.specs.Loops.{held, Taken}
+use Rattle.modifier_stage.specs.ModifierStage.{wordsAfter, modifierThisAfter}
+use Rattle.pass.specs.Pass.{answered, counted, completed, ran}
+
+module _ (m order items places words : List ℕ) (s₀ s : List (List ℕ)) (n : ℕ) (places' : List ℕ) (items' : Items) where
+  pub ran-by : {after last done : List ℕ} {t : List (List ℕ)} →
+      n ≡ ticksOf m → s₀ ≡ sumsOf m → Taken items order m words s₀ s places places' items' →
+      (after ≡ wordsAfter words s (n / 2)) × (t ≡ set s 2 (modifierThisAfter words s (n / 2))) → last ≡ closed after t → done ≡ counted last →
+      answered 0 (items' .reads) (items' .writes) done places' ≡ ran m order items places
+  unfolding ran completed begun
+  ran-by {after} {last} {done} {t} en es taken (ea, et) el ed =
+      rw (← state) (ap (λ (l : List ℕ). answered 0 (items' .reads) (items' .writes) l places') (rw (ed, el, ea, et, en)))
+    where
+      state : held words s (taken .triggered) places' items' ≡ steps items (begun m places) order
+      state = taken .all ∙ rw es

@@ -1,0 +1,92 @@
+// A pass by an order of the generators.
+ghost use mathlib.Core.Path.{_≡_};
+ghost use Prim.Native.Nat.{_≤_};
+ghost use lib.ListN.{length, getD};
+ghost use Rattle.layout.specs.Layout.{Reaches};
+ghost use Rattle.generator_stage.specs.Loops.{Ready, Numbers};
+ghost use Rattle.order.specs.Order.{ticksOf};
+ghost use Rattle.pass.specs.Pass.{counted, ran, passRefusal, passOf, answered};
+use generator_stage::Items;
+
+// What a pass answers: the number of the refusing question or 0, and the items read and written.
+pub struct Passed {
+    pub number: u32,
+    pub read: usize,
+    pub written: usize,
+}
+
+// 1 is added to the counter.
+fn count(m: &mut [u32])
+    requires { ⌜ Reaches (now m) ⌝ }
+    ensures { λ r. ⌜ now (m .exit) ≡ counted (now (m .entry)) ⌝ }
+{
+    let at = layout::COUNTER_AT;
+    m[at] = std::num::wrapping_add_u32(m[at], 1) % 1048576;
+}
+
+// T of the machine.
+fn ticks(m: &[u32]) -> usize
+    requires { ⌜ Reaches (now m) ⌝ }
+    ensures { λ r. ⌜ r ≡ ticksOf (now (m .entry)) ⌝ }
+{
+    let at = layout::T_AT;
+    m[at] as usize
+}
+
+// The pass itself: generators in the order, modifiers by number, the end of sum memory, the counter.
+fn run(m: &mut [u32], order: &[u32], items: &[u32], places: &mut [u32]) -> Items
+    requires { ⌜ Ready (now m) ⌝ }
+    requires { ⌜ Numbers (now order) ⌝ }
+    requires { ⌜ ticksOf (now m) ≤ 256 ⌝ }
+    ensures { λ r. ⌜ answered 0 (r .reads) (r .writes) (now (m .exit)) (now (places .exit)) ≡ ran (now (m .entry)) (now (order .entry)) (now (items .entry)) (now (places .entry)) ⌝ }
+{
+    let t = ticks(m);
+    let mut s = sums::load(m);
+    let done = generator_stage::generators(m, &mut s, order, items, places);
+    modifier_stage::modifiers(m, &mut s, t / 2);
+    sums::close(m, &s);
+    count(m);
+    done
+}
+
+// The first question of a pass that is answered no, or 0.
+fn refusal(m: &[u32], order: &[u32], items: &[u32], places: &[u32]) -> u32
+    ensures { λ r. ⌜ r ≡ passRefusal (now (m .entry)) (now (order .entry)) (now (items .entry)) (now (places .entry)) ⌝ }
+{
+    let first = machine::refusal(m);
+    if first != 0 {
+        return first;
+    }
+    let second = order::order_refusal(order, ticks(m));
+    if second != 0 {
+        return second;
+    }
+    let needed = order::in_modes(m);
+    if items.len() < needed.reads {
+        return 7;
+    }
+    if places.len() < needed.writes {
+        return 8;
+    }
+    0
+}
+
+// A pass. A refusal leaves the machine and the written places as they were.
+pub fn pass(m: &mut [u32], order: &[u32], items: &[u32], places: &mut [u32]) -> Passed
+    ensures { λ r. ⌜ answered (r .number) (r .read) (r .written) (now (m .exit)) (now (places .exit)) ≡ passOf (now (m .entry)) (now (order .entry)) (now (items .entry)) (now (places .entry)) ⌝ }
+{
+    let number = refusal(m, order, items, places);
+    if number != 0 {
+        return Passed {
+            number,
+            read: 0,
+            written: 0,
+        };
+    }
+    let done = run(m, order, items, places);
+    Passed {
+        number: 0,
+        read: done.reads,
+        written: done.writes,
+    }
+}

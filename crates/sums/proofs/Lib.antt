@@ -1,0 +1,4 @@
+pub mod Blocks
+pub mod Copies
+pub mod Memory
+pub mod Closing

@@ -1,0 +1,31 @@
+use borrow.Author.Needs.{needs}
+use native.Mathlib.Omega.{arith}
+use Rattle.sums.proofs.Memory.{add-code}
+use Rattle.sums.proofs.add.Statement.{statement}
+use Rattle.sums.proofs.add.Tie as tie
+
+cast-i : tie.Need-cast-i
+cast-i c = search needs
+
+quadrant-word-requires : tie.Need-quadrant-word-requires
+quadrant-word-requires c κs = search needs
+
+add20-requires : tie.Need-add20-requires
+add20-requires c κs = search needs
+
+mul-s : tie.Need-mul-s
+mul-s c = search needs
+
+index-1-s : tie.Need-index-1-s
+index-1-s c = search needs
+
+index-2-s : tie.Need-index-2-s
+index-2-s c = search needs
+
+returns : tie.Need-returns
+returns c = add-code _ _ _ (omega arith) (c .before .quadrant-word .ensures .is) (c .add20 .ensures)
+
+pub add-spec : {M : Type 1} → statement M
+add-spec =
+    tie.close
+    (tie.spec cast-i quadrant-word-requires add20-requires mul-s index-1-s index-2-s returns)

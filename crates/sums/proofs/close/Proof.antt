@@ -1,0 +1,48 @@
+use borrow.Author.Needs.{needs}
+use Rattle.sums.proofs.Closing.{close-code}
+use Rattle.sums.proofs.close.Statement.{statement}
+use Rattle.sums.proofs.close.Tie as tie
+
+put-quadrant-at-requires : tie.Need-put-quadrant-at-requires
+put-quadrant-at-requires c κs = search needs
+
+index-1-put-quadrant-at : tie.Need-index-1-put-quadrant-at
+index-1-put-quadrant-at c = search needs
+
+put-quadrant-at-requires-2 : tie.Need-put-quadrant-at-requires-2
+put-quadrant-at-requires-2 c κs = search needs
+
+put-quadrant-at-requires-3 : tie.Need-put-quadrant-at-requires-3
+put-quadrant-at-requires-3 c κs = search needs
+
+index-1-put-quadrant-at-2 : tie.Need-index-1-put-quadrant-at-2
+index-1-put-quadrant-at-2 c = search needs
+
+put-quadrant-at-requires-4 : tie.Need-put-quadrant-at-requires-4
+put-quadrant-at-requires-4 c κs = search needs
+
+same-length : tie.Need-same-length
+same-length c = search needs
+
+returns : tie.Need-returns
+returns c =
+    let c₄ = c .before .before in
+    let c₃ = c₄ .before .before .before .before .before in
+    let c₂ = c₃ .before .before .before .before .before in
+    let c₁ = c₂ .before .before .before .before .before in
+    let a = c₁ .before .before .before .before .args in
+    close-code (a .m .now) (c₁ .put-quadrant-at .last .0) (c₂ .put-quadrant-at2 .last .0) (c₃ .put-quadrant-at3 .last .0) (c₄ .put-quadrant-at4 .last .0)
+    (a .s .now) (c₁ .put-quadrant-at .ensures) (c₂ .put-quadrant-at2 .ensures) (c₃ .put-quadrant-at3 .ensures) (c₄ .put-quadrant-at4 .ensures)
+
+pub close-spec : {M : Type 1} → statement M
+close-spec =
+    tie.close
+    (tie.spec
+    put-quadrant-at-requires
+    index-1-put-quadrant-at
+    put-quadrant-at-requires-2
+    put-quadrant-at-requires-3
+    index-1-put-quadrant-at-2
+    put-quadrant-at-requires-4
+    same-length
+    returns)

@@ -1,0 +1,34 @@
+use borrow.Author.Needs.{needs}
+use Rattle.sums.proofs.Memory.{load-code}
+use Rattle.sums.proofs.load.Statement.{statement}
+use Rattle.sums.proofs.load.Tie as tie
+
+quadrant-at-requires : tie.Need-quadrant-at-requires
+quadrant-at-requires c κs = search needs
+
+quadrant-at-requires-2 : tie.Need-quadrant-at-requires-2
+quadrant-at-requires-2 c κs = search needs
+
+quadrant-at-requires-3 : tie.Need-quadrant-at-requires-3
+quadrant-at-requires-3 c κs = search needs
+
+quadrant-at-requires-4 : tie.Need-quadrant-at-requires-4
+quadrant-at-requires-4 c κs = search needs
+
+returns : tie.Need-returns
+returns c =
+    let c₃ = c .before in
+    let c₂ = c₃ .before in
+    let c₁ = c₂ .before in
+    load-code (c₁ .before .before .args .m .now) (c₁ .quadrant-at .result) (c₂ .quadrant-at2 .result) (c₃ .quadrant-at3 .result) (c .quadrant-at4 .result)
+    (c₁ .quadrant-at .ensures) (c₂ .quadrant-at2 .ensures) (c₃ .quadrant-at3 .ensures) (c .quadrant-at4 .ensures)
+
+pub load-spec : {M : Type 1} → statement M
+load-spec =
+    tie.close
+    (tie.spec
+    quadrant-at-requires
+    quadrant-at-requires-2
+    quadrant-at-requires-3
+    quadrant-at-requires-4
+    returns)

@@ -1,0 +1,64 @@
+use mathlib.Core.Path.{_≡_, refl}
+use Prim.Native.Nat.{_≤_, _-_}
+use native.Mathlib.Omega.{arith}
+use lib.ListN.{length, take, length-set}
+use Rattle.sums.proofs.Copies.{from-next, from-all}
+use Rattle.sums.proofs.quadrant.Statement.{statement}
+use Rattle.sums.proofs.quadrant.Tie as tie
+
+abbrev Inv-loop : tie.InvT-loop
+Inv-loop m w₀ i₀ w i = (i ≤ 64) × (length w ≡ 64) × (take i w ≡ take i m)
+
+abbrev μ-loop : tie.MeasureT-loop
+μ-loop m w₀ i₀ w i = 64 - i
+
+loop-holds : tie.Need-loop-holds Inv-loop μ-loop
+loop-holds c = (omega arith, refl, refl)
+
+mul-w : tie.Need-mul-w Inv-loop μ-loop
+mul-w c = omega arith
+
+shared-slice-read-w : tie.Need-shared-slice-read-w Inv-loop μ-loop
+shared-slice-read-w c = omega arith
+
+mul-w-2 : tie.Need-mul-w-2 Inv-loop μ-loop
+mul-w-2 c = omega arith
+
+array-write-w : tie.Need-array-write-w Inv-loop μ-loop
+array-write-w c = omega arith
+
+add-i : tie.Need-add-i Inv-loop μ-loop
+add-i c = omega arith
+
+loop-less : tie.Need-loop-less Inv-loop μ-loop
+loop-less c = omega arith
+
+loop-again : tie.Need-loop-again Inv-loop μ-loop
+loop-again c =
+    let l = c .before .before .loop in
+    let a = c .before .before .before .args in (
+      omega arith,
+      simp length-set (l .inv .1),
+      from-next (l .w) (a .m .now) (l .i) (omega arith) (omega arith) (l .inv .2),
+    )
+
+returns : tie.Need-returns Inv-loop μ-loop
+returns c =
+    let l = c .before .loop in
+    from-all (l .w) (c .before .before .args .m .now) 64 (l .i) (omega arith) (omega arith) (l .inv .2)
+
+pub quadrant-spec : {M : Type 1} → statement M
+quadrant-spec =
+    tie.close
+    (tie.spec
+    Inv-loop
+    μ-loop
+    loop-holds
+    mul-w
+    shared-slice-read-w
+    mul-w-2
+    array-write-w
+    add-i
+    loop-less
+    loop-again
+    returns)
