@@ -2,15 +2,17 @@
 -- Assumes nothing.
 use mathlib.Core.Path.{_≡_, ap, _∙_}
 use mathlib.Core.List.{List}
-use Prim.Native.Nat.{ℕ, _/_}
+use Prim.Native.Nat.{ℕ, _+_, _/_, _%_, _^_}
+use lib.Dec.{lit≤}
 use lib.ListN.{set}
+use Rattle.words.proofs.Residues.{wrapped}
 use Rattle.sums.specs.Sums.{sumsOf, closed}
 use Rattle.order.specs.Order.{ticksOf}
 use Rattle.generator_stage.specs.declared.Items.{Items}
 use Rattle.generator_stage.specs.GeneratorStage.{steps, begun}
 use Rattle.generator_stage.specs.Loops.{held, Taken}
 use Rattle.modifier_stage.specs.ModifierStage.{wordsAfter, modifierThisAfter}
-use Rattle.pass.specs.Pass.{answered, counted, completed, ran}
+use Rattle.pass.specs.Pass.{answered, counterBits, counted, completed, ran}
 
 module _ (m order items places words : List ℕ) (s₀ s : List (List ℕ)) (n : ℕ) (places' : List ℕ) (items' : Items) where
   pub ran-by : {after last done : List ℕ} {t : List (List ℕ)} →
@@ -23,3 +25,7 @@ module _ (m order items places words : List ℕ) (s₀ s : List (List ℕ)) (n :
     where
       state : held words s (taken .triggered) places' items' ≡ steps items (begun m places) order
       state = taken .all ∙ rw es
+
+-- The counter's code: a wrapping add at 32 bits, r, and a remainder.
+pub count-code : (n : ℕ) {r : ℕ} → r ≡ (n + 1) % 2 ^ 32 → r % 2 ^ counterBits ≡ (n + 1) % 2 ^ counterBits
+count-code n e = rw e (wrapped counterBits (n + 1) (lit≤ tt))

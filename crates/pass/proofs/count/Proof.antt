@@ -1,5 +1,6 @@
-use lib.Dec.{lit≤}
-use Rattle.words.proofs.Residues.{wrapped}
+use mathlib.Core.Path.{ap}
+use lib.ListN.{getD, set}
+use Rattle.pass.proofs.Runs.{count-code}
 use Rattle.pass.specs.Pass.{counted}
 use borrow.Author.Needs.{needs}
 use Rattle.pass.proofs.count.Statement.{statement}
@@ -25,7 +26,8 @@ same-length c = search needs
 
 returns : tie.Need-returns
 unfolding counted
-returns c = rw (c .wrapping-add-u32 .ensures, wrapped 20 _ (lit≤ tt))
+returns c = let m = c .before .before .before .args .m .now in
+    ap (set m 4115) (count-code (getD m 4115 0) (c .wrapping-add-u32 .ensures))
 
 pub count-spec : {M : Type 1} → statement M
 count-spec =
