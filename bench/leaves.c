@@ -1,5 +1,5 @@
 /* The benchmark's job in plain C: turns of 256 generators, or products, many times over; prints a checksum.
-   The same job stands in Rattle in crates/trial; bench/leaves runs both and compares results and times. */
+   The same job stands in Rattle in crates/speed; bench/leaves runs both and compares results and times. */
 #include <stdint.h>
 #include <stdio.h>
 #include <stdlib.h>

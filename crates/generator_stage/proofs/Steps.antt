@@ -23,18 +23,6 @@ use Rattle.generator_stage.specs.Loops.{Low, heard, Sounds, Sends}
 use Rattle.generator_stage.proofs.Words.{put-same}
 
 module _ (items : List ℕ) (s : State) (g : ℕ) (u : Generator) (f : ℕ) (is-u : u ≡ generatorOf (s .words) g) (is-f : f ≡ fAt (s .sums) (u .gfm)) where
-  -- The step, of the generator and F.
-  taken : step items s g ≡ record {
-    words = putDAC (putGenerator (s .words) g (after u f (told (s .triggered) g))) u f;
-    sums = summed (s .sums) u (pOf u f) (getD items (s .reads) 0);
-    triggered = fired (s .triggered) g u;
-    places = sent (s .places) (s .writes) u f;
-    reads = readBy (s .reads) u;
-    writes = writtenBy (s .writes) u;
-  }
-  unfolding step
-  taken = rw (is-f, is-u)
-
   -- The envelope is on.
   pub step-sounds : envelopeOn (runMode u) ≡ true →
       step items s g ≡ record {
@@ -45,11 +33,12 @@ module _ (items : List ℕ) (s : State) (g : ℕ) (u : Generator) (f : ℕ) (is-
         reads = readBy (s .reads) u;
         writes = s .writes;
       }
-  unfolding putDAC sent writtenBy envelopeOn isOneOf
+  unfolding step putDAC sent writtenBy envelopeOn isOneOf
   step-sounds on =
       let r = runMode u in
-      taken
-      ∙ rw (
+      rw (
+        ← is-u,
+        ← is-f,
         after-untold u f (told (s .triggered) g) (on-not-off envelopeOn r wait on refl),
         on-not-off envelopeOn r writeDAC on refl,
         on-not-off envelopeOn r writeData on refl,
@@ -65,8 +54,8 @@ module _ (items : List ℕ) (s : State) (g : ℕ) (u : Generator) (f : ℕ) (is-
         reads = s .reads;
         writes = s .writes;
       }
-  unfolding putDAC sent writtenBy summed readBy fired triggers envelopeOn adds replaces free isOneOf
-  step-waits w = taken ∙ rw w
+  unfolding step putDAC sent writtenBy summed readBy fired triggers envelopeOn adds replaces free isOneOf
+  step-waits w = rw (← is-u, ← is-f, w)
 
   -- Nothing is on.
   pub step-sends : Low (s .words) g → envelopeOn (runMode u) ≡ false → oscillatorOn (runMode u) ≡ false →
@@ -78,11 +67,10 @@ module _ (items : List ℕ) (s : State) (g : ℕ) (u : Generator) (f : ℕ) (is-
         reads = s .reads;
         writes = writtenBy (s .writes) u;
       }
-  unfolding summed readBy fired triggers
+  unfolding step summed readBy fired triggers
   step-sends low e o =
       let q = quiet (runMode u) e in
-      taken
-      ∙ rw (rests u f (told (s .triggered) g) e o, q .no-add, q .no-replace, q .not-free, same)
+      rw (← is-u, ← is-f, rests u f (told (s .triggered) g) e o, q .no-add, q .no-replace, q .not-free, same)
     where
       same : putGenerator (s .words) g u ≡ s .words
       same = rw is-u (put-same (s .words) g low)

@@ -242,15 +242,20 @@ fn controls_within(m: &[u32]) -> bool
     requires { ⌜ Reaches (now m) ⌝ }
     ensures { λ r. ⌜ r ≡ controlsWithin (now (m .entry)) ⌝ }
 {
+    let dx = m[layout::DX_AT];
     let t = m[layout::T_AT];
     let n = m[layout::N_AT];
-    (m[layout::DX_AT] < 1048576)
+    let counter = m[layout::COUNTER_AT];
+    let lingering = m[layout::LINGERING_AT];
+    let pass = m[layout::LINGER_PASS_AT];
+    let overrun = m[layout::OVERRUN_AT];
+    (dx < 1048576)
         & ((1 <= t) & (t <= 256))
         & ((2 <= n) & (n <= 1025))
-        & (m[layout::COUNTER_AT] < 1048576)
-        & (m[layout::LINGERING_AT] <= 1)
-        & (m[layout::LINGER_PASS_AT] < 1048576)
-        & (m[layout::OVERRUN_AT] <= 1)
+        & (counter < 1048576)
+        & (lingering <= 1)
+        & (pass < 1048576)
+        & (overrun <= 1)
 }
 
 // Question 2: all words within their width and range, with built modes and no MIN or MRM top bits 11.

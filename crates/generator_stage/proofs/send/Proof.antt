@@ -35,7 +35,7 @@ same-length-2 c = search needs
 
 returns-2 : tie.Need-returns-2
 unfolding putDAC sent writtenBy
-returns-2 c = record { feeds = rw (ne-eqb _ 2 (c .before .before .before .before .before .if1 .left)); sends = rw (c .before .before .before .before .if2 .taken) (c .before .before .put-item .ensures); writes-on = rw (c .before .before .before .before .if2 .taken, add-one) }
+returns-2 c = record { feeds = rw (ne-eqb _ 2 (c .before .before .before .before .before .if1 .left)); sends = rw (c .before .before .before .before .if2 .taken) (c .before .before .put-item .ensures); writes-on = rw (c .before .before .before .before .if2 .taken) (add-one _) }
 
 returns-3 : tie.Need-returns-3
 unfolding putDAC sent writtenBy

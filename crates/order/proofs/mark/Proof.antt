@@ -1,5 +1,6 @@
 -- `order::mark` meets its contract.
 -- Assumes nothing.
+use mathlib.Core.Path.{refl}
 use borrow.Author.Needs.{needs}
 use borrow.Author.Tests.{lt-ltb, le-ltb, eq-eqb, ne-eqb}
 use Rattle.order.specs.Loops.{unmarked, marked}
@@ -8,7 +9,7 @@ use Rattle.order.proofs.mark.Tie as tie
 
 returns : tie.Need-returns
 unfolding unmarked marked
-returns c = (rw (le-ltb _ _ (c .if1 .taken)), rw (le-ltb _ _ (c .if1 .taken)))
+returns c = (rw (le-ltb _ _ (c .if1 .taken)) refl, rw (le-ltb _ _ (c .if1 .taken)) refl)
 
 element-copy-out-if2 : tie.Need-element-copy-out-if2
 element-copy-out-if2 c = search needs
@@ -18,7 +19,7 @@ unfolding unmarked marked
 returns-2 c =
     let low = lt-ltb _ _ (c .before .before .if1 .left) in
     let there = ne-eqb _ _ (c .if2 .taken) in
-    (rw (low, there), rw (low, there))
+    (rw (low, there) refl, rw (low, there) refl)
 
 element-write-marks : tie.Need-element-write-marks
 element-write-marks c = search needs
@@ -28,7 +29,7 @@ unfolding unmarked marked
 returns-3 c =
     let low = lt-ltb _ _ (c .before .before .if1 .left) in
     let free = eq-eqb _ _ (c .if2 .left) in
-    (rw (low, free), rw (low, free))
+    (rw (low, free) refl, rw (low, free) refl)
 
 pub mark-spec : {M : Type 1} → statement M
 mark-spec =

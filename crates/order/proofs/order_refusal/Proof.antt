@@ -1,6 +1,6 @@
 -- `order::order_refusal` meets its contract.
 -- Assumes nothing.
-use mathlib.Core.Path.{_≡_, sym, _∙_}
+use mathlib.Core.Path.{_≡_, refl, sym, _∙_}
 use mathlib.Core.Bool.{true, false}
 use borrow.Author.Needs.{needs}
 use borrow.Author.Tests.{eq-eqb, ne-eqb, not-true, not-false}
@@ -11,7 +11,7 @@ use Rattle.order.proofs.order_refusal.Tie as tie
 
 returns : tie.Need-returns
 unfolding asked
-returns c = rw (ne-eqb _ _ (c .if1 .taken))
+returns c = rw (ne-eqb _ _ (c .if1 .taken)) refl
 
 each-once-requires : tie.Need-each-once-requires
 each-once-requires c κs = search needs
@@ -21,14 +21,14 @@ unfolding asked
 returns-2 c =
     let a = c .before .before .before .before .args in
     let o : eachOnce (a .t) (a .order .now) ≡ false = sym (c .before .each-once .ensures) ∙ not-true _ (c .if2 .taken) in
-    rw (eq-eqb _ _ (c .before .before .if1 .left), o)
+    rw (eq-eqb _ _ (c .before .before .if1 .left), o) refl
 
 returns-3 : tie.Need-returns-3
 unfolding asked
 returns-3 c =
     let a = c .before .before .before .before .args in
     let o : eachOnce (a .t) (a .order .now) ≡ true = sym (c .before .each-once .ensures) ∙ not-false _ (c .if2 .left) in
-    rw (eq-eqb _ _ (c .before .before .if1 .left), o)
+    rw (eq-eqb _ _ (c .before .before .if1 .left), o) refl
 
 pub order-refusal-spec : {M : Type 1} → statement M
 order-refusal-spec = tie.close (tie.spec returns each-once-requires returns-2 returns-3)

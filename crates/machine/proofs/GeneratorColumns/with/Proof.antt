@@ -1,5 +1,6 @@
 -- `machine::GeneratorColumns::with` meets its contract.
 -- Assumes nothing.
+use mathlib.Core.Path.{refl}
 use borrow.Author.Needs.{needs}
 use Rattle.machine.proofs.GeneratorColumns.with.Statement.{statement}
 use Rattle.machine.proofs.GeneratorColumns.with.Tie as tie
@@ -41,7 +42,7 @@ built-modes-requires : tie.Need-built-modes-requires
 built-modes-requires c κs = search needs
 
 returns : tie.Need-returns
-returns c = rw (c .before .before .before .before .before .before .before .before .before .before .before .before .built-modes .ensures)
+returns c = rw (c .before .before .before .before .before .before .before .before .before .before .before .before .built-modes .ensures) refl
 
 pub with-spec : {M : Type 1} → statement M
 with-spec =

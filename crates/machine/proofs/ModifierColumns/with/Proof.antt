@@ -1,5 +1,6 @@
 -- `machine::ModifierColumns::with` meets its contract.
 -- Assumes nothing.
+use mathlib.Core.Path.{refl}
 use borrow.Author.Needs.{needs}
 use Rattle.machine.proofs.ModifierColumns.with.Statement.{statement}
 use Rattle.machine.proofs.ModifierColumns.with.Tie as tie
@@ -42,7 +43,7 @@ returns c =
     let built = c .before .before .before .before .before .before .before .before .before in
     let mrm = built .before .before .before in
     let min = mrm .before .before in
-    rw (built .built-mmode .ensures, mrm .built-address2 .ensures, min .built-address .ensures)
+    rw (built .built-mmode .ensures, mrm .built-address2 .ensures, min .built-address .ensures) refl
 
 pub with-spec : {M : Type 1} → statement M
 with-spec =

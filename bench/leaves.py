@@ -1,0 +1,76 @@
+"""Runs target/bin/speed and target/bench/leaves by turns on the same generators; bench/leaves calls it.
+
+The time is the processor's, so that other work on the machine disturbs it less.
+"""
+
+import random
+import resource
+import struct
+import subprocess
+import sys
+from statistics import median
+
+from reference.tables import EXPONENTIAL, SINE
+
+RATTLE, C, TABLES = "target/bin/speed", "target/bench/leaves", "target/bench/tables"
+RUNS = 9
+SEED = 1978
+GENERATORS = 256
+# The job's name in C, its number in Rattle, what is measured, how often, and how many of them that makes.
+JOBS = (
+    ("generators", 0, "generator's turn", 400_000, GENERATORS),
+    ("products", 1, "product", 150_000_000, 1),
+)
+RUN_MODES = (0b1111,) * 9 + (0b1110,) * 9 + (0b0111, 0b0000)
+OSCILLATOR_MODES = (0b0000, 0b1000)
+
+
+def generator(chance):
+    """The eleven words of a generator that sounds, most often: GO, GJ .. GMODE."""
+    words = [chance.getrandbits(width) for width in (20, 28, 20, 11, 4, 20, 24, 12, 6, 7)]
+    gmode = chance.choice(RUN_MODES) << 6 | chance.getrandbits(2) << 4 | chance.choice(OSCILLATOR_MODES)
+    return words + [gmode]
+
+
+def spent():
+    """The processor's seconds of the programs that have ended."""
+    usage = resource.getrusage(resource.RUSAGE_CHILDREN)
+    return usage.ru_utime + usage.ru_stime
+
+
+def timed(command, given):
+    """What a program prints, and the processor's seconds that it took."""
+    before = spent()
+    printed = subprocess.run(command, input=given, stdout=subprocess.PIPE, check=True).stdout
+    return printed, spent() - before
+
+
+def measure(job, number, what, count, each, words):
+    """Both programs by turns; prints the line of a job, and says whether their checksums agree."""
+    body = struct.pack("<%dI" % len(words), *words)
+    commands = (([RATTLE], struct.pack("<2I", number, count) + body), ([C, TABLES, job, str(count)], body))
+    seconds, printed = ([], []), (set(), set())
+    for _ in range(RUNS):
+        for side, (command, given) in enumerate(commands):
+            text, taken = timed(command, given)
+            printed[side].add(text)
+            seconds[side].append(taken)
+    if printed[0] != printed[1] or len(printed[0]) != 1:
+        print("%s: the checksums differ: Rattle %s, C %s" % (what, *printed))
+        return False
+    rattle, c = (median(taken) / count / each * 1e9 for taken in seconds)
+    print("%s: Rattle %.2f ns, C %.2f ns, ratio %.2f" % (what, rattle, c, rattle / c))
+    return True
+
+
+def main():
+    with open(TABLES, "wb") as tables:
+        tables.write(struct.pack("<2304H", *SINE, *EXPONENTIAL))
+    chance = random.Random(SEED)
+    words = [word for _ in range(GENERATORS) for word in generator(chance)]
+    agree = [measure(*job, words) for job in JOBS]
+    sys.exit(0 if all(agree) else 1)
+
+
+if __name__ == "__main__":
+    main()

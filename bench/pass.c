@@ -1,0 +1,356 @@
+/* A pass in plain C beside the proved one: bench/pass builds this, and it times both in turn on the same machines.
+   The C is written from the papers, on the machine's words in place, with the same questions asked. */
+#define _POSIX_C_SOURCE 199309L
+#include "karvelorn.h"
+#include "tables.h" /* quarter, entries: made by bench/pass from the reference */
+
+#include <stdio.h>
+#include <stdlib.h>
+#include <string.h>
+#include <time.h>
+
+#define LOW(x, w) ((x) & ((1u << (w)) - 1))
+
+enum { GO, GJ, GK, GN, GM, GP, GQ, GL, GSUM, GFM, GMODE, GENERATOR_WORDS };
+enum { M0, M1, L0, L1, MIN, MRM, MSUM, MMODE, MODIFIER_WORDS };
+enum { MODIFIERS = 2816, SUMS = 3840, DACS = 4096, DX = 4112, T, N, COUNTER, LINGERING, LINGER_PASS, OVERRUN };
+enum { GENERATOR_THIS, GENERATOR_LAST, MODIFIER_THIS, MODIFIER_LAST };
+enum { WRITE_DAC = 2, WRITE_DATA = 3, READ_DATA = 7, WAIT = 9, RUNNING_C = 13, RUNNING_B = 14, RUNNING_A = 15 };
+
+/* Bit n is 1 where run mode, oscillator mode or function n is built; where a function reads A late. */
+static const uint32_t built_run = 0xE28F, built_oscillator = 0x010F, built_function = 0x3F53BB5D, late_a = 0x0040BB10;
+
+static int32_t signed20(uint32_t x) { return (int32_t)(x << 12) >> 12; }
+
+/* Questions 1 and 2. */
+
+static uint32_t bad_generators(const uint32_t *m) {
+    uint32_t bad = 0;
+    for (const uint32_t *g = m; g < m + MODIFIERS; g += GENERATOR_WORDS)
+        bad |= g[GO] >> 20 | g[GJ] >> 28 | g[GK] >> 20 | g[GN] >> 11 | g[GM] >> 4 | g[GP] >> 20 | g[GQ] >> 24 |
+               g[GL] >> 12 | g[GSUM] >> 6 | g[GFM] >> 7 | g[GMODE] >> 10 | (~built_run >> (g[GMODE] >> 6 & 15) & 1) |
+               (~built_oscillator >> (g[GMODE] & 15) & 1);
+    return bad;
+}
+
+static uint32_t bad_modifiers(const uint32_t *m) {
+    uint32_t bad = 0;
+    for (const uint32_t *u = m + MODIFIERS; u < m + SUMS; u += MODIFIER_WORDS)
+        bad |= u[M0] >> 30 | u[M1] >> 30 | u[L0] >> 20 | u[L1] >> 20 | (u[MIN] >= 192) | (u[MRM] >= 192) |
+               u[MSUM] >> 7 | u[MMODE] >> 9 | (~built_function >> (u[MMODE] >> 4 & 31) & 1);
+    return bad;
+}
+
+static int sound_machine(const uint32_t *m) {
+    uint32_t bad = bad_generators(m) | bad_modifiers(m);
+    for (int i = SUMS; i <= DX; i++) bad |= m[i] >> 20;
+    bad |= m[COUNTER] >> 20 | m[LINGER_PASS] >> 20 | m[LINGERING] >> 1 | m[OVERRUN] >> 1;
+    return !bad && m[T] >= 1 && m[T] <= 256 && m[N] >= 2 && m[N] <= 1025;
+}
+
+/* Questions 5 to 8 of a machine that is good. */
+
+static int each_once(const uint32_t *order, uint32_t t) {
+    uint8_t seen[256] = {0};
+    for (uint32_t i = 0; i < t; i++) {
+        if (order[i] >= t || seen[order[i]]) return 0;
+        seen[order[i]] = 1;
+    }
+    return 1;
+}
+
+static uint32_t refusal(const uint32_t *m, size_t words, const uint32_t *order, size_t entries, size_t items_len,
+                        size_t places_len) {
+    if (words != KARVELORN_WORDS) return 1;
+    if (!sound_machine(m)) return 2;
+    if (entries != m[T]) return 5;
+    if (!each_once(order, m[T])) return 6;
+    size_t reads = 0, writes = 0;
+    for (uint32_t i = 0; i < m[T]; i++) {
+        uint32_t run = m[GENERATOR_WORDS * i + GMODE] >> 6;
+        reads += run == READ_DATA;
+        writes += run == WRITE_DATA;
+    }
+    if (items_len < reads) return 7;
+    if (places_len < writes) return 8;
+    return 0;
+}
+
+/* Generators. */
+
+static int leaves20(uint32_t a, uint32_t b) {
+    int32_t s = signed20(a) + signed20(b);
+    return s < -524288 || s > 524287;
+}
+
+/* Steps 3 and 6 to 9: P of a generator as its turn begins. */
+static uint32_t output(const uint32_t *g, int turning, uint32_t f, uint32_t j) {
+    uint32_t mode = g[GMODE] & 15, env = g[GMODE] >> 4 & 3;
+    uint32_t k = (mode == 8 ? j : g[GK]) >> 7, w;
+    int negative = k >= 4096;
+    if (mode == 0 || mode == 8) {
+        uint32_t i = k & 2047;
+        w = quarter[k & 2048 ? 2047 - i : i] >> g[GM];
+    } else if (mode == 1) {
+        w = k == 4096 ? 0 : negative ? 8192 - k : k;
+    } else if (mode == 2) {
+        w = 2048;
+    } else {
+        w = leaves20(g[GJ] >> 8, f) || (turning && leaves20(g[GK], j)) ? 2048 : 0;
+        negative = 0;
+    }
+    uint32_t h = g[GQ] >> 12, q = env >= 2 ? (uint32_t)entries[h & 255] >> (h >> 8) : h;
+    uint32_t v = LOW(env & 1 ? g[GL] + q : g[GL] - q, 12);
+    uint32_t p = (w * v + 32) / 64;
+    return LOW(negative ? 0u - p : p, 20);
+}
+
+/* Steps 2 and 4. */
+static void turn(uint32_t *g, uint32_t j) {
+    g[GJ] = LOW(g[GJ] + (uint32_t)signed20(g[GO]), 28);
+    g[GK] = LOW(g[GK] + j, 20);
+}
+
+/* Step 7: whether the envelope overflows; GQ is brought up to date. */
+static int decay(uint32_t *g, int is_free) {
+    int32_t sum = (int32_t)g[GQ] + signed20(g[GP]);
+    int over = sum < 0 || sum > 16777215;
+    if (!over || is_free) g[GQ] = LOW((uint32_t)sum, 24);
+    return over;
+}
+
+static void set_run_mode(uint32_t *g, uint32_t run) { g[GMODE] = run << 6 | LOW(g[GMODE], 6); }
+
+static void generators(uint32_t *m, uint32_t s[4][64], const uint32_t *order, const uint32_t *items, uint32_t *places,
+                       size_t *read, size_t *written) {
+    uint8_t triggered[257] = {0}; /* at g+1 */
+    size_t reads = 0, writes = 0;
+    uint32_t t = m[T];
+    for (uint32_t i = 0; i < t; i++) {
+        uint32_t n = order[i], *g = m + GENERATOR_WORDS * n, run = g[GMODE] >> 6;
+        if (run < WRITE_DAC) continue;
+        uint32_t f = s[g[GFM] >> 6 ? MODIFIER_LAST : GENERATOR_LAST][g[GFM] & 63], j = LOW((g[GJ] >> 8) + f, 20);
+        if (run >= RUNNING_C) {
+            uint32_t *sum = &s[GENERATOR_THIS][g[GSUM]];
+            *sum = LOW(*sum + output(g, 1, f, j), 20);
+            turn(g, j);
+            if (decay(g, run != RUNNING_A) && run != RUNNING_A) {
+                triggered[n + 1] = 1;
+                if (run == RUNNING_C) set_run_mode(g, WAIT);
+            }
+        } else if (run == WAIT) {
+            turn(g, j);
+            if (triggered[n]) set_run_mode(g, RUNNING_C);
+        } else if (run == READ_DATA) {
+            s[GENERATOR_THIS][g[GSUM]] = LOW(output(g, 0, f, j) + items[reads++], 20);
+            decay(g, 0);
+        } else if (run == WRITE_DATA) {
+            places[writes++] = f;
+        } else {
+            m[DACS + (g[GO] & 15)] = f;
+        }
+    }
+    *read = reads;
+    *written = writes;
+}
+
+/* Modifiers. */
+
+static int64_t scaled(uint32_t s, uint32_t a, uint32_t b) {
+    return (int64_t)signed20(a) * signed20(b) * (1 << s);
+}
+static uint32_t product(uint32_t s, uint32_t a, uint32_t b) {
+    return LOW((uint32_t)((scaled(s, a, b) + 262144) >> 19), 20);
+}
+static uint32_t integer_product(uint32_t s, uint32_t a, uint32_t b) {
+    return LOW((uint32_t)(scaled(s, a, b) >> 2), 20);
+}
+
+/* A modifier's turn with A and B: its registers are brought up to date; gives S. */
+static uint32_t modifier_turn(uint32_t *u, uint32_t a, uint32_t b) {
+    uint32_t aa = u[MMODE] >> 2 & 3, bb = u[MMODE] & 3, m0 = u[M0] >> 10, m1 = u[M1] >> 10;
+    uint32_t function = u[MMODE] >> 4, s, x, y;
+    switch (function) {
+    case 2: return u[L1] = LOW(u[L0] + integer_product(aa, u[L1], m0), 20);
+    case 3:
+        s = LOW(u[L0] + integer_product(aa, u[L1], m0), 20);
+        if (integer_product(bb, b, m1)) u[L1] = s;
+        return s;
+    case 4:
+        s = u[L1];
+        if (product(bb, b, m1)) u[L1] = a;
+        return s;
+    case 6: return LOW(product(aa, a, m0) + u[L0], 20) >> 19 ? 0 : product(bb, b, m1);
+    case 8: case 9: case 11: case 12: case 13: case 15:
+        s = LOW(product(bb, u[L1], m1) + product(aa, u[L0], m0) + a, 20);
+        u[L0] = u[L1];
+        u[L1] = function < 12 ? s : a;
+        if ((function & 3) == 1) u[M0] = LOW(u[M0] + (uint32_t)signed20(b), 30);
+        if ((function & 3) == 3) u[M1] = LOW(u[M1] + (uint32_t)signed20(b), 30);
+        return s;
+    case 16: return LOW(integer_product(aa, a, m0) + integer_product(bb, b, m1), 20);
+    case 17: return u[L1] = LOW(product(bb, u[L1], m1) + product(aa, b, u[L0]), 20);
+    case 20: return LOW(product(aa, a, m0) + product(bb, b, m1), 20);
+    case 22:
+        s = LOW(product(bb, u[L1], m1) + product(aa, u[L0], m0), 20);
+        u[L0] = u[L1];
+        u[L1] = a;
+        return s;
+    case 24:
+        s = product(bb, u[L1], m1);
+        u[L1] = product(aa, a, b);
+        return s;
+    case 25:
+        s = product(bb, u[L1], m1);
+        u[L1] = product(aa, a, (uint32_t)(signed20(b) + 524288) >> 1);
+        return s;
+    case 26: case 27: case 28:
+        x = product(aa, a, m0);
+        y = product(bb, b, m1);
+        if (function == 26) return signed20(x) > signed20(y) ? x : y;
+        if (function == 27) return signed20(x) < signed20(y) ? x : y;
+        return signed20(x) < signed20(y) ? LOW(~0u, 20) : x != y;
+    case 29:
+        x = product(aa, b, m0);
+        y = product(bb, u[L1], m1);
+        u[L1] = x;
+        return y && (!x || (x ^ y) >> 19) ? LOW(~0u, 20) : 0;
+    default: return 0;
+    }
+}
+
+static uint32_t look(uint32_t s[4][64], const uint32_t *view, uint32_t address) {
+    uint32_t i = address & 63;
+    return address < 64 ? s[GENERATOR_LAST][i] : address < 128 ? s[MODIFIER_LAST][i] : view[i];
+}
+
+static void write_sum(uint32_t *quadrant, uint32_t msum, uint32_t s) {
+    uint32_t *word = &quadrant[msum & 63];
+    *word = msum >> 6 ? s : LOW(*word + s, 20);
+}
+
+static void modifiers(uint32_t *m, uint32_t s[4][64]) {
+    uint32_t early[64], *late = s[MODIFIER_THIS];
+    uint32_t msums[4], written[4]; /* the last four writes, that of k at k mod 4 */
+    uint32_t count = m[T] / 2;
+    memcpy(early, late, sizeof early);
+    for (uint32_t k = 0; k < count; k++) {
+        uint32_t *u = m + MODIFIERS + MODIFIER_WORDS * k;
+        if (k >= 4) write_sum(early, msums[k & 3], written[k & 3]);
+        uint32_t a = look(s, late_a >> (u[MMODE] >> 4) & 1 ? late : early, u[MIN]);
+        uint32_t b = look(s, early, u[MRM]);
+        uint32_t result = modifier_turn(u, a, b);
+        msums[k & 3] = u[MSUM];
+        written[k & 3] = result;
+        write_sum(late, u[MSUM], result);
+    }
+}
+
+/* The pass. */
+__attribute__((noinline)) uint32_t plain_pass(uint32_t *m, size_t words, const uint32_t *order, size_t entries,
+                                              const uint32_t *items, size_t items_len, uint32_t *places,
+                                              size_t places_len, size_t *read, size_t *written) {
+    uint32_t s[4][64], number = refusal(m, words, order, entries, items_len, places_len);
+    *read = *written = 0;
+    if (number) return number;
+    memcpy(s, m + SUMS, sizeof s);
+    generators(m, s, order, items, places, read, written);
+    modifiers(m, s);
+    memset(m + SUMS, 0, sizeof s);
+    memcpy(m + SUMS + 64, s[GENERATOR_THIS], sizeof s[0]);
+    memcpy(m + SUMS + 192, s[MODIFIER_THIS], sizeof s[0]);
+    m[COUNTER] = LOW(m[COUNTER] + 1, 20);
+    return 0;
+}
+
+/* The timing. */
+
+enum { ROUNDS = 1001, WARM = 200 };
+
+typedef uint32_t pass_function(uint32_t *, size_t, const uint32_t *, size_t, const uint32_t *, size_t, uint32_t *,
+                               size_t, size_t *, size_t *);
+
+static uint32_t drawn = 1978;
+static uint32_t draw(uint32_t width) { return (drawn = drawn * 1664525 + 1013904223) >> (32 - width); }
+
+/* Sines under exponential envelopes, sticky and free in turn, and T/2 mixing modifiers. */
+static void make_machine(uint32_t *m, uint32_t t) {
+    karvelorn_fresh(m, KARVELORN_WORDS);
+    m[T] = t;
+    for (uint32_t i = 0; i < t; i++) {
+        uint32_t *g = m + GENERATOR_WORDS * i;
+        g[GO] = draw(4);
+        g[GJ] = draw(26);
+        g[GK] = draw(20);
+        g[GP] = LOW(0u - draw(12), 20);
+        g[GQ] = draw(24);
+        g[GL] = draw(12);
+        g[GSUM] = draw(6);
+        g[GFM] = draw(7);
+        g[GMODE] = (i & 1 ? RUNNING_B : RUNNING_A) << 6 | 2 << 4;
+    }
+    for (uint32_t k = 0; k < t / 2; k++) {
+        uint32_t *u = m + MODIFIERS + MODIFIER_WORDS * k;
+        u[M0] = draw(30);
+        u[M1] = draw(30);
+        u[MIN] = draw(6) + 64 * (k % 3);
+        u[MRM] = draw(6) + 64 * (k / 3 % 3);
+        u[MSUM] = draw(7);
+        u[MMODE] = 20 << 4 | draw(4);
+    }
+}
+
+static double now(void) {
+    struct timespec t;
+    clock_gettime(CLOCK_MONOTONIC, &t);
+    return (double)t.tv_sec * 1e9 + (double)t.tv_nsec;
+}
+
+/* The time of one pass, from a number of passes in a row. */
+static double timed(pass_function *pass, uint32_t *m, const uint32_t *order, int passes) {
+    size_t read, written;
+    uint32_t refused = 0;
+    double start = now();
+    for (int i = 0; i < passes; i++)
+        refused |= pass(m, KARVELORN_WORDS, order, m[T], NULL, 0, NULL, 0, &read, &written);
+    if (refused) {
+        fprintf(stderr, "pass: refused\n");
+        exit(1);
+    }
+    return (now() - start) / passes;
+}
+
+static int ascending(const void *a, const void *b) {
+    double x = *(const double *)a, y = *(const double *)b;
+    return (x > y) - (x < y);
+}
+
+static double median(double *times) {
+    qsort(times, ROUNDS, sizeof *times, ascending);
+    return times[ROUNDS / 2];
+}
+
+/* Both passes in turn, each on a machine of its own that begins alike; whether they end alike. */
+static int compare(uint32_t t, int passes) {
+    static uint32_t proved[KARVELORN_WORDS], plain[KARVELORN_WORDS], order[256];
+    static double proved_times[ROUNDS], plain_times[ROUNDS];
+    make_machine(proved, t);
+    memcpy(plain, proved, sizeof plain);
+    for (uint32_t i = 0; i < t; i++) order[i] = i;
+    for (int i = -WARM; i < ROUNDS; i++) {
+        double a = timed(karvelorn_pass, proved, order, passes), b = timed(plain_pass, plain, order, passes);
+        if (i >= 0) proved_times[i] = a, plain_times[i] = b;
+    }
+    double a = median(proved_times), b = median(plain_times);
+    printf("pass at T=%u: R %.0f ns, C %.0f ns, ratio %.2f\n", t, a, b, a / b);
+    if (!memcmp(proved, plain, sizeof plain)) return 1;
+    printf("pass at T=%u: the machines differ\n", t);
+    return 0;
+}
+
+int main(void) {
+    int same = compare(256, 20);
+    same &= compare(64, 40);
+    same &= compare(1, 80);
+    return same ? 0 : 1;
+}

@@ -1,0 +1,11 @@
+-- `machine::ModifierColumns::within` meets its contract.
+-- Assumes nothing.
+use mathlib.Core.Path.{refl}
+use Rattle.machine.proofs.ModifierColumns.within.Statement.{statement}
+use Rattle.machine.proofs.ModifierColumns.within.Tie as tie
+
+returns : tie.Need-returns
+returns c = refl
+
+pub within-spec : {M : Type 1} → statement M
+within-spec = tie.close (tie.spec returns)

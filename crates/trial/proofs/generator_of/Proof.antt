@@ -1,0 +1,23 @@
+use Rattle.generator.proofs.Registers.{ranged}
+use borrow.Author.Needs.{needs}
+use Rattle.trial.proofs.generator_of.Statement.{statement}
+use Rattle.trial.proofs.generator_of.Tie as tie
+
+sub-load : tie.Need-sub-load
+sub-load c = search needs
+
+part-load-start : tie.Need-part-load-start
+part-load-start c = search needs
+
+part-load-end : tie.Need-part-load-end
+part-load-end c = search needs
+
+load-requires : tie.Need-load-requires
+load-requires c κs = search needs
+
+returns : tie.Need-returns
+returns c = rw (c .load .ensures) (ranged _)
+
+pub generator-of-spec : {M : Type 1} → statement M
+generator-of-spec =
+    tie.close (tie.spec sub-load part-load-start part-load-end load-requires returns)
