@@ -2,22 +2,20 @@
 -- Assumes nothing.
 use mathlib.Core.Path.{_≡_, refl, _∙_, ap}
 use mathlib.Core.Logic.{_≢_, ⊎-elim}
-use mathlib.Core.List.{List, [], _∷_, _++_}
+use mathlib.Core.List.{List, []}
 use Prim.Native.Nat.{ℕ, zero, suc, _+_, _*_, _^_, _≤_, _<_}
 use native.Mathlib.Omega.{arith}
 use native.Mathlib.Nat.{add-zero, le-of-suc-le-suc, not-suc-le-zero, eq-or-lt-of-le}
 use lib.ListN.{length, getD, drop}
 use lib.Seq.{sets, length-sets, getD-drop}
-use Rattle.layout.specs.Layout.{modifierAt}
+use Rattle.layout.specs.Layout.{modifierAt, Reaches}
 use Rattle.modifier.specs.declared.Modifier.{Modifier}
-use Rattle.modifier.specs.declared.Turned.{Turned}
 use Rattle.modifier.specs.Modifier.{loaded, Ranged}
 use Rattle.modifier.proofs.Low.{loaded-ranged}
 use Rattle.modifier.proofs.Turns.{Low}
 use Rattle.modifiers.proofs.Turns.{turn-low}
 use Rattle.sums.proofs.Blocks.{Outside, getD-outside}
-use Rattle.modifier_stage.specs.declared.Write.{Write}
-use Rattle.modifier_stage.specs.ModifierStage.{Stage, earlyView, lateView, turnSeen, modifierOf, putModifier, modify, modified, wordsAfter, modifierThisAfter, written, left}
+use Rattle.modifier_stage.specs.ModifierStage.{left, earlyView, lateView, turnSeen, modifierOf, modify, modified, wordsAfter, modifierThisAfter}
 use Rattle.modifier_stage.proofs.Registers.{registers, four, put-is, sets-low}
 use Rattle.modifier_stage.proofs.Views.{left-snoc, left-length, written-low, seen-low}
 
@@ -47,12 +45,24 @@ words-none : (words : List ℕ) (s : List (List ℕ)) → wordsAfter words s 0 �
 unfolding wordsAfter modified
 words-none words s = refl
 
--- The machine keeps its length.
+-- The machine keeps its length, and so it reaches as far.
 pub words-length : (words : List ℕ) (s : List (List ℕ)) (n : ℕ) → length (wordsAfter words s n) ≡ length words
 words-length words s zero = ap length (words-none words s)
 words-length words s (suc n) =
     let t = taken words s n in
     rw (t .is, length-sets (wordsAfter words s n) (2816 + 8 * n) (registers (t .unit))) (words-length words s n)
+
+pub same-reach : {l m : List ℕ} → length m ≡ length l → Reaches l → Reaches m
+same-reach e r = record {
+  generators = rw e (r .generators);
+  modifiers = rw e (r .modifiers);
+  sums = rw e (r .sums);
+  dacs = rw e (r .dacs);
+  controls = rw e (r .controls);
+}
+
+pub words-reach : (words : List ℕ) (s : List (List ℕ)) (n : ℕ) → Reaches words → Reaches (wordsAfter words s n)
+words-reach words s n r = same-reach (words-length words s n) r
 
 -- Place i has none of the registers M0, M1, L0 and L1 of the first n modifiers.
 pub record Elsewhere (i n : ℕ) : Type 0 where

@@ -1,20 +1,18 @@
 -- What writes leave on a quadrant, one write at a time, and what a modifier sees of sum memory while its modifier-this quadrant changes.
 -- Assumes nothing.
 use mathlib.Core.Path.{_≡_, refl, sym, _∙_}
-use mathlib.Core.Bool.{Bool, true, false, cond}
+use mathlib.Core.Bool.{cond}
 use mathlib.Core.List.{List, [], _∷_, _++_}
 use Prim.Native.Nat.{ℕ, zero, suc, _/_, _%_, _^_, _<_}
 use native.Mathlib.Omega.{arith}
 use lib.Dec.{eqb}
 use lib.ListN.{length, getD, set, length-set}
 use lib.Seq.{getD-set-other}
-use Rattle.words.specs.Words.{sum}
 use Rattle.modifier.specs.declared.Modifier.{Modifier}
 use Rattle.modifier.specs.Modifier.{functionOf}
 use Rattle.words.proofs.Residues.{sum-low}
 use Rattle.modifier.proofs.Low.{either-low}
 use Rattle.modifiers.specs.Turn.{readsLate}
-use Rattle.sums.specs.Sums.{wordAt}
 use Rattle.sums.proofs.Memory.{word-low}
 use Rattle.modifier_stage.specs.declared.Write.{Write}
 use Rattle.modifier_stage.specs.ModifierStage.{written, left, seen, turnSeen}

@@ -1,57 +1,53 @@
--- The stage as the code takes it: sum memory in place, the early view beside it, and the three writes that the early view has not seen.
--- Laws join it to ModifierStage, which is what a reader has to believe. Assumes nothing.
-use Prim.Native.Nat.{ℕ, zero, suc, _^_, _<_}
+-- The stage as the code takes it: sum memory in place, with the late view as its modifier-this, and the early view beside it, which lags by a ring of the last four writes.
+-- Laws join it to ModifierStage, which alone a reader has to believe. Assumes nothing.
+use Prim.Native.Nat.{ℕ, zero, suc, _/_, _%_}
 use mathlib.Core.Bool.{cond}
-use mathlib.Core.List.{List, []}
-use lib.Dec.{ltb}
+use mathlib.Core.List.{List, [], _∷_}
+use lib.Dec.{eqb}
 use lib.ListN.{getD, set}
-use Rattle.sums.specs.Sums.{modifierThis}
+use Rattle.words.specs.Words.{sum}
+use Rattle.sums.specs.Sums.{modifierThis, wordAt}
 use Rattle.modifier_stage.specs.declared.Write.{Write}
-use Rattle.modifier_stage.specs.declared.Pending.{Pending}
 use Rattle.modifier_stage.specs.ModifierStage.{written, turnSeen, modifierOf, putModifier}
 
--- The machine's words, sum memory with the late view as its modifier-this, the early view, and the pending writes.
+-- The word that a write leaves at its place of a quadrant.
+unfoldable pub wordLeft : List ℕ → Write → ℕ
+wordLeft q w = cond (eqb (w .msum / 64) 0) (sum 20 (wordAt q (w .msum % 64)) (w .s)) (w .s)
+
+-- The machine's words, sum memory, the early view; and of the last four writes, modifier k's in slot k mod 4, MSUM and the word left.
 pub record Lagging : Type 0 where
   pub words : List ℕ
   pub sums : List (List ℕ)
   pub early : List ℕ
-  pub pending : Pending
+  pub msums : List ℕ
+  pub lefts : List ℕ
 
-abbrev pub lagging : List ℕ → List (List ℕ) → List ℕ → Pending → Lagging
-lagging m s e p = record { words = m; sums = s; early = e; pending = p }
+abbrev pub lagging : List ℕ → List (List ℕ) → List ℕ → List ℕ → List ℕ → Lagging
+lagging m s e a l = record { words = m; sums = s; early = e; msums = a; lefts = l }
 
--- A write comes in, and the oldest goes.
-abbrev pub pushed : Pending → Write → Pending
-pushed p w = record { first = p .second; second = p .third; third = w }
-
--- At modifier m the oldest write goes into the early view, once there are three.
-unfoldable pub caughtUp : List ℕ → Pending → ℕ → List ℕ
-caughtUp e p m = cond (ltb m 3) e (written e (p .first))
+-- The early view with the write of slot j.
+unfoldable pub caughtUp : List ℕ → List ℕ → List ℕ → ℕ → List ℕ
+caughtUp early msums lefts j = set early (getD msums j 0 % 64) (getD lefts j 0)
 
 -- Modifier m is taken.
 unfoldable pub lagStep : Lagging → ℕ → Lagging
 lagStep v m =
+    let early = caughtUp (v .early) (v .msums) (v .lefts) (m % 4) in
     let this = getD (v .sums) modifierThis [] in
     let u = modifierOf (v .words) m in
-    let t = turnSeen (v .sums) (v .early) this u in
+    let t = turnSeen (v .sums) early this u in
     let w : Write = record { msum = u .msum; s = t .s } in
     lagging
     (putModifier (v .words) m (t .unit))
     (set (v .sums) modifierThis (written this w))
-    (caughtUp (v .early) (v .pending) m)
-    (pushed (v .pending) w)
+    early
+    (set (v .msums) (m % 4) (u .msum))
+    (set (v .lefts) (m % 4) (wordLeft this w))
 
-abbrev pub noWrite : Write
-noWrite = record { msum = 0; s = 0 }
-
--- Modifiers 0 to n-1 are taken.
+-- Modifiers 0 to n-1 are taken. The ring begins with four writes that change nothing: word 0 as it is.
 unfoldable pub lagged : List ℕ → List (List ℕ) → ℕ → Lagging
 lagged words s zero =
-    lagging words s (getD s modifierThis []) (record { first = noWrite; second = noWrite; third = noWrite })
+    let q = getD s modifierThis [] in
+    let first = getD q 0 0 in
+    lagging words s q (0 ∷ 0 ∷ 0 ∷ 0 ∷ []) (first ∷ first ∷ first ∷ first ∷ [])
 lagged words s (suc n) = lagStep (lagged words s n) n
-
--- The pending S are words of 20 bits.
-pub record LowPending (p : Pending) : Type 0 where
-  pub first-low : p .first .s < 2 ^ 20
-  pub second-low : p .second .s < 2 ^ 20
-  pub third-low : p .third .s < 2 ^ 20

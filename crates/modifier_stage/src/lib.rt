@@ -4,10 +4,10 @@ ghost use mathlib.Core.List.{[]};
 ghost use Prim.Native.Nat.{_≤_, _<_, _^_};
 ghost use lib.ListN.{getD, set};
 ghost use Rattle.words.specs.Words.{Word};
-ghost use Rattle.layout.specs.Layout.{Reaches};
+ghost use Rattle.layout.specs.Layout.{modifierAt, Reaches};
 ghost use Rattle.modifier.specs.Modifier.{Ranged};
 ghost use Rattle.modifier_stage.specs.ModifierStage.{written, seen, turnSeen, modifierOf, putModifier, wordsAfter, modifierThisAfter};
-ghost use Rattle.modifier_stage.specs.Loops.{lagging, lagStep, caughtUp, LowPending};
+ghost use Rattle.modifier_stage.specs.Loops.{wordLeft, caughtUp, lagging, lagStep};
 use modifier::Modifier;
 use modifier::Turned;
 
@@ -15,13 +15,6 @@ use modifier::Turned;
 pub struct Write {
     pub msum: u32,
     pub s: u32,
-}
-
-// The last three writes, the oldest first: those that the early view has not seen.
-pub struct Pending {
-    pub first: Write,
-    pub second: Write,
-    pub third: Write,
 }
 
 // The word that MIN or MRM names, with a view of modifier-this.
@@ -38,26 +31,12 @@ fn look(s: &[[u32; 64]; 4], view: &[u32; 64], address: u32) -> u32
     sums::word_at(view, i)
 }
 
-// A write goes into a quadrant: S is added into the word at MSUM, or replaces it.
-fn put(q: &mut [u32; 64], w: Write)
-    requires { ⌜ w .s < 2 ^ 20 ⌝ }
-    ensures { λ r. ⌜ now (q .exit) ≡ written (now (q .entry)) w ⌝ }
+// Where the words of modifier k start.
+fn place(k: usize) -> usize
+    requires { ⌜ k < 128 ⌝ }
+    ensures { λ r. ⌜ r ≡ modifierAt k ⌝ }
 {
-    let i = (w.msum % 64) as usize;
-    if w.msum / 64 == 0 {
-        let v = words::add20(sums::word_at(q, i), w.s);
-        q[i] = v;
-        return;
-    }
-    q[i] = w.s;
-}
-
-// A write goes into modifier-this.
-fn put_this(s: &mut [[u32; 64]; 4], w: Write)
-    requires { ⌜ w .s < 2 ^ 20 ⌝ }
-    ensures { λ r. ⌜ now (s .exit) ≡ set (now (s .entry)) 2 (written (getD (now (s .entry)) 2 []) w) ⌝ }
-{
-    put(&mut s[2], w);
+    layout::MODIFIERS_AT + layout::MODIFIER_WORDS * k
 }
 
 // Modifier k of the machine.
@@ -66,7 +45,7 @@ fn modifier_at(m: &[u32], k: usize) -> Modifier
     requires { ⌜ k < 128 ⌝ }
     ensures { λ r. ⌜ r ≡ modifierOf (now (m .entry)) k ⌝ }
 {
-    let at = layout::MODIFIERS_AT + layout::MODIFIER_WORDS * k;
+    let at = place(k);
     Modifier::load(&m[at..])
 }
 
@@ -76,11 +55,11 @@ fn put_modifier_at(m: &mut [u32], k: usize, unit: Modifier)
     requires { ⌜ k < 128 ⌝ }
     ensures { λ r. ⌜ now (m .exit) ≡ putModifier (now (m .entry)) k unit ⌝ }
 {
-    let at = layout::MODIFIERS_AT + layout::MODIFIER_WORDS * k;
+    let at = place(k);
     unit.store(&mut m[at..]);
 }
 
-// The turn of a modifier that reads B early, and A late or early by its function.
+// The turn of a modifier that reads B early, and A late or early by its function. The late view is modifier-this itself.
 fn turned(s: &[[u32; 64]; 4], early: &[u32; 64], u: Modifier) -> Turned
     requires { ⌜ Ranged u ⌝ }
     ensures { λ r. ⌜ r ≡ turnSeen (now (s .entry)) (now (early .entry)) (getD (now (s .entry)) 2 []) u ⌝ }
@@ -93,31 +72,45 @@ fn turned(s: &[[u32; 64]; 4], early: &[u32; 64], u: Modifier) -> Turned
     modifiers::turn(u, look(s, early, u.min), b)
 }
 
-// The oldest pending write goes into the early view, once there are three.
-fn catch_up(early: &mut [u32; 64], p: Pending, k: usize)
-    requires { ⌜ p .first .s < 2 ^ 20 ⌝ }
-    ensures { λ r. ⌜ now (early .exit) ≡ caughtUp (now (early .entry)) p k ⌝ }
+// S is added into the word of modifier-this at MSUM, or replaces it; the answer is the word that this leaves.
+fn put(s: &mut [[u32; 64]; 4], w: Write) -> u32
+    requires { ⌜ w .s < 2 ^ 20 ⌝ }
+    ensures { λ r. ⌜ (r ≡ wordLeft (getD (now (s .entry)) 2 []) w) × (now (s .exit) ≡ set (now (s .entry)) 2 (written (getD (now (s .entry)) 2 []) w)) ⌝ }
 {
-    if k < 3 {
-        return;
+    let i = (w.msum % 64) as usize;
+    if w.msum / 64 == 0 {
+        let v = words::add20(sums::quadrant_word(s, 2, i), w.s);
+        s[2][i] = v;
+        return v;
     }
-    let w = p.first;
-    put(early, w);
+    s[2][i] = w.s;
+    w.s
 }
 
-// Modifier k is taken.
+// The write in slot j goes into the early view, as the word that it left in modifier-this.
+fn catch_up(early: &mut [u32; 64], msums: &[u32; 4], lefts: &[u32; 4], j: usize)
+    requires { ⌜ j < 4 ⌝ }
+    ensures { λ r. ⌜ now (early .exit) ≡ caughtUp (now (early .entry)) (now (msums .entry)) (now (lefts .entry)) j ⌝ }
+{
+    let i = (msums[j] % 64) as usize;
+    early[i] = lefts[j];
+}
+
+// Modifier k is taken. Before its turn the early view catches up with the write of k-4, whose slot its own write then has.
 fn step(
     m: &mut [u32],
     s: &mut [[u32; 64]; 4],
     early: &mut [u32; 64],
-    p: Pending,
+    msums: &mut [u32; 4],
+    lefts: &mut [u32; 4],
     k: usize,
-) -> Pending
+)
     requires { ⌜ Reaches (now m) ⌝ }
     requires { ⌜ k < 128 ⌝ }
-    requires { ⌜ LowPending p ⌝ }
-    ensures { λ r. ⌜ lagging (now (m .exit)) (now (s .exit)) (now (early .exit)) r ≡ lagStep (lagging (now (m .entry)) (now (s .entry)) (now (early .entry)) p) k ⌝ }
+    ensures { λ r. ⌜ lagging (now (m .exit)) (now (s .exit)) (now (early .exit)) (now (msums .exit)) (now (lefts .exit)) ≡ lagStep (lagging (now (m .entry)) (now (s .entry)) (now (early .entry)) (now (msums .entry)) (now (lefts .entry))) k ⌝ }
 {
+    let j = k % 4;
+    catch_up(early, msums, lefts, j);
     let u = modifier_at(m, k);
     let t = turned(s, early, u);
     let unit = t.unit;
@@ -126,15 +119,9 @@ fn step(
         msum: u.msum,
         s: t.s,
     };
-    put_this(s, w);
-    catch_up(early, p, k);
-    let first = p.second;
-    let second = p.third;
-    Pending {
-        first,
-        second,
-        third: w,
-    }
+    let left = put(s, w);
+    msums[j] = u.msum;
+    lefts[j] = left;
 }
 
 // Modifiers 0 to n-1 are taken, on the machine's words and on modifier-this in sum memory.
@@ -144,16 +131,12 @@ pub fn modifiers(m: &mut [u32], s: &mut [[u32; 64]; 4], n: usize)
     ensures { λ r. ⌜ (now (m .exit) ≡ wordsAfter (now (m .entry)) (now (s .entry)) n) × (now (s .exit) ≡ set (now (s .entry)) 2 (modifierThisAfter (now (m .entry)) (now (s .entry)) n)) ⌝ }
 {
     let mut early = s[2];
-    let w = Write { msum: 0, s: 0 };
-    let mut p = Pending {
-        first: w,
-        second: w,
-        third: w,
-    };
+    let first = early[0];
+    let mut msums = [0u32; 4];
+    let mut lefts = [first, first, first, first];
     let mut k: usize = 0;
     while k < n {
-        let next = step(m, s, &mut early, p, k);
-        p = next;
+        step(m, s, &mut early, &mut msums, &mut lefts, k);
         k += 1;
     }
 }

@@ -3,10 +3,6 @@ use Rattle.modifier_stage.specs.ModifierStage.{seen}
 use borrow.Author.Needs.{needs}
 use Rattle.modifier_stage.proofs.look.Statement.{statement}
 use Rattle.modifier_stage.proofs.look.Tie as tie
-use Rattle.modifier_stage.proofs.look.Reads as reads
-use Rattle.modifier_stage.proofs.look.Lts as lts
-use Rattle.sums.proofs.quadrant_word.Reads as quadrant-word-reads
-use Rattle.sums.proofs.word_at.Reads as word-at-reads
 
 cast-i : tie.Need-cast-i
 cast-i c = search needs

@@ -3,15 +3,9 @@ use Rattle.modifier_stage.specs.ModifierStage.{modifierOf}
 use borrow.Author.Needs.{needs}
 use Rattle.modifier_stage.proofs.modifier_at.Statement.{statement}
 use Rattle.modifier_stage.proofs.modifier_at.Tie as tie
-use Rattle.modifier_stage.proofs.modifier_at.Reads as reads
-use Rattle.modifier_stage.proofs.modifier_at.Lts as lts
-use Rattle.modifier.proofs.Modifier.load.Reads as load-reads
 
-mul-at : tie.Need-mul-at
-mul-at c = search needs
-
-add-at : tie.Need-add-at
-add-at c = search needs
+place-requires : tie.Need-place-requires
+place-requires c κs = search needs
 
 mul-load : tie.Need-mul-load
 mul-load c = search needs
@@ -30,9 +24,9 @@ load-requires c κs = search needs
 
 returns : tie.Need-returns
 unfolding modifierOf
-returns c = rw (c .load .ensures, part-from)
+returns c = rw (c .load .ensures, part-from, c .before .before .place .ensures)
 
 pub modifier-at-spec : {M : Type 1} → statement M
 modifier-at-spec =
     tie.close
-    (tie.spec mul-at add-at mul-load sub-load part-load-start part-load-end load-requires returns)
+    (tie.spec place-requires mul-load sub-load part-load-start part-load-end load-requires returns)

@@ -3,15 +3,9 @@ use Rattle.modifier_stage.proofs.Registers.{put-back}
 use borrow.Author.Needs.{needs}
 use Rattle.modifier_stage.proofs.put_modifier_at.Statement.{statement}
 use Rattle.modifier_stage.proofs.put_modifier_at.Tie as tie
-use Rattle.modifier_stage.proofs.put_modifier_at.Reads as reads
-use Rattle.modifier_stage.proofs.put_modifier_at.Lts as lts
-use Rattle.modifier.proofs.Modifier.store.Reads as store-reads
 
-mul-at : tie.Need-mul-at
-mul-at c = search needs
-
-add-at : tie.Need-add-at
-add-at c = search needs
+place-requires : tie.Need-place-requires
+place-requires c κs = search needs
 
 mul-store : tie.Need-mul-store
 mul-store c = search needs
@@ -33,15 +27,16 @@ same-length c = search needs
 
 returns : tie.Need-returns
 returns c =
-    let a = c .before .before .before .before .before .args in
-    rw (c .before .before .store .ensures) (put-back (a .m .now) (a .k) (a .unit) (omega arith))
+    let s = c .before .before in
+    let p = s .before .before in
+    let a = p .before .before .args in
+    rw (s .store .ensures, p .place .ensures) (put-back (a .m .now) (a .k) (a .unit) (omega arith))
 
 pub put-modifier-at-spec : {M : Type 1} → statement M
 put-modifier-at-spec =
     tie.close
     (tie.spec
-    mul-at
-    add-at
+    place-requires
     mul-store
     sub-store
     part-store-start

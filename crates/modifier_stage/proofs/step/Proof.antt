@@ -5,13 +5,9 @@ use Rattle.modifier_stage.proofs.Stage.{turn-seen-low}
 use borrow.Author.Needs.{needs}
 use Rattle.modifier_stage.proofs.step.Statement.{statement}
 use Rattle.modifier_stage.proofs.step.Tie as tie
-use Rattle.modifier_stage.proofs.step.Reads as reads
-use Rattle.modifier_stage.proofs.step.Lts as lts
-use Rattle.modifier_stage.proofs.catch_up.Reads as catch-up-reads
-use Rattle.modifier_stage.proofs.modifier_at.Reads as modifier-at-reads
-use Rattle.modifier_stage.proofs.put_modifier_at.Reads as put-modifier-at-reads
-use Rattle.modifier_stage.proofs.put_this.Reads as put-this-reads
-use Rattle.modifier_stage.proofs.turned.Reads as turned-reads
+
+catch-up-requires : tie.Need-catch-up-requires
+catch-up-requires c κs = search needs
 
 modifier-at-requires : tie.Need-modifier-at-requires
 modifier-at-requires c κs = search needs
@@ -23,29 +19,53 @@ turned-requires c κs = rw (c .before .before .modifier-at .ensures) (loaded-ran
 put-modifier-at-requires : tie.Need-put-modifier-at-requires
 put-modifier-at-requires c κs = search needs
 
-put-this-requires : tie.Need-put-this-requires
-put-this-requires c κs =
+put-requires : tie.Need-put-requires
+put-requires c κs =
     let t = c .before .before .before .before .before .before in
     rw (t .turned .ensures, t .before .before .before .modifier-at .ensures) (turn-seen-low _ _ _ _ _ .s-low)
 
-catch-up-requires : tie.Need-catch-up-requires
-catch-up-requires c κs = search needs
+mul-msums : tie.Need-mul-msums
+mul-msums c = search needs
+
+element-write-msums : tie.Need-element-write-msums
+element-write-msums c = search needs
+
+mul-lefts : tie.Need-mul-lefts
+mul-lefts c = search needs
+
+element-write-lefts : tie.Need-element-write-lefts
+element-write-lefts c = search needs
 
 same-length : tie.Need-same-length
 same-length c = search needs
 
 returns : tie.Need-returns
 unfolding lagStep
-returns c = cc
+returns c =
+    let p = c .before .before .before .before in
+    let t = p .before .before .before in
+    let u = t .before .before .before in
+    rw (
+      c .put .ensures .1,
+      c .put .ensures .0,
+      p .put-modifier-at .ensures,
+      t .turned .ensures,
+      u .modifier-at .ensures,
+      u .before .before .catch-up .ensures,
+    )
 
 pub step-spec : {M : Type 1} → statement M
 step-spec =
     tie.close
     (tie.spec
+    catch-up-requires
     modifier-at-requires
     turned-requires
     put-modifier-at-requires
-    put-this-requires
-    catch-up-requires
+    put-requires
+    mul-msums
+    element-write-msums
+    mul-lefts
+    element-write-lefts
     same-length
     returns)

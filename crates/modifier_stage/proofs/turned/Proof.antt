@@ -2,12 +2,6 @@ use Rattle.modifier_stage.specs.ModifierStage.{turnSeen}
 use borrow.Author.Needs.{needs}
 use Rattle.modifier_stage.proofs.turned.Statement.{statement}
 use Rattle.modifier_stage.proofs.turned.Tie as tie
-use Rattle.modifier_stage.proofs.turned.Reads as reads
-use Rattle.modifier_stage.proofs.turned.Lts as lts
-use Rattle.modifier.proofs.Modifier.function.Reads as function-reads
-use Rattle.modifier_stage.proofs.look.Reads as look-reads
-use Rattle.modifiers.proofs.reads_late.Reads as reads-late-reads
-use Rattle.modifiers.proofs.turn.Reads as turn-reads
 
 index-1-late : tie.Need-index-1-late
 index-1-late c = search needs
