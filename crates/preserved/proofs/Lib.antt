@@ -1,0 +1,10 @@
+pub mod Frames
+pub mod Orders
+pub mod Turns
+pub mod SoundPuts
+pub mod Passing
+pub mod Completing
+pub mod PassSound
+pub mod PassSettings
+pub mod PassCounts
+pub mod PassesInSequence
