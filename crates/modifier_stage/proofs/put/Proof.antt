@@ -1,4 +1,5 @@
 use mathlib.Core.Path.{refl}
+use Prim.Native.Nat.{_/_}
 use borrow.Author.Tests.{eq-eqb, ne-eqb}
 use Rattle.modifier_stage.specs.ModifierStage.{written}
 use Rattle.modifier_stage.specs.Loops.{wordLeft}
@@ -26,7 +27,7 @@ index-2-s c = search needs
 
 returns : tie.Need-returns
 unfolding written wordLeft
-returns c = rw (eq-eqb _ 0 (c .before .before .before .if1 .taken), c .add20 .ensures, c .before .quadrant-word .ensures .is) (refl, refl)
+returns c = rw (eq-eqb (c .before .before .before .before .before .before .args .w .msum / 64) 0 (c .before .before .before .if1 .taken), c .add20 .ensures, c .before .quadrant-word .ensures .is) (refl, refl)
 
 mul-s-2 : tie.Need-mul-s-2
 mul-s-2 c = search needs
