@@ -1,0 +1,5 @@
+pub mod Entries
+pub mod Places
+pub mod Orders
+pub mod Mapped
+pub mod Failing
