@@ -1,63 +1,18 @@
 /* A pass in plain C beside the proved one: bench/pass builds this, and it times both in turn on the same machines.
    The C is written from the papers, on the machine's words in place, with the same questions asked. */
 #define _POSIX_C_SOURCE 199309L
-#include "karvelorn.h"
+#include "plain.h"
 #include "tables.h" /* quarter, entries: made by bench/pass from the reference */
 
 #include <stdio.h>
-#include <stdlib.h>
 #include <string.h>
-#include <time.h>
 
-#define LOW(x, w) ((x) & ((1u << (w)) - 1))
-
-enum { GO, GJ, GK, GN, GM, GP, GQ, GL, GSUM, GFM, GMODE, GENERATOR_WORDS };
-enum { M0, M1, L0, L1, MIN, MRM, MSUM, MMODE, MODIFIER_WORDS };
-enum { MODIFIERS = 2816, SUMS = 3840, DACS = 4096, DX = 4112, T, N, COUNTER, LINGERING, LINGER_PASS, OVERRUN };
-enum { GENERATOR_THIS, GENERATOR_LAST, MODIFIER_THIS, MODIFIER_LAST };
-enum { WRITE_DAC = 2, WRITE_DATA = 3, READ_DATA = 7, WAIT = 9, RUNNING_C = 13, RUNNING_B = 14, RUNNING_A = 15 };
-
-/* Bit n is 1 where run mode, oscillator mode or function n is built; where a function reads A late. */
-static const uint32_t built_run = 0xE28F, built_oscillator = 0x010F, built_function = 0x3F53BB5D, late_a = 0x0040BB10;
+/* Bit n is 1 where function n reads A late. */
+static const uint32_t late_a = 0x0040BB10;
 
 static int32_t signed20(uint32_t x) { return (int32_t)(x << 12) >> 12; }
 
-/* Questions 1 and 2. */
-
-static uint32_t bad_generators(const uint32_t *m) {
-    uint32_t bad = 0;
-    for (const uint32_t *g = m; g < m + MODIFIERS; g += GENERATOR_WORDS)
-        bad |= g[GO] >> 20 | g[GJ] >> 28 | g[GK] >> 20 | g[GN] >> 11 | g[GM] >> 4 | g[GP] >> 20 | g[GQ] >> 24 |
-               g[GL] >> 12 | g[GSUM] >> 6 | g[GFM] >> 7 | g[GMODE] >> 10 | (~built_run >> (g[GMODE] >> 6 & 15) & 1) |
-               (~built_oscillator >> (g[GMODE] & 15) & 1);
-    return bad;
-}
-
-static uint32_t bad_modifiers(const uint32_t *m) {
-    uint32_t bad = 0;
-    for (const uint32_t *u = m + MODIFIERS; u < m + SUMS; u += MODIFIER_WORDS)
-        bad |= u[M0] >> 30 | u[M1] >> 30 | u[L0] >> 20 | u[L1] >> 20 | (u[MIN] >= 192) | (u[MRM] >= 192) |
-               u[MSUM] >> 7 | u[MMODE] >> 9 | (~built_function >> (u[MMODE] >> 4 & 31) & 1);
-    return bad;
-}
-
-static int sound_machine(const uint32_t *m) {
-    uint32_t bad = bad_generators(m) | bad_modifiers(m);
-    for (int i = SUMS; i <= DX; i++) bad |= m[i] >> 20;
-    bad |= m[COUNTER] >> 20 | m[LINGER_PASS] >> 20 | m[LINGERING] >> 1 | m[OVERRUN] >> 1;
-    return !bad && m[T] >= 1 && m[T] <= 256 && m[N] >= 2 && m[N] <= 1025;
-}
-
-/* Questions 5 to 8 of a machine that is good. */
-
-static int each_once(const uint32_t *order, uint32_t t) {
-    uint8_t seen[256] = {0};
-    for (uint32_t i = 0; i < t; i++) {
-        if (order[i] >= t || seen[order[i]]) return 0;
-        seen[order[i]] = 1;
-    }
-    return 1;
-}
+/* The questions of a pass. */
 
 static uint32_t refusal(const uint32_t *m, size_t words, const uint32_t *order, size_t entries, size_t items_len,
                         size_t places_len) {
@@ -270,9 +225,6 @@ enum { ROUNDS = 1001, WARM = 200 };
 typedef uint32_t pass_function(uint32_t *, size_t, const uint32_t *, size_t, const uint32_t *, size_t, uint32_t *,
                                size_t, size_t *, size_t *);
 
-static uint32_t drawn = 1978;
-static uint32_t draw(uint32_t width) { return (drawn = drawn * 1664525 + 1013904223) >> (32 - width); }
-
 /* Sines under exponential envelopes, sticky and free in turn, and T/2 mixing modifiers. */
 static void make_machine(uint32_t *m, uint32_t t) {
     karvelorn_fresh(m, KARVELORN_WORDS);
@@ -300,12 +252,6 @@ static void make_machine(uint32_t *m, uint32_t t) {
     }
 }
 
-static double now(void) {
-    struct timespec t;
-    clock_gettime(CLOCK_MONOTONIC, &t);
-    return (double)t.tv_sec * 1e9 + (double)t.tv_nsec;
-}
-
 /* The time of one pass, from a number of passes in a row. */
 static double timed(pass_function *pass, uint32_t *m, const uint32_t *order, int passes) {
     size_t read, written;
@@ -320,16 +266,6 @@ static double timed(pass_function *pass, uint32_t *m, const uint32_t *order, int
     return (now() - start) / passes;
 }
 
-static int ascending(const void *a, const void *b) {
-    double x = *(const double *)a, y = *(const double *)b;
-    return (x > y) - (x < y);
-}
-
-static double median(double *times) {
-    qsort(times, ROUNDS, sizeof *times, ascending);
-    return times[ROUNDS / 2];
-}
-
 /* Both passes in turn, each on a machine of its own that begins alike; whether they end alike. */
 static int compare(uint32_t t, int passes) {
     static uint32_t proved[KARVELORN_WORDS], plain[KARVELORN_WORDS], order[256];
@@ -341,7 +277,7 @@ static int compare(uint32_t t, int passes) {
         double a = timed(karvelorn_pass, proved, order, passes), b = timed(plain_pass, plain, order, passes);
         if (i >= 0) proved_times[i] = a, plain_times[i] = b;
     }
-    double a = median(proved_times), b = median(plain_times);
+    double a = median(proved_times, ROUNDS), b = median(plain_times, ROUNDS);
     printf("pass at T=%u: R %.0f ns, C %.0f ns, ratio %.2f\n", t, a, b, a / b);
     if (!memcmp(proved, plain, sizeof plain)) return 1;
     printf("pass at T=%u: the machines differ\n", t);

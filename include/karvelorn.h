@@ -2,26 +2,34 @@
  *
  * The library is target/staticlib/libhost.a (made by `rt staticlib host`). It needs only memcpy and memset of the C
  * library, keeps nothing between calls, allocates nothing and prints nothing. Calls on different machines may run at
- * the same time.
+ * the same time. examples/ring_host.c is a whole host to start from.
  *
- * A run of words is a pointer to its first uint32_t and then how many words it has.
+ * A run of words is a pointer to its first uint32_t and then how many words it has. A machine is a run that the host
+ * owns; between calls the host may read and write any of its words.
  *
  * What the host must see to, for every call:
- * - each pointer is aligned for its type and has valid memory for the length that is given with it, for reading, and
- *   for writing too where it is not const; with length 0 the pointer may be NULL;
- * - what a call writes (the runs that are not const, and the counts) overlaps nothing else that is handed to the same
- *   call, and nothing else reads or writes it during the call. Runs that are const may overlap each other.
+ * - each pointer is aligned for its type;
+ * - a run has valid memory for its whole length, for reading, and for writing too where it is not const; with length 0
+ *   the pointer may be NULL;
+ * - a pointer that a call answers through (read, written, taken, equal) is not NULL and has valid memory for one. What
+ *   was there before is not looked at, and the call always sets it, in a refusal too;
+ * - what a call writes (the runs that are not const, and what it answers through) overlaps nothing else that is handed
+ *   to the same call, and nothing else reads or writes it during the call. Runs that are const may overlap each other.
  * Nothing else is asked of the host: words of any contents and runs of any length are answered, by a refusal where
  * they are not good.
  *
- * The answer of a call is 0, or the number of the first question that is answered no:
+ * Each call answers 0, or the number of the first of its questions that is answered no:
  *   1  Has the machine KARVELORN_WORDS words?
  *   2  Are all words of the machine within their width and range, with built modes and no MIN or MRM top bits 11?
+ *   3  Is the command built, its modes and addresses too, disabled fields aside?
+ *   4  Is the number of a TICKS with Q 0 at most 255?
  *   5  Has the order T entries?
  *   6  Is each number below T in the order once?
  *   7  Are there read items for all generators below T in run mode 0111?
  *   8  Are there written places for all generators below T in run mode 0011?
- * A refused call leaves every run as it was.
+ * 1 and 2 come first, then 5 and 6, then 7, then 8; 3 and 4 come as each command has its turn in an update. A refused
+ * call leaves every run as it was, but for an update that refuses a command (3 or 4): what it did before that command
+ * stays done.
  *
  * The words of a machine (a signed register is kept as its two's-complement bits, in its own width):
  *   11g ..         generator g, 0 to 255: GO (20 bits), GJ (28), GK (20), GN (11), GM (4), GP (20), GQ (24), GL (12),
@@ -37,7 +45,20 @@
  *   4116           lingering, 0 or 1
  *   4117           the Linger pass (20)
  *   4118           overrun, 0 or 1
- * Between calls the host may read and write any of them.
+ *
+ * Modes and addresses, from the left bit on:
+ *   GMODE   run mode (4 bits): 0000 inactive, 0001 pause, 0010 to a DAC (the one that GO's low 4 bits name), 0011 write
+ *           data, 0111 read data, 1001 wait, 1101, 1110 and 1111 running; envelope mode (2): 00 and 10 take Q from GL,
+ *           01 and 11 add it, 10 and 11 by the exponential; oscillator mode (4): 0000 sine of GK, 0001 sawtooth, 0010
+ *           square, 0011 pulse train, 1000 sine of GJ. Other run and oscillator modes are not built
+ *   GFM     0 generator-last or 1 modifier-last, then the word (6)
+ *   MMODE   function (5): 00000 inactive, 00010 noise, 00011 triggered noise, 00100 latch, 00110 threshold, 01000 two
+ *           poles, 01001 with M0 variable, 01011 with M1 variable, 01100 two zeros, 01101 with M0 variable, 01111 with
+ *           M1 variable, 10000 integer mixing, 10001 one pole, 10100 mixing, 10110 one zero, 11000 four-quadrant
+ *           product, 11001 amplitude modulation, 11010 maximum, 11011 minimum, 11100 signum, 11101 pulser; others are
+ *           not built. Then AA, the scale of the second multiplication (2), and BB, of the first (2)
+ *   MIN     and MRM: 00 generator-last, 01 modifier-last or 10 modifier-this, then the word (6)
+ *   MSUM    0 adds or 1 replaces, then the word of modifier-this (6)
  */
 #ifndef KARVELORN_H
 #define KARVELORN_H
@@ -55,27 +76,83 @@ extern "C" {
  *
  *   machine, words   the run, and its length: KARVELORN_WORDS
  *
- * Answers 0, or 1 where the run has another length.
+ * Answers 0, or 1 where the run has another length; it is left as it was then.
  */
 uint32_t karvelorn_fresh(uint32_t *machine, size_t words);
 
 /* One pass: generators 0 to T-1 in the given order, modifiers 0 to (T div 2)-1 by number; then both this-pass quadrants
  * of sum memory are copied to last and cleared, and 1 is added to the pass counter.
  *
- *   machine, words     the machine, and its length: KARVELORN_WORDS; the pass changes it in place
- *   order, entries     the numbers 0 to T-1, each once, in the order in which generators are taken; entries is T
- *   items, items_len   read data: the items that generators in run mode 0111 take, one each, from the first on;
- *                      of an item the low 20 bits count. There may be more than are taken
- *   places, places_len written data: where generators in run mode 0011 put their items (20 bits), one each, from the
- *                      first on. There may be more than are written; places past the last item keep their contents
- *   read, written      get how many items were read and written, both 0 in a refusal; what they held before is not
- *                      looked at. Neither may be NULL
+ *   machine, words      the machine, and its length: KARVELORN_WORDS; the pass changes it in place
+ *   order, entries      the numbers 0 to T-1, each once, in the order in which generators are taken; entries is T
+ *   items, items_len    read data: the items that generators in run mode 0111 take, one each, from the first on; of an
+ *                       item the low 20 bits count. There may be more than are taken
+ *   places, places_len  written data: where generators in run mode 0011 put their items (20 bits), one each, from the
+ *                       first on. There may be more than are written; places past the last item keep their contents
+ *   read, written       get how many items were read and written, both 0 in a refusal
  *
- * Answers 0, 1, 2, 5, 6, 7 or 8.
+ * Answers 0, 1, 2, 5, 6, 7 or 8. A refused pass changes no word of the machine and no place.
  */
 uint32_t karvelorn_pass(uint32_t *machine, size_t words, const uint32_t *order, size_t entries,
                         const uint32_t *items, size_t items_len, uint32_t *places, size_t places_len,
                         size_t *read, size_t *written);
+
+/* One update: commands change the machine between two passes. They are taken one after the other from the first on, at
+ * most N-T-8 of them (none if that is negative) by N and T as the update begins. While the machine lingers and the
+ * counter isn't the Linger pass, none is taken and nothing changes; otherwise lingering ends, and commands are taken
+ * until a Linger waits or the ticks or the commands end.
+ *
+ *   machine, words          the machine, and its length: KARVELORN_WORDS; the update changes it in place
+ *   commands, commands_len  the commands. There may be more than are taken
+ *   taken                   gets how many commands were taken. The host hands the others to its next update:
+ *                           commands + taken, commands_len - taken. A Linger that waits is taken, a refused command is
+ *                           not
+ *
+ * Answers 0, 1, 2, 3 or 4. After 1 or 2 none is taken and nothing changes. 3 and 4 are about one command,
+ * commands[taken], and are asked only when its turn comes: what the commands before it did stays done, and lingering
+ * that this update ended stays ended. The refused command and those after it do nothing. To go on after it, the host
+ * leaves it out.
+ *
+ * The commands, from the left bit on (x: not looked at; in brackets, how many bits):
+ *   data(20)                  00000 RR xx W P S   MISC: RR 01 loads DX; W makes each run mode 1001 a 1111, P each 0001
+ *   data(20)                  00010 xx TT xxx     TIMER: TT 01 sets the counter, 10 is a Linger, 11 clears the counter
+ *                                                 and is a Linger
+ *   x(10) number(10)          00011 xx 0 Q xxx    TICKS: Q 0 sets T to number + 1, Q 1 sets N to number + 2
+ *   data(20)                  001 E generator(8)  GQ, right-adjusted (E 0) or left-adjusted (E 1)
+ *   data(20)                  010 E generator(8)  GJ, right-adjusted (E 0) or left-adjusted (E 1)
+ *   data(20)                  0110 generator(8)   GP
+ *   N M xxx GN(11) GM(4)      0111 generator(8)   GN and GM: N and M disable them
+ *   L S GL(12) GSUM(6)        1000 generator(8)   GL and GSUM: L and S disable them
+ *   data(20)                  1001 generator(8)   GK
+ *   M F C GMODE(10) GFM(7)    1010 generator(8)   GMODE and GFM: M and F disable them; C clears GK
+ *   data(20)                  1011 generator(8)   GO
+ *   data(20)                  110 VV modifier(7)  M0 (VV 00), M1 (01) right-adjusted, M0 (10), M1 (11) left-adjusted
+ *   data(20)                  1110 N modifier(7)  L0 (N 0) or L1 (N 1)
+ *   M S C H MMODE(9) MSUM(7)  11110 modifier(7)   MMODE and MSUM: M disables the function, H disables AA and BB, S
+ *                                                 disables MSUM; C clears L0
+ *   R I C x MRM(8) MIN(8)     11111 modifier(7)   MRM and MIN: R and I disable them; C clears L1
+ * A right-adjusted load extends the sign; a left-adjusted one takes its low bits from DX's left and clears DX. A Linger
+ * at its pass, or 1 to 4096 passes late (modulo 2^20), doesn't wait, and a late one sets overrun; any other waits: it
+ * sets lingering and the Linger pass. Not built (3): MISC with S or with RR 10 or 11, code 00001 (DLY), TICKS with a 1
+ * in place of its 0, and modes, functions and MIN or MRM top bits that question 2 refuses, unless disabled.
+ */
+uint32_t karvelorn_update(uint32_t *machine, size_t words, const uint32_t *commands, size_t commands_len,
+                          size_t *taken);
+
+/* Whether two orders of the generators are equal, so that it makes no difference which one a pass goes by: on every
+ * machine with the settings of this one, whatever its other words hold, and with any read items, passes by the two
+ * orders leave the same value in each word of the machine and write the same items in the same sequence. Settings are
+ * T, every GMODE, GSUM and GFM, and the low 4 bits of GO of each generator in run mode 0010.
+ *
+ *   machine, words          the machine, and its length: KARVELORN_WORDS; it is only read
+ *   first, first_entries    an order: the numbers 0 to T-1, each once; first_entries is T
+ *   second, second_entries  the other order, likewise
+ *   equal                   gets 1 where the orders are equal, 0 where they are not and in a refusal
+ *
+ * Answers 0, 1, 2, 5 or 6: 5 and 6 are asked of the first order, then of the second.
+ */
+uint32_t karvelorn_compare(const uint32_t *machine, size_t words, const uint32_t *first, size_t first_entries,
+                           const uint32_t *second, size_t second_entries, uint32_t *equal);
 
 #ifdef __cplusplus
 }

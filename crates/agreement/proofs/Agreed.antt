@@ -11,13 +11,13 @@ use lib.Dec.{leb}
 use lib.ListN.{length, getD, length-map}
 use lib.Seq.{ext-getD}
 use Rattle.lists.proofs.Below.{and-first, and-second, and-both, below-at, below-from}
-use Rattle.order.proofs.Entries.{IsOrder}
 use Rattle.sequences.specs.Sequences.{keep, lastOf, before}
 use Rattle.sequences.proofs.Failing.{failing-nowhere, nowhere-failing}
 use Rattle.sequences.proofs.Entries.{last-passes}
 use Rattle.sequences.proofs.Orders.{some-from, last-below, length-keep}
 use Rattle.agreement.specs.Agreement.{Settings, replacesWord, lastReplacing, SameWord, Agreeing}
 use Rattle.agreement.specs.Points.{same, neighbourSame, feederSame, writerSame, wordSame, writersOf, neighbourPoint, feederPoint, writerPoint, wordPoint, agrees}
+use Rattle.order.specs.Order.{IsOrder}
 
 -- Truth values that are the same are equal, and the other way.
 pub same-equal : (a b : Bool) → same a b ≡ true → a ≡ b

@@ -6,11 +6,11 @@ use mathlib.Core.List.{List, map}
 use Prim.Native.Nat.{ℕ, _+_, _<_}
 use native.Mathlib.Omega.{arith}
 use lib.ListN.{getD}
-use Rattle.order.proofs.Entries.{IsOrder}
 use Rattle.sequences.specs.Sequences.{keep, lastOf, before}
 use Rattle.sequences.proofs.Orders.{some-from, last-below, keep-order-same, last-order-same}
 use Rattle.sequences.proofs.Mapped.{map-keep-same}
 use Rattle.agreement.specs.Agreement.{Settings, replacesWord, addsToWord, lastReplacing, placeReplacing, afterReplacing, SameWord, Agreeing}
+use Rattle.order.specs.Order.{IsOrder}
 
 -- The same settings of the generators below T.
 pub record Alike (s u : Settings) : Type 0 where

@@ -17,8 +17,7 @@ use Rattle.layout.specs.Layout.{machineLength, generatorAt, dacAt, quadrantAt, 
 use Rattle.modes.specs.Modes.{readData, writeData}
 use Rattle.machine.specs.Questions.{sound, asked}
 use Rattle.machine.proofs.SoundMachine.{reaches, sound-sum, sound-controls}
-use Rattle.order.specs.Order.{ticksOf, inMode, eachOnce}
-use Rattle.order.proofs.Entries.{IsOrder}
+use Rattle.order.specs.Order.{ticksOf, inMode, eachOnce, IsOrder}
 use Rattle.sums.specs.Sums.{generatorThis, generatorLast, wordAt, sumAt, sumsOf, closed}
 use Rattle.sums.proofs.Blocks.{outside-before, outside-after}
 use Rattle.sums.proofs.Memory.{Quadrants, quadrant-word, sums-quadrant, sums-quadrants}
@@ -33,10 +32,10 @@ use Rattle.preserved.proofs.Frames.{steps-length, steps-quadrants}
 use Rattle.preserved.proofs.Orders.{Distinct, distinct-order}
 use Rattle.preserved.proofs.Passing.{let-through}
 use Rattle.preserved.proofs.Completing.{sumsAfter, other-after, after-quadrants, completed-word}
-use Rattle.sequences.specs.Sequences.{keep, some}
+use Rattle.sequences.specs.Sequences.{keep, some, latest}
 use Rattle.sequences.proofs.Orders.{length-keep}
 use Rattle.agreement.specs.Agreement.{settingsOf, replacesWord, addsToWord}
-use Rattle.endings.specs.Ends.{fOf, outputAt, leftBy, wordAfter, StageEnds, PassEnds}
+use Rattle.endings.specs.Ends.{fOf, outputAt, wordAfter, StageEnds, PassEnds}
 use Rattle.endings.proofs.Folds.{replacing-left, writing-from-start, map-length, counting-kept, summing, summing-plain, summing-replaced}
 use Rattle.endings.proofs.Taking.{Taking}
 use Rattle.endings.proofs.Stage.{dac-left, places-left, writes-left, word-left}
@@ -93,7 +92,7 @@ module _ (m order items places : List ℕ) (whole : length m ≡ machineLength) 
   unfolding begun
   writes-begun = refl
 
-  stage-dac : (d : ℕ) → d < 16 → getD (steps items start order .words) (dacAt d) 0 ≡ leftBy (settingsOf m .feeds d) (fOf m) order (getD m (dacAt d) 0)
+  stage-dac : (d : ℕ) → d < 16 → getD (steps items start order .words) (dacAt d) 0 ≡ latest (settingsOf m .feeds d) (fOf m) order (getD m (dacAt d) 0)
   unfolding begun
   stage-dac d h =
       dac-left m items e d h order start taking-begun ∙ replacing-left (settingsOf m .feeds d) (fOf m) order (getD m (dacAt d) 0)

@@ -9,10 +9,10 @@ use native.Mathlib.Nat.{zero-add, add-zero, add-assoc, mod-add-mod, mod-eq-of-lt
 use lib.ListN.{length, getD, set, drop}
 use lib.Seq.{sets, sets-eq}
 use Rattle.lists.specs.Lists.{count}
-use Rattle.sequences.specs.Sequences.{keep, some, lastOf, placeOf, before}
+use Rattle.sequences.specs.Sequences.{keep, some, lastOf, placeOf, before, latest}
 use Rattle.sequences.proofs.Entries.{count-entry, none-in-front, some-first, last-passes, CutAtLast, cut-at-last}
 use Rattle.sequences.proofs.Places.{place-kept, before-itself, after-front, after-behind}
-use Rattle.endings.specs.Ends.{total, leftBy}
+use Rattle.endings.specs.Ends.{total}
 use Rattle.endings.proofs.Totals.{total-append, total-same, total-none}
 
 -- A word that the entries passing p replace one after the other by f.
@@ -21,8 +21,8 @@ module _ (p : ℕ → Bool) (f : ℕ → ℕ) where
   replacing [] x = x
   replacing (g ∷ order) x = replacing order (cond (p g) (f g) x)
 
-  pub replacing-left : (order : List ℕ) (x : ℕ) → replacing order x ≡ leftBy p f order x
-  unfolding leftBy some lastOf
+  pub replacing-left : (order : List ℕ) (x : ℕ) → replacing order x ≡ latest p f order x
+  unfolding latest some lastOf
   replacing-left [] x = refl
   replacing-left (g ∷ order) x = replacing-left order (cond (p g) (f g) x) ∙ go (p g) (some p order)
     where

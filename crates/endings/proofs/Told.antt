@@ -10,8 +10,7 @@ use lib.ListN.{length, getD, length-replicate, getD-replicate}
 use Rattle.lists.specs.Lists.{count}
 use Rattle.layout.specs.Layout.{machineLength}
 use Rattle.machine.specs.Questions.{sound}
-use Rattle.order.specs.Order.{ticksOf}
-use Rattle.order.proofs.Entries.{IsOrder}
+use Rattle.order.specs.Order.{ticksOf, IsOrder}
 use Rattle.machine.proofs.SoundMachine.{sound-controls}
 use Rattle.generator.specs.declared.Generator.{Generator}
 use Rattle.generator.specs.Generator.{triggers, after}

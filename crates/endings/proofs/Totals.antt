@@ -5,9 +5,9 @@ use mathlib.Core.List.{List, [], _∷_, _++_}
 use Prim.Native.Nat.{ℕ, suc, _+_, _<_}
 use native.Mathlib.Omega.{arith}
 use lib.ListN.{length, getD}
-use Rattle.order.proofs.Entries.{IsOrder}
 use Rattle.preserved.proofs.Orders.{sumOver, sumBelow, sum-order}
 use Rattle.endings.specs.Ends.{total}
+use Rattle.order.specs.Order.{IsOrder}
 
 pub total-append : (f : ℕ → ℕ) (xs ys : List ℕ) → total f (xs ++ ys) ≡ total f xs + total f ys
 unfolding total

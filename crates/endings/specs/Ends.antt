@@ -12,7 +12,7 @@ use Rattle.generator.specs.Generator.{pOf, triggers, after, gmodeAfter}
 use Rattle.generator_stage.specs.GeneratorStage.{State, generatorOf}
 use Rattle.order.specs.Order.{ticksOf}
 use Rattle.pass.specs.Pass.{Outcome}
-use Rattle.sequences.specs.Sequences.{keep, some, lastOf, before}
+use Rattle.sequences.specs.Sequences.{keep, some, lastOf, before, latest}
 use Rattle.agreement.specs.Agreement.{settingsOf, replacesWord, addsToWord, lastReplacing, placeReplacing, afterReplacing}
 
 -- F, P and the trigger of generator g of a machine as a pass begins.
@@ -35,10 +35,6 @@ unfoldable pub total : (ℕ → ℕ) → List ℕ → ℕ
 total f [] = 0
 total f (x ∷ xs) = f x + total f xs
 
--- A word that each entry passing a test replaces by its f: what the last one left, or what was there.
-unfoldable pub leftBy : (ℕ → Bool) → (ℕ → ℕ) → List ℕ → ℕ → ℕ
-leftBy p f order x = cond (some p order) (f (lastOf p order)) x
-
 -- Generator-this word w after the generators: what its last 0111 brought plus the adding ones after it; or, with no 0111, what was there plus all adding ones.
 unfoldable pub wordAfter : List ℕ → List ℕ → List ℕ → ℕ → ℕ
 wordAfter m items order w =
@@ -59,7 +55,7 @@ pub record Turned (words : List ℕ) (g : ℕ) (u : Generator) : Type 0 where
 -- What the generators' stage of a pass leaves where it changes something.
 pub record StageEnds (m order items places : List ℕ) (s : State) : Type 0 where
   pub own : (g : ℕ) → g < ticksOf m → Turned (s .words) g (after (generatorOf m g) (fOf m g) (toldIn m order g))
-  pub dac : (d : ℕ) → d < 16 → getD (s .words) (dacAt d) 0 ≡ leftBy (settingsOf m .feeds d) (fOf m) order (getD m (dacAt d) 0)
+  pub dac : (d : ℕ) → d < 16 → getD (s .words) (dacAt d) 0 ≡ latest (settingsOf m .feeds d) (fOf m) order (getD m (dacAt d) 0)
   pub sum : (w : ℕ) → w < 64 → getD (getD (s .sums) generatorThis []) w 0 ≡ wordAfter m items order w
   pub sent : s .places ≡ map (fOf m) (keep (settingsOf m .writes) order) ++ drop (length (keep (settingsOf m .writes) order)) places
   pub writes : s .writes ≡ length (keep (settingsOf m .writes) order)
@@ -67,6 +63,6 @@ pub record StageEnds (m order items places : List ℕ) (s : State) : Type 0 wher
 -- What a pass leaves, as far as two orders can be told apart by it.
 pub record PassEnds (m order items : List ℕ) (r : Outcome) : Type 0 where
   pub gmode : (g : ℕ) → g < ticksOf m → getD (r .machine) (generatorAt g + 10) 0 ≡ gmodeAfter (generatorOf m g) (toldIn m order g)
-  pub dac : (d : ℕ) → d < 16 → getD (r .machine) (dacAt d) 0 ≡ leftBy (settingsOf m .feeds d) (fOf m) order (getD m (dacAt d) 0)
+  pub dac : (d : ℕ) → d < 16 → getD (r .machine) (dacAt d) 0 ≡ latest (settingsOf m .feeds d) (fOf m) order (getD m (dacAt d) 0)
   pub word : (w : ℕ) → w < 64 → getD (r .machine) (quadrantAt generatorLast + w) 0 ≡ wordAfter m items order w
   pub written : take (r .written) (r .places) ≡ map (fOf m) (keep (settingsOf m .writes) order)

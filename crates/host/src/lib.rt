@@ -1,7 +1,11 @@
 // What a host in C calls: the proved library on numbers and runs of words. include/karvelorn.h says it in C.
 ghost use mathlib.Core.Path.{_≡_};
+ghost use lib.ListN.{drop};
 ghost use Rattle.machine.specs.Questions.{freshAnswer, freshRun};
 ghost use Rattle.pass.specs.Pass.{passOf, answered};
+ghost use Rattle.update.specs.Update.{outcome, updateOf, takenCount};
+ghost use mathlib.Core.Bool.{cond};
+ghost use Rattle.agreement.specs.Points.{compareOf};
 
 // A fresh machine.
 #[no_mangle]
@@ -28,4 +32,32 @@ pub extern "C" fn karvelorn_pass(
     *read = done.read;
     *written = done.written;
     done.number
+}
+
+// An update. The answer is the number of the refusing question or 0; taken gets how many commands were.
+#[no_mangle]
+pub extern "C" fn karvelorn_update(m: &mut [u32], commands: &[u32], taken: &mut usize) -> u32
+    ensures { λ r. ⌜ outcome r (now (m .exit)) (drop (now (taken .exit)) (now (commands .entry))) ≡ updateOf (now (m .entry)) (now (commands .entry)) ⌝ }
+    ensures { λ _. ⌜ now (taken .exit) ≡ takenCount (now (m .entry)) (now (commands .entry)) ⌝ }
+{
+    let mut number: u32 = 0;
+    let left = update::update(m, commands, &mut number);
+    *taken = commands.len() - left.len();
+    number
+}
+
+// Whether two orders are equal. The answer is the number of the refusing question or 0; equal gets 1 where they are, else 0.
+#[no_mangle]
+pub extern "C" fn karvelorn_compare(
+    m: &[u32],
+    first: &[u32],
+    second: &[u32],
+    equal: &mut u32,
+) -> u32
+    ensures { λ r. ⌜ r ≡ compareOf (now (m .entry)) (now (first .entry)) (now (second .entry)) .number ⌝ }
+    ensures { λ _. ⌜ now (equal .exit) ≡ cond (compareOf (now (m .entry)) (now (first .entry)) (now (second .entry)) .equal) 1 0 ⌝ }
+{
+    let told = compare::compare(m, first, second);
+    *equal = told.equal as u32;
+    told.number
 }

@@ -4,3 +4,4 @@ pub mod Regions
 pub mod Sweep
 pub mod SoundMachine
 pub mod FreshMachine
+pub mod Asked

@@ -51,7 +51,7 @@ fn built_mmode(mmode: u32) -> bool
 }
 
 // Eight bits, the top two not 11.
-fn built_address(address: u32) -> bool
+pub fn built_address(address: u32) -> bool
     ensures { λ r. ⌜ r ≡ goodAddress address ⌝ }
 {
     address < 192

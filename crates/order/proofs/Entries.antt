@@ -12,19 +12,14 @@ use Rattle.lists.specs.Lists.{count}
 use Rattle.lists.proofs.Below.{below-at}
 use Rattle.lists.proofs.Counts.{once-below}
 use Rattle.machine.specs.Questions.{asked}
-use Rattle.order.specs.Order.{question5, question6, eachOnce}
+use Rattle.order.specs.Order.{question5, question6, eachOnce, IsOrder}
 
 -- Question 6 answered yes: each number below t is there once.
 pub once-each : (t : ℕ) (order : List ℕ) → eachOnce t order ≡ true → (k : ℕ) → k < t → count k order ≡ 1
 unfolding eachOnce
 once-each t order e k h = eqb-true (count k order) 1 (below-at (λ g. eqb (count g order) 1) t e k h)
 
--- Questions 5 and 6 answered yes: t entries, each number below t there once, and each entry below t.
-pub record IsOrder (t : ℕ) (order : List ℕ) : Type 0 where
-  pub entries : length order ≡ t
-  pub once : (k : ℕ) → k < t → count k order ≡ 1
-  pub below : (i : ℕ) → i < length order → getD order i 0 < t
-
+-- Questions 5 and 6 answered yes.
 pub order-passes : (t : ℕ) (order : List ℕ) → asked (question5 t order ∷ question6 t order ∷ []) ≡ 0 → IsOrder t order
 unfolding asked
 order-passes t order e = by-length (eqb (length order) t) (eachOnce t order) refl refl e where

@@ -1,6 +1,6 @@
 -- An order of the generators, and the generators of a run mode (document 01, "A pass, and two orders of it" and "Questions at the door").
 -- Assumes nothing.
-use Prim.Native.Nat.{ℕ, _/_, _^_, _+_}
+use Prim.Native.Nat.{ℕ, _/_, _^_, _+_, _<_}
 use mathlib.Core.Bool.{Bool}
 use mathlib.Core.List.{List}
 use lib.Dec.{eqb, leb}
@@ -8,6 +8,7 @@ use lib.ListN.{length, getD}
 use Rattle.lists.specs.Lists.{allBelow, count, countBelow}
 use Rattle.layout.specs.Layout.{generatorAt, tAt}
 use Rattle.machine.specs.Questions.{Question}
+use mathlib.Core.Path.{_≡_}
 
 -- T of a machine.
 abbrev pub ticksOf : List ℕ → ℕ
@@ -27,6 +28,12 @@ eachOnce t order = allBelow (λ g. eqb (count g order) 1) t
 
 abbrev pub question6 : ℕ → List ℕ → Question
 question6 t order = record { number = 6; yes = eachOnce t order }
+
+-- An order that passes questions 5 and 6: t entries, each number below t there once, and each entry below t.
+pub record IsOrder (t : ℕ) (order : List ℕ) : Type 0 where
+  pub entries : length order ≡ t
+  pub once : (k : ℕ) → k < t → count k order ≡ 1
+  pub below : (i : ℕ) → i < length order → getD order i 0 < t
 
 -- How many generators below T are in a run mode.
 unfoldable pub inMode : List ℕ → ℕ → ℕ

@@ -13,8 +13,7 @@ use lib.Seq.{ext-getD, getD-drop}
 use Rattle.layout.specs.Layout.{generatorAt, dacAt}
 use Rattle.modes.specs.Modes.{wait, free}
 use Rattle.machine.proofs.SoundMachine.{reaches, sound-controls}
-use Rattle.order.specs.Order.{ticksOf, runModeAt}
-use Rattle.order.proofs.Entries.{IsOrder}
+use Rattle.order.specs.Order.{ticksOf, runModeAt, IsOrder}
 use Rattle.sums.specs.Sums.{fAt, sumAt, sumsOf}
 use Rattle.sums.proofs.Memory.{Quadrants, sums-quadrants}
 use Rattle.generator.specs.declared.Generator.{Generator}
@@ -23,12 +22,12 @@ use Rattle.generator_stage.specs.GeneratorStage.{State, generatorOf, steps, beg
 use Rattle.preserved.proofs.Frames.{Setting, apart-other, step-below, steps-keep, steps-length, steps-quadrant, steps-quadrants, steps-middle, steps-beyond, steps-setting}
 use Rattle.preserved.proofs.Passing.{begun-sums}
 use Rattle.preserved.proofs.PassCounts.{run-mode-loaded}
-use Rattle.sequences.specs.Sequences.{keep, some, lastOf, before}
+use Rattle.sequences.specs.Sequences.{keep, some, lastOf, before, latest}
 use Rattle.sequences.proofs.Entries.{last-passes}
 use Rattle.sequences.proofs.Orders.{last-below, some-orders}
 use Rattle.sequences.proofs.Mapped.{map-same}
 use Rattle.agreement.specs.Agreement.{gfmAt, settingsOf, replacesWord, addsToWord, lastReplacing, placeReplacing, afterReplacing, SameWord, Agree}
-use Rattle.endings.specs.Ends.{fOf, outputAt, triggersAt, toldIn, total, leftBy, wordAfter, Turned, StageEnds}
+use Rattle.endings.specs.Ends.{fOf, outputAt, triggersAt, toldIn, total, wordAfter, Turned, StageEnds}
 use Rattle.endings.proofs.Totals.{total-orders}
 use Rattle.orders.specs.Equal.{Good}
 
@@ -39,8 +38,8 @@ f-by-gfm m g = ap (λ (x : ℕ). fAt (sumsOf m) (x % 2 ^ 7)) (getD-drop (generat
 
 -- What the last one that passes leaves, by two orders of the same numbers.
 left-same : (t : ℕ) (o₁ o₂ : List ℕ) → IsOrder t o₁ → IsOrder t o₂ → (p : ℕ → Bool) (f : ℕ → ℕ) (x : ℕ)
-    → (some p o₁ ≡ true → f (lastOf p o₁) ≡ f (lastOf p o₂)) → leftBy p f o₁ x ≡ leftBy p f o₂ x
-unfolding leftBy
+    → (some p o₁ ≡ true → f (lastOf p o₁) ≡ f (lastOf p o₂)) → latest p f o₁ x ≡ latest p f o₂ x
+unfolding latest
 left-same t o₁ o₂ is₁ is₂ p f x h = rw (← (some-orders t o₁ o₂ (is₁ .once) (is₂ .once) (is₁ .below) (is₂ .below) p)) (go (some p o₁) refl)
   where
     go : (b : Bool) → some p o₁ ≡ b → cond b (f (lastOf p o₁)) x ≡ cond b (f (lastOf p o₂)) x

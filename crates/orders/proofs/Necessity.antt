@@ -13,17 +13,16 @@ use Rattle.modes.specs.Modes.{readData, writeData, wait, runningC}
 use Rattle.machine.specs.Questions.{zeros, sound}
 use Rattle.machine.proofs.FreshMachine.{zeros-length, zeros-at}
 use Rattle.machine.proofs.SoundMachine.{sound-controls}
-use Rattle.order.specs.Order.{ticksOf, runModeAt, inMode}
-use Rattle.order.proofs.Entries.{IsOrder}
+use Rattle.order.specs.Order.{ticksOf, runModeAt, inMode, IsOrder}
 use Rattle.sums.specs.Sums.{generatorLast}
 use Rattle.generator.specs.declared.Generator.{Generator}
 use Rattle.generator.specs.Generator.{runMode, withRunMode, gmodeAfter}
 use Rattle.generator_stage.specs.GeneratorStage.{generatorOf}
 use Rattle.pass.specs.Pass.{passOf}
 use Rattle.preserved.proofs.PassCounts.{run-mode-loaded}
-use Rattle.sequences.specs.Sequences.{keep, lastOf, before}
+use Rattle.sequences.specs.Sequences.{keep, lastOf, before, latest}
 use Rattle.agreement.specs.Agreement.{settingsOf, gfmAt, replacesWord, addsToWord, lastReplacing, placeReplacing, afterReplacing, SameWord, Agree}
-use Rattle.endings.specs.Ends.{fOf, outputAt, toldIn, leftBy, wordAfter, PassEnds}
+use Rattle.endings.specs.Ends.{fOf, outputAt, toldIn, wordAfter, PassEnds}
 use Rattle.endings.proofs.Ends.{pass-ends}
 use Rattle.witnesses.specs.Witnesses.{triggersWitness, sourcesWitness, soundingWitness, silentWitness, silentItems, countingItems}
 use Rattle.witnesses.proofs.Contents.{Alike}
@@ -103,7 +102,7 @@ module _ (m : List ℕ) (good : Good m) (o₁ o₂ : List ℕ) (is₁ : IsOrder 
         ∙ ends o₂ is₂ .gmode g (omega (arith, a .ticks))
 
     dacs-same : (d : ℕ) → d < 16
-        → leftBy (settingsOf n .feeds d) (fOf n) o₁ (getD n (dacAt d) 0) ≡ leftBy (settingsOf n .feeds d) (fOf n) o₂ (getD n (dacAt d) 0)
+        → latest (settingsOf n .feeds d) (fOf n) o₁ (getD n (dacAt d) 0) ≡ latest (settingsOf n .feeds d) (fOf n) o₂ (getD n (dacAt d) 0)
     dacs-same d h = sym (ends o₁ is₁ .dac d h) ∙ ap (λ (x : List ℕ). getD x (dacAt d) 0) (same .machine) ∙ ends o₂ is₂ .dac d h
 
     written-same : map (fOf n) (keep (settingsOf n .writes) o₁) ≡ map (fOf n) (keep (settingsOf n .writes) o₂)

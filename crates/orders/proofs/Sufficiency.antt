@@ -6,8 +6,7 @@ use Prim.Native.Nat.{ℕ, _/_, _≤_}
 use lib.ListN.{length, take}
 use Rattle.modes.specs.Modes.{readData, writeData}
 use Rattle.machine.proofs.SoundMachine.{sound-controls}
-use Rattle.order.specs.Order.{ticksOf, inMode}
-use Rattle.order.proofs.Entries.{IsOrder}
+use Rattle.order.specs.Order.{ticksOf, inMode, IsOrder}
 use Rattle.generator_stage.specs.GeneratorStage.{steps, begun}
 use Rattle.pass.specs.Pass.{completed, ran, passOf}
 use Rattle.agreement.specs.Agreement.{Agree}

@@ -8,8 +8,7 @@ use native.Mathlib.Omega.{arith}
 use borrow.Author.Tests.{eqb-true}
 use lib.Dec.{eqb}
 use Rattle.modes.specs.Modes.{wait, writeData, writeDAC, free, adds, replaces}
-use Rattle.order.specs.Order.{ticksOf, runModeAt}
-use Rattle.order.proofs.Entries.{IsOrder}
+use Rattle.order.specs.Order.{ticksOf, runModeAt, IsOrder}
 use Rattle.agreement.specs.Agreement.{dacNumberAt, settingsOf, Agree}
 use Rattle.agreement.proofs.Alike.{Alike, agreeing-alike}
 use Rattle.orders.specs.Equal.{SameSettings}

@@ -24,8 +24,8 @@ use Rattle.modes.proofs.RunModes.{replaces-alone}
 use Rattle.machine.specs.Questions.{regions, testAt, asked, goodGmode, zeros, freshMachine}
 use Rattle.machine.proofs.SoundMachine.{sound-set, sound-generator}
 use Rattle.machine.proofs.FreshMachine.{fresh-length, fresh-sound}
-use Rattle.order.specs.Order.{ticksOf, runModeAt, eachOnce, question5, question6}
-use Rattle.order.proofs.Entries.{IsOrder, order-passes}
+use Rattle.order.specs.Order.{ticksOf, runModeAt, eachOnce, question5, question6, IsOrder}
+use Rattle.order.proofs.Entries.{order-passes}
 use Rattle.sequences.specs.Sequences.{keep, some, lastOf, placeOf, before}
 use Rattle.sequences.proofs.Orders.{some-from, last-below}
 use Rattle.agreement.specs.Agreement.{gsumAt, gfmAt, dacNumberAt, settingsOf, replacesWord, addsToWord, lastReplacing, afterReplacing, SameWord, Agree}

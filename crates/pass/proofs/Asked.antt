@@ -16,40 +16,15 @@ use Rattle.order.specs.Order.{ticksOf, question5, question6, question7, questio
 use Rattle.order.proofs.Entries.{order-passes}
 use Rattle.generator_stage.specs.Loops.{Ready, Numbers}
 use Rattle.pass.specs.Pass.{passRefusal}
-
-module _ (a b : Question) (qs : List Question) where
-  -- A no among the first two is the answer.
-  pub asked-first : {n : ℕ} → n ≡ asked (a ∷ b ∷ []) → n ≢ 0 → n ≡ asked (a ∷ b ∷ qs)
-  unfolding asked
-  asked-first {n} e h = go (a .yes) (b .yes) e
-    where
-      go : (x y : Bool) → n ≡ cond x (cond y 0 (b .number)) (a .number) → n ≡ cond x (cond y (asked qs) (b .number)) (a .number)
-      go true true p = absurd (h p)
-      go true false p = p
-      go false y p = p
-
-  -- Two questions that are answered yes.
-  module _ (ha : a .number ≢ 0) (hb : b .number ≢ 0) (e : asked (a ∷ b ∷ []) ≡ 0) where
-    pub both-yes : (a .yes ≡ true) × (b .yes ≡ true)
-    unfolding asked
-    both-yes = go (a .yes) (b .yes) e
-      where
-        go : (x y : Bool) → cond x (cond y 0 (b .number)) (a .number) ≡ 0 → (x ≡ true) × (y ≡ true)
-        go true true p = (refl, refl)
-        go true false p = absurd (hb p)
-        go false y p = absurd (ha p)
-
-    pub asked-later : asked (a ∷ b ∷ qs) ≡ asked qs
-    unfolding asked
-    asked-later = rw (both-yes .0, both-yes .1)
+use Rattle.machine.proofs.Asked.{asked-first, asked-later, machine-passes}
 
 -- What a pass may rely on once its questions are answered yes.
 module _ (m order : List ℕ) (whole : asked (question1 m ∷ question2 m ∷ []) ≡ 0) where
   pub is-sound : sound m ≡ true
-  is-sound = both-yes (question1 m) (question2 m) [] (λ e. omega arith) (λ e. omega arith) whole .1
+  is-sound = machine-passes m whole .1
 
   pub is-whole : length m ≡ machineLength
-  is-whole = eqb-true (length m) machineLength (both-yes (question1 m) (question2 m) [] (λ e. omega arith) (λ e. omega arith) whole .0)
+  is-whole = machine-passes m whole .0
 
   pub few-ticks : ticksOf m ≤ 256
   few-ticks = sound-controls m is-sound .tHigh

@@ -11,7 +11,7 @@ use borrow.Author.Tests.{eqb-true, eqb-false, eq-eqb, ne-eqb, ltb-true, ltb-fals
 use lib.Dec.{eqb, ltb}
 use lib.ListN.{length, getD}
 use Rattle.lists.specs.Lists.{count, countBelow}
-use Rattle.order.proofs.Entries.{IsOrder}
+use Rattle.order.specs.Order.{IsOrder}
 
 -- The sum of f at the entries of a list, and at the numbers below n.
 abbrev pub sumOver : (ℕ → ℕ) → List ℕ → ℕ

@@ -9,8 +9,8 @@ use lib.Dec.{eqb}
 use lib.ListN.{length, getD}
 use Rattle.layout.specs.Layout.{machineLength}
 use Rattle.machine.specs.Questions.{sound}
-use Rattle.order.specs.Order.{ticksOf}
-use Rattle.order.proofs.Entries.{IsOrder, order-passes}
+use Rattle.order.specs.Order.{ticksOf, IsOrder}
+use Rattle.order.proofs.Entries.{order-passes}
 use Rattle.sums.specs.Sums.{sumsOf}
 use Rattle.generator_stage.specs.GeneratorStage.{State, steps, begun}
 use Rattle.pass.specs.Pass.{Outcome, completed, ran, refused, passRefusal, passOf}

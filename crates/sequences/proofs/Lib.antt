@@ -3,3 +3,4 @@ pub mod Places
 pub mod Orders
 pub mod Mapped
 pub mod Failing
+pub mod Loops

@@ -20,6 +20,10 @@ unfoldable pub lastOf : (ℕ → Bool) → List ℕ → ℕ
 lastOf p [] = 0
 lastOf p (x ∷ xs) = cond (some p xs) (lastOf p xs) (cond (p x) x 0)
 
+-- What f gives for the last entry that passes a test; v where none does.
+unfoldable pub latest : (ℕ → Bool) → (ℕ → ℕ) → List ℕ → ℕ → ℕ
+latest p f xs v = cond (some p xs) (f (lastOf p xs)) v
+
 -- The place of a number in a list, from 0: how many entries stand before it.
 unfoldable pub placeOf : ℕ → List ℕ → ℕ
 placeOf g [] = 0

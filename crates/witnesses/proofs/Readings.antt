@@ -16,18 +16,17 @@ use Rattle.modes.specs.Modes.{free}
 use Rattle.modes.proofs.RunModes.{replaces-alone}
 use Rattle.machine.specs.Questions.{sound}
 use Rattle.machine.proofs.SoundMachine.{sound-controls}
-use Rattle.order.specs.Order.{ticksOf, runModeAt}
-use Rattle.order.proofs.Entries.{IsOrder}
+use Rattle.order.specs.Order.{ticksOf, runModeAt, IsOrder}
 use Rattle.generator.proofs.Registers.{p-low}
 use Rattle.generator_stage.specs.GeneratorStage.{generatorOf}
 use Rattle.preserved.proofs.Orders.{sum-below-one}
-use Rattle.sequences.specs.Sequences.{keep, some, lastOf, before}
+use Rattle.sequences.specs.Sequences.{keep, some, lastOf, before, latest}
 use Rattle.sequences.proofs.Entries.{keep-count, last-passes, last-entry}
 use Rattle.sequences.proofs.Places.{place-inside}
 use Rattle.sequences.proofs.Orders.{some-from, last-below, length-keep}
 use Rattle.agreement.specs.Agreement.{settingsOf, gfmAt, replacesWord, addsToWord, lastReplacing, placeReplacing, afterReplacing}
 use Rattle.endings.proofs.Totals.{total-none, total-order}
-use Rattle.endings.specs.Ends.{fOf, outputAt, toldIn, leftBy, wordAfter}
+use Rattle.endings.specs.Ends.{fOf, outputAt, toldIn, wordAfter}
 use Rattle.witnesses.specs.Witnesses.{triggersWitness, sourcesWitness, soundingWitness, silentWitness, silentItems, countingItems}
 use Rattle.witnesses.proofs.Triggers.{triggers-free}
 use Rattle.witnesses.proofs.Sources.{sources-alike, sources-f}
@@ -51,8 +50,8 @@ module _ (m : List ℕ) (e : sound m ≡ true) (order : List ℕ) (o : IsOrder (
 
   -- From the second: a DAC that is fed has the GFM of its last feeder, and the written data are the GFMs of the writers.
   pub fed-is : (d g x : ℕ) → g < ticksOf m → settingsOf m .feeds d g ≡ true
-      → leftBy (settingsOf (sourcesWitness m) .feeds d) (fOf (sourcesWitness m)) order x ≡ gfmAt m (lastOf (settingsOf m .feeds d) order)
-  unfolding leftBy
+      → latest (settingsOf (sourcesWitness m) .feeds d) (fOf (sourcesWitness m)) order x ≡ gfmAt m (lastOf (settingsOf m .feeds d) order)
+  unfolding latest
   fed-is d g x h f =
       let fed = some-from (ticksOf m) order (o .once) (o .below) (settingsOf m .feeds d) g h f in
       left-same m (sourcesWitness m) (sources-alike m e) (ticksOf m) few order o d (fOf (sourcesWitness m)) x

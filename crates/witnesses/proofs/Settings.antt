@@ -6,13 +6,13 @@ use mathlib.Core.List.{List, [], _∷_, map}
 use Prim.Native.Nat.{ℕ, suc, _+_, _%_, _^_, _≤_, _<_}
 use native.Mathlib.Omega.{arith}
 use lib.ListN.{length, getD}
-use Rattle.order.proofs.Entries.{IsOrder}
-use Rattle.sequences.specs.Sequences.{keep, some}
+use Rattle.sequences.specs.Sequences.{keep, some, latest}
 use Rattle.sequences.proofs.Orders.{keep-order-same, some-order-same, last-order-same}
 use Rattle.agreement.specs.Agreement.{settingsOf, replacesWord, addsToWord, lastReplacing, placeReplacing, afterReplacing}
 use Rattle.endings.proofs.Totals.{total-same}
-use Rattle.endings.specs.Ends.{total, outputAt, leftBy, wordAfter}
+use Rattle.endings.specs.Ends.{total, outputAt, wordAfter}
 use Rattle.witnesses.proofs.Contents.{Alike}
+use Rattle.order.specs.Order.{IsOrder}
 
 -- Values at the entries that pass, by two tests and two rules that are equal at each entry.
 pub kept-values-same : (f h : ℕ → ℕ) (p q : ℕ → Bool) (xs : List ℕ) → ((i : ℕ) → i < length xs → f (getD xs i 0) ≡ h (getD xs i 0))
@@ -44,8 +44,8 @@ module _ (m n : List ℕ) (a : Alike m n) where
 
   module _ (t : ℕ) (few : t ≤ 256) (order : List ℕ) (o : IsOrder t order) where
     -- A word, or a DAC, that is left by the last of its generators.
-    pub left-same : (d : ℕ) (f : ℕ → ℕ) (x : ℕ) → leftBy (settingsOf n .feeds d) f order x ≡ leftBy (settingsOf m .feeds d) f order x
-    unfolding leftBy
+    pub left-same : (d : ℕ) (f : ℕ → ℕ) (x : ℕ) → latest (settingsOf n .feeds d) f order x ≡ latest (settingsOf m .feeds d) f order x
+    unfolding latest
     left-same d f x =
         rw (
           some-order-same t order (o .once) (o .below) (settingsOf n .feeds d) (settingsOf m .feeds d) (λ g h. feeds-same d g (omega arith)),

@@ -1,0 +1,202 @@
+/* A compare in plain C beside the proved one: bench/compare builds this. It asks both about the same orders, then times both in turn.
+   The C is written from the papers, in time linear in T, with the same questions asked. */
+#define _POSIX_C_SOURCE 199309L
+#include "plain.h"
+
+#include <stdio.h>
+#include <string.h>
+
+/* The questions of a compare. */
+static uint32_t refusal(const uint32_t *m, size_t words, const uint32_t *first, size_t first_len,
+                        const uint32_t *second, size_t second_len) {
+    if (words != KARVELORN_WORDS) return 1;
+    if (!sound_machine(m)) return 2;
+    if (first_len != m[T]) return 5;
+    if (!each_once(first, m[T])) return 6;
+    if (second_len != m[T]) return 5;
+    if (!each_once(second, m[T])) return 6;
+    return 0;
+}
+
+/* What the four points need of an order; last and fed are 0 where there is none. */
+typedef struct {
+    uint8_t at[256];                         /* the place of each generator */
+    uint32_t fed[16];                        /* GFM of each DAC's last feeder */
+    uint32_t written[256], writes;           /* GFMs of the written data */
+    uint32_t last[64], among[64], replacing; /* each word's last 0111, plus 1, and its place among all 0111s */
+} trace;
+
+static void follow(const uint32_t *m, const uint32_t *order, trace *o) {
+    uint32_t t = m[T];
+    memset(o->fed, 0, sizeof o->fed);
+    memset(o->last, 0, sizeof o->last);
+    memset(o->among, 0, sizeof o->among);
+    o->writes = o->replacing = 0;
+    for (uint32_t i = 0; i < t; i++) {
+        uint32_t n = order[i], run;
+        const uint32_t *g = m + GENERATOR_WORDS * n;
+        run = g[GMODE] >> 6;
+        o->at[n] = (uint8_t)i;
+        if (run == WRITE_DAC) {
+            o->fed[g[GO] & 15] = g[GFM];
+        } else if (run == WRITE_DATA) {
+            o->written[o->writes++] = g[GFM];
+        } else if (run == READ_DATA) {
+            o->last[g[GSUM]] = n + 1;
+            o->among[g[GSUM]] = o->replacing++;
+        }
+    }
+}
+
+static int same_side(const trace *a, const trace *b, uint32_t g, uint32_t h) {
+    return (a->at[g] < a->at[h]) == (b->at[g] < b->at[h]);
+}
+
+static int neighbours_agree(const uint32_t *m, const trace *a, const trace *b) {
+    for (uint32_t g = 1; g < m[T]; g++) {
+        uint32_t lower = m[GENERATOR_WORDS * (g - 1) + GMODE] >> 6;
+        if (m[GENERATOR_WORDS * g + GMODE] >> 6 == WAIT && (lower == RUNNING_B || lower == RUNNING_C) &&
+            !same_side(a, b, g - 1, g))
+            return 0;
+    }
+    return 1;
+}
+
+static int words_agree(const uint32_t *m, const trace *a, const trace *b) {
+    if (memcmp(a->last, b->last, sizeof a->last) || memcmp(a->among, b->among, sizeof a->among)) return 0;
+    for (uint32_t i = 0; i < m[T]; i++) {
+        const uint32_t *g = m + GENERATOR_WORDS * i;
+        uint32_t last = a->last[g[GSUM]];
+        if (g[GMODE] >> 6 >= RUNNING_C && last && !same_side(a, b, last - 1, i)) return 0;
+    }
+    return 1;
+}
+
+__attribute__((noinline)) uint32_t plain_compare(const uint32_t *m, size_t words, const uint32_t *first,
+                                                 size_t first_len, const uint32_t *second, size_t second_len,
+                                                 uint32_t *equal) {
+    trace a, b;
+    uint32_t number = refusal(m, words, first, first_len, second, second_len);
+    *equal = 0;
+    if (number) return number;
+    follow(m, first, &a);
+    follow(m, second, &b);
+    *equal = neighbours_agree(m, &a, &b) && !memcmp(a.fed, b.fed, sizeof a.fed) &&
+             !memcmp(a.written, b.written, a.writes * sizeof *a.written) && words_agree(m, &a, &b);
+    return 0;
+}
+
+/* Machines and orders. */
+
+static const uint32_t runs[16] = {RUNNING_A, RUNNING_B, RUNNING_C, WAIT,      RUNNING_A, RUNNING_B, WRITE_DAC, WRITE_DATA,
+                                  READ_DATA, RUNNING_A, WAIT,      RUNNING_B, RUNNING_C, READ_DATA, 0,         1};
+
+/* Generators in all run modes, on `words` sum words, through `sources` GFMs. */
+static void make_machine(uint32_t *m, uint32_t t, uint32_t words, uint32_t sources) {
+    karvelorn_fresh(m, KARVELORN_WORDS);
+    m[T] = t;
+    for (uint32_t i = 0; i < t; i++) {
+        uint32_t *g = m + GENERATOR_WORDS * i;
+        g[GO] = draw(20);
+        g[GSUM] = draw(16) % words;
+        g[GFM] = draw(16) % sources;
+        g[GMODE] = runs[draw(4)] << 6;
+    }
+}
+
+static void exchange(uint32_t *order, uint32_t i, uint32_t j) {
+    uint32_t n = order[i];
+    order[i] = order[j];
+    order[j] = n;
+}
+
+static void make_order(uint32_t *order, uint32_t t) {
+    for (uint32_t i = 0; i < t; i++) order[i] = i;
+    for (uint32_t i = t - 1; i; i--) exchange(order, i, draw(16) % (i + 1));
+}
+
+/* Exchanges neighbours in an order; where plain C says that it still equals the other, the exchange stays. */
+static void move_on(const uint32_t *m, const uint32_t *other, uint32_t *order, int times) {
+    uint32_t t = m[T], equal;
+    for (int k = 0; k < times && t > 1; k++) {
+        uint32_t i = draw(16) % (t - 1);
+        exchange(order, i, i + 1);
+        plain_compare(m, KARVELORN_WORDS, other, t, order, t, &equal);
+        if (!equal) exchange(order, i, i + 1);
+    }
+}
+
+/* Both answer alike: small machines, of which many orders are equal, some of them not good, and orders of which some are not good. */
+static int alike(int cases) {
+    static uint32_t m[KARVELORN_WORDS];
+    uint32_t first[32], second[32], yes = 0;
+    for (int i = 0; i < cases; i++) {
+        uint32_t t = 1 + draw(3), equal[2], number[2];
+        size_t words = KARVELORN_WORDS - (draw(6) == 0), first_len = t, second_len = t;
+        make_machine(m, t, 1 + draw(2), 1 + draw(2));
+        make_order(first, t);
+        memcpy(second, first, sizeof second);
+        move_on(m, first, second, draw(2));
+        if (t > 1 && draw(1)) exchange(second, draw(16) % t, draw(16) % t);
+        if (draw(6) == 0) m[draw(16) % KARVELORN_WORDS] = draw(32);
+        if (draw(5) == 0) first[draw(16) % t] = draw(3);
+        if (draw(5) == 0) second[draw(16) % t] = draw(3);
+        if (draw(5) == 0) first_len--;
+        if (draw(5) == 0) second_len--;
+        number[0] = karvelorn_compare(m, words, first, first_len, second, second_len, &equal[0]);
+        number[1] = plain_compare(m, words, first, first_len, second, second_len, &equal[1]);
+        if (number[0] != number[1] || equal[0] != equal[1]) {
+            printf("compare: R answers %u and %u, C %u and %u\n", number[0], equal[0], number[1], equal[1]);
+            return 0;
+        }
+        yes += equal[0];
+    }
+    printf("compare: %d cases alike, %u of them equal\n", cases, yes);
+    return 1;
+}
+
+/* The timing. */
+
+enum { ROUNDS = 1001, WARM = 200 };
+
+typedef uint32_t compare_function(const uint32_t *, size_t, const uint32_t *, size_t, const uint32_t *, size_t, uint32_t *);
+
+/* The time of one compare, from a number of them in a row. */
+static double timed(compare_function *compare, const uint32_t *m, const uint32_t *first, const uint32_t *second, int times) {
+    uint32_t equal, all = 1, refused = 0;
+    double start = now();
+    for (int i = 0; i < times; i++) {
+        refused |= compare(m, KARVELORN_WORDS, first, m[T], second, m[T], &equal);
+        all &= equal;
+    }
+    double spent = (now() - start) / times;
+    if (refused || !all) {
+        fprintf(stderr, "compare: refused or unequal\n");
+        exit(1);
+    }
+    return spent;
+}
+
+/* Two orders that are equal, not the same, of a machine with all run modes. */
+static void time_both(uint32_t t, int times) {
+    static uint32_t m[KARVELORN_WORDS], first[256], second[256];
+    static double proved_times[ROUNDS], plain_times[ROUNDS];
+    make_machine(m, t, 64, 128);
+    make_order(first, t);
+    memcpy(second, first, sizeof second);
+    move_on(m, first, second, 20000);
+    for (int i = -WARM; i < ROUNDS; i++) {
+        double a = timed(karvelorn_compare, m, first, second, times), b = timed(plain_compare, m, first, second, times);
+        if (i >= 0) proved_times[i] = a, plain_times[i] = b;
+    }
+    double a = median(proved_times, ROUNDS), b = median(plain_times, ROUNDS);
+    printf("compare at T=%u: R %.0f ns, C %.0f ns, ratio %.2f\n", t, a, b, a / b);
+}
+
+int main(void) {
+    if (!alike(200000)) return 1;
+    time_both(256, 20);
+    time_both(64, 40);
+    time_both(1, 80);
+    return 0;
+}

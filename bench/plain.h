@@ -1,0 +1,79 @@
+/* What the plain C beside the proved calls shares: the machine's layout, its questions, drawn numbers and the clock. */
+#ifndef BENCH_PLAIN_H
+#define BENCH_PLAIN_H
+
+#include "karvelorn.h"
+
+#include <stdlib.h>
+#include <time.h>
+
+#define LOW(x, w) ((x) & ((1u << (w)) - 1))
+
+enum { GO, GJ, GK, GN, GM, GP, GQ, GL, GSUM, GFM, GMODE, GENERATOR_WORDS };
+enum { M0, M1, L0, L1, MIN, MRM, MSUM, MMODE, MODIFIER_WORDS };
+enum { MODIFIERS = 2816, SUMS = 3840, DACS = 4096, DX = 4112, T, N, COUNTER, LINGERING, LINGER_PASS, OVERRUN };
+enum { GENERATOR_THIS, GENERATOR_LAST, MODIFIER_THIS, MODIFIER_LAST };
+enum { WRITE_DAC = 2, WRITE_DATA = 3, READ_DATA = 7, WAIT = 9, RUNNING_C = 13, RUNNING_B = 14, RUNNING_A = 15 };
+
+/* Bit n is 1 where run mode, oscillator mode or function n is built. */
+static const uint32_t built_run = 0xE28F, built_oscillator = 0x010F, built_function = 0x3F53BB5D;
+
+/* Questions 1 and 2. */
+
+static uint32_t bad_generators(const uint32_t *m) {
+    uint32_t bad = 0;
+    for (const uint32_t *g = m; g < m + MODIFIERS; g += GENERATOR_WORDS)
+        bad |= g[GO] >> 20 | g[GJ] >> 28 | g[GK] >> 20 | g[GN] >> 11 | g[GM] >> 4 | g[GP] >> 20 | g[GQ] >> 24 |
+               g[GL] >> 12 | g[GSUM] >> 6 | g[GFM] >> 7 | g[GMODE] >> 10 | (~built_run >> (g[GMODE] >> 6 & 15) & 1) |
+               (~built_oscillator >> (g[GMODE] & 15) & 1);
+    return bad;
+}
+
+static uint32_t bad_modifiers(const uint32_t *m) {
+    uint32_t bad = 0;
+    for (const uint32_t *u = m + MODIFIERS; u < m + SUMS; u += MODIFIER_WORDS)
+        bad |= u[M0] >> 30 | u[M1] >> 30 | u[L0] >> 20 | u[L1] >> 20 | (u[MIN] >= 192) | (u[MRM] >= 192) |
+               u[MSUM] >> 7 | u[MMODE] >> 9 | (~built_function >> (u[MMODE] >> 4 & 31) & 1);
+    return bad;
+}
+
+static int sound_machine(const uint32_t *m) {
+    uint32_t bad = bad_generators(m) | bad_modifiers(m);
+    for (int i = SUMS; i <= DX; i++) bad |= m[i] >> 20;
+    bad |= m[COUNTER] >> 20 | m[LINGER_PASS] >> 20 | m[LINGERING] >> 1 | m[OVERRUN] >> 1;
+    return !bad && m[T] >= 1 && m[T] <= 256 && m[N] >= 2 && m[N] <= 1025;
+}
+
+/* Question 6. */
+
+static int each_once(const uint32_t *order, uint32_t t) {
+    uint8_t seen[256] = {0};
+    for (uint32_t i = 0; i < t; i++) {
+        if (order[i] >= t || seen[order[i]]) return 0;
+        seen[order[i]] = 1;
+    }
+    return 1;
+}
+
+/* The timing. */
+
+static uint32_t drawn = 1978;
+static uint32_t draw(uint32_t width) { return (drawn = drawn * 1664525 + 1013904223) >> (32 - width); }
+
+static double now(void) {
+    struct timespec t;
+    clock_gettime(CLOCK_MONOTONIC, &t);
+    return (double)t.tv_sec * 1e9 + (double)t.tv_nsec;
+}
+
+static int ascending(const void *a, const void *b) {
+    double x = *(const double *)a, y = *(const double *)b;
+    return (x > y) - (x < y);
+}
+
+static double median(double *times, size_t count) {
+    qsort(times, count, sizeof *times, ascending);
+    return times[count / 2];
+}
+
+#endif

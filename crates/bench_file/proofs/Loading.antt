@@ -1,0 +1,81 @@
+-- The second sweep: what its steps do, and that it sets the words and the commands of all lines.
+-- Assumes nothing.
+use mathlib.Core.Path.{_≡_, refl, ap, sym, _∙_}
+use mathlib.Core.List.{List}
+use Prim.Native.Nat.{ℕ, _+_, _≤_, _<_}
+use native.Mathlib.Omega.{arith}
+use native.Mathlib.Nat.{add-zero}
+use lib.ListN.{length, take, drop, set}
+use lib.Seq.{sets}
+use Rattle.text.proofs.Lines.{sets-append}
+use Rattle.bench_file.specs.BenchFile.{bytesBefore, lineOf, linesOf}
+use Rattle.bench_file.specs.Sweeps.{withWord, withWords, commandsOf, allCommands}
+use Rattle.bench_file.specs.declared.Line.{Line}
+use Rattle.bench_file.specs.declared.Line.the-variants.{Passes, Word, Command, Other}
+use Rattle.bench_file.proofs.TextLines.{Ended, within, lines-next, lines-end}
+
+-- What a line leaves: how many commands there are, the machine, and the room.
+abbrev pub Leaves : Line → ℕ → List ℕ → List ℕ → ℕ → List ℕ → List ℕ → Type 0
+Leaves l count m room count′ m′ room′ =
+    (count′ ≡ count + length (commandsOf l)) × ((m′ ≡ withWord m l) × (room′ ≡ sets room count (commandsOf l)))
+
+-- The steps, by line.
+module _ (l : Line) (count : ℕ) (m room : List ℕ) where
+  pub load-passes : {n : ℕ} → l ≡ Passes n → Leaves l count m room count m room
+  unfolding commandsOf withWord
+  load-passes e = rw e (sym (add-zero count), (refl, refl))
+
+  pub load-word : {p v : ℕ} → l ≡ Word p v → {m′ : List ℕ} → m′ ≡ set m p v → Leaves l count m room count m′ room
+  unfolding commandsOf withWord
+  load-word e s = rw e (sym (add-zero count), (s, refl))
+
+  pub load-command : {c : ℕ} → l ≡ Command c → {room′ : List ℕ} → room′ ≡ set room count c → Leaves l count m room (count + 1) m room′
+  unfolding commandsOf withWord
+  load-command e s = rw e (refl, (refl, s))
+
+  pub load-other : l ≡ Other → Leaves l count m room count m room
+  unfolding commandsOf withWord
+  load-other e = rw e (sym (add-zero count), (refl, refl))
+
+one-command : (l : Line) → length (commandsOf l) ≤ 1
+unfolding commandsOf
+one-command (Passes n) = omega arith
+one-command (Word p v) = omega arith
+one-command (Command c) = omega arith
+one-command Other = omega arith
+
+-- The sweep under way: the lines that are left set what all lines set.
+pub record Loading (text m₀ room₀ : List ℕ) (at count : ℕ) (m room : List ℕ) : Type 0 where
+  pub here : at ≤ length text
+  pub few : count ≤ at
+  pub words : withWords m (linesOf (drop at text)) ≡ withWords m₀ (linesOf text)
+  pub commands : sets room count (allCommands (linesOf (drop at text))) ≡ sets room₀ 0 (allCommands (linesOf text))
+
+pub begins : (text m room : List ℕ) → Loading text m room 0 0 m room
+begins text m room = record { here = omega arith; few = omega arith; words = refl; commands = refl }
+
+module _ (text : List ℕ) {m₀ room₀ : List ℕ} {at count : ℕ} {m room : List ℕ} (j : Loading text m₀ room₀ at count m room) where
+  pub ends : length text ≤ at → (m ≡ withWords m₀ (linesOf text)) × (room ≡ sets room₀ 0 (allCommands (linesOf text)))
+  unfolding withWords allCommands
+  ends h =
+      (sym (ap (withWords m) (lines-end text at h)) ∙ j .words, sym (ap (λ (ls : List (List ℕ)). sets room count (allCommands ls)) (lines-end text at h)) ∙ j .commands)
+
+  pub goes-on : (end : Ended text) (h : at < length text) {k : ℕ} (e : k ≡ bytesBefore 10 (drop at text)) {count′ : ℕ} {m′ room′ : List ℕ}
+      → Leaves (lineOf (take k (drop at text))) count m room count′ m′ room′ → Loading text m₀ room₀ (at + k + 1) count′ m′ room′
+  unfolding withWords allCommands
+  goes-on end h {k = k} e s =
+      let w = within text end at h e in
+      let l = lineOf (take k (drop at text)) in
+      let o = one-command l in
+      let ls = linesOf (drop (at + k + 1) text) in
+      let n = lines-next text end at h e in
+      record {
+        here = omega arith;
+        few = omega (arith, s .0, o, j .few);
+        words = rw (s .1 .0) (sym (ap (withWords m) n) ∙ j .words);
+        commands =
+            rw (s .1 .1, s .0)
+            (sets-append room count (commandsOf l) (allCommands ls)
+            ∙ sym (ap (λ (ls : List (List ℕ)). sets room count (allCommands ls)) n)
+            ∙ j .commands);
+      }

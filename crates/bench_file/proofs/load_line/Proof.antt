@@ -1,0 +1,63 @@
+-- `bench_file::load_line` meets its contract.
+-- Assumes nothing.
+use Rattle.bench_file.proofs.Loading as loading
+use borrow.Author.Needs.{needs}
+use Rattle.bench_file.proofs.load_line.Statement.{statement}
+use Rattle.bench_file.proofs.load_line.Tie as tie
+
+enum-told : tie.Need-enum-told
+enum-told c = search needs
+
+enum-known-line : tie.Need-enum-known-line
+enum-known-line c = search needs
+
+put-requires : tie.Need-put-requires
+put-requires c κs = search needs
+
+enum-known-line-2 : tie.Need-enum-known-line-2
+enum-known-line-2 c = search needs
+
+put-requires-2 : tie.Need-put-requires-2
+put-requires-2 c κs = search needs
+
+add-result : tie.Need-add-result
+add-result c = search needs
+
+enum-told-2 : tie.Need-enum-told-2
+enum-told-2 c = search needs
+
+returns : tie.Need-returns
+returns c = let a = c .before .before .before .before .args in loading.load-passes _ (a .count) (a .m .now) (a .room .now) (c .enum-told .given .1)
+
+same-length : tie.Need-same-length
+same-length c = search needs
+
+returns-2 : tie.Need-returns-2
+returns-2 c = let a = c .before .before .before .before .before .before .before .before .before .args in loading.load-word _ (a .count) (a .m .now) (a .room .now) (c .before .before .before .before .before .line .given .1) (c .before .before .put .ensures)
+
+same-length-2 : tie.Need-same-length-2
+same-length-2 c = search needs
+
+returns-3 : tie.Need-returns-3
+returns-3 c = let a = c .before .before .before .before .before .before .before .before .before .args in loading.load-command _ (a .count) (a .m .now) (a .room .now) (c .before .before .before .before .before .line2 .given .1) (c .before .before .put2 .ensures)
+
+returns-4 : tie.Need-returns-4
+returns-4 c = let a = c .before .before .before .before .args in loading.load-other _ (a .count) (a .m .now) (a .room .now) (c .enum-told2 .given .1)
+
+pub load-line-spec : {M : Type 1} → statement M
+load-line-spec =
+    tie.close
+    (tie.spec
+    enum-told
+    enum-known-line
+    put-requires
+    enum-known-line-2
+    put-requires-2
+    add-result
+    enum-told-2
+    returns
+    same-length
+    returns-2
+    same-length-2
+    returns-3
+    returns-4)

@@ -1,0 +1,62 @@
+-- The questions of a compare: asked two by two, as the code asks them, and what a machine and the orders that pass them are.
+-- Assumes nothing.
+use mathlib.Core.Path.{_≡_, refl, sym, _∙_}
+use mathlib.Core.Logic.{_≢_}
+use mathlib.Core.Bool.{Bool, true, false, cond}
+use mathlib.Core.List.{List, [], _∷_}
+use Prim.Native.Nat.{ℕ}
+use native.Mathlib.Omega.{arith}
+use lib.ListN.{length}
+use borrow.Author.Tests.{eqb-true}
+use Rattle.layout.specs.Layout.{machineLength}
+use Rattle.machine.specs.Questions.{Question, asked, question1, question2, sound}
+use Rattle.machine.proofs.SoundMachine.{reaches, sound-generator, sound-controls}
+use Rattle.order.specs.Order.{ticksOf, question5, question6, IsOrder}
+use Rattle.order.proofs.Entries.{order-passes}
+use Rattle.agreement.specs.Points.{compareRefusal}
+use Rattle.traces.specs.Traces.{Ready}
+use Rattle.machine.proofs.Asked.{asked-first, asked-later, machine-passes}
+use Rattle.agreement.proofs.Compared.{compare-passes}
+
+-- A machine that passes questions 1 and 2.
+pub is-ready : (m : List ℕ) → asked (question1 m ∷ question2 m ∷ []) ≡ 0 → Ready m
+is-ready m e =
+    let passed = machine-passes m e in
+    record {
+      reaches = reaches m (passed .0);
+      ticks = sound-controls m (passed .1) .tHigh;
+      gsums = λ g h. sound-generator m (passed .1) g h .gsum;
+    }
+
+-- The questions by pairs.
+module _ (m first second : List ℕ) where
+  pub refused-first : {n : ℕ} → n ≡ asked (question1 m ∷ question2 m ∷ []) → n ≢ 0 → n ≡ compareRefusal m first second
+  unfolding compareRefusal
+  refused-first e h = asked-first (question1 m) (question2 m) _ e h
+
+  module _ (whole : asked (question1 m ∷ question2 m ∷ []) ≡ 0) where
+    past-first : compareRefusal m first second
+        ≡ asked
+        (question5 (ticksOf m) first ∷ question6 (ticksOf m) first ∷ question5 (ticksOf m) second ∷ question6 (ticksOf m) second ∷ [])
+    unfolding compareRefusal
+    past-first = asked-later (question1 m) (question2 m) _ (λ e. omega arith) (λ e. omega arith) whole
+
+    pub refused-second : {n : ℕ} → n ≡ asked (question5 (ticksOf m) first ∷ question6 (ticksOf m) first ∷ []) → n ≢ 0 → n ≡ compareRefusal m first second
+    refused-second e h = asked-first (question5 (ticksOf m) first) (question6 (ticksOf m) first) _ e h ∙ sym past-first
+
+    pub refused-third : {n : ℕ} → asked (question5 (ticksOf m) first ∷ question6 (ticksOf m) first ∷ []) ≡ 0
+        → n ≡ asked (question5 (ticksOf m) second ∷ question6 (ticksOf m) second ∷ []) → n ≡ compareRefusal m first second
+    refused-third ordered e =
+        e
+        ∙ sym (past-first
+        ∙ asked-later (question5 (ticksOf m) first) (question6 (ticksOf m) first) _ (λ e. omega arith) (λ e. omega arith) ordered)
+
+-- A compare that is not refused has passed the questions of the machine and of both orders.
+pub record Passed (m first second : List ℕ) : Type 0 where
+  pub ready : Ready m
+  pub ordered : IsOrder (ticksOf m) first × IsOrder (ticksOf m) second
+
+pub passes : (m first second : List ℕ) → compareRefusal m first second ≡ 0 → Passed m first second
+passes m first second e =
+    let p = compare-passes m first second e in
+    record { ready = is-ready m (p .machine); ordered = (order-passes (ticksOf m) first (p .first), order-passes (ticksOf m) second (p .second)) }

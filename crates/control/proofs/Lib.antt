@@ -1,0 +1,4 @@
+pub mod CommandFields
+pub mod Reach
+pub mod Releases
+pub mod Lingers

@@ -1,0 +1,11 @@
+-- `control::built_misc` meets its contract.
+-- Assumes nothing.
+use Rattle.control.proofs.CommandFields.{right-bit}
+use Rattle.control.proofs.built_misc.Statement.{statement}
+use Rattle.control.proofs.built_misc.Tie as tie
+
+returns : tie.Need-returns
+returns c = rw (right-bit (c .args .c))
+
+pub built-misc-spec : {M : Type 1} → statement M
+built-misc-spec = tie.close (tie.spec returns)

@@ -1,0 +1,1 @@
+// What a command and an update keep: laws only.

@@ -1,0 +1,5 @@
+pub mod Places
+pub mod Adjusting
+pub mod Sequence
+pub mod Modes
+pub mod Codes

@@ -1,0 +1,4 @@
+pub mod Asked
+pub mod Neighbours
+pub mod Differences
+pub mod ReplacedWords

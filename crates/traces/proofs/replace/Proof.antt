@@ -1,0 +1,55 @@
+-- `traces::replace` meets its contract.
+-- Assumes nothing.
+use native.Mathlib.Omega.{arith}
+use borrow.Author.Needs.{needs}
+use Rattle.traces.proofs.replace.Statement.{statement}
+use Rattle.traces.proofs.replace.Tie as tie
+
+gsum-requires : tie.Need-gsum-requires
+gsum-requires c κs = search needs
+
+add-last : tie.Need-add-last
+add-last c = search needs
+
+cast-last : tie.Need-cast-last
+cast-last c = search needs
+
+mul-last : tie.Need-mul-last
+mul-last c =
+    let b = c .before .before in
+    omega (arith, c .gsum .ensures, b .pre .0 .gsums (b .args .g) (b .pre .1 .0))
+
+element-write-last : tie.Need-element-write-last
+element-write-last c =
+    let b = c .before .before in
+    omega (arith, c .gsum .ensures, b .pre .0 .gsums (b .args .g) (b .pre .1 .0))
+
+cast-place : tie.Need-cast-place
+cast-place c = search needs
+
+mul-place : tie.Need-mul-place
+mul-place c =
+    let b = c .before .before in
+    omega (arith, c .gsum .ensures, b .pre .0 .gsums (b .args .g) (b .pre .1 .0))
+
+element-write-place : tie.Need-element-write-place
+element-write-place c =
+    let b = c .before .before in
+    omega (arith, c .gsum .ensures, b .pre .0 .gsums (b .args .g) (b .pre .1 .0))
+
+returns : tie.Need-returns
+returns c = (rw (c .gsum .ensures), rw (c .gsum .ensures))
+
+pub replace-spec : {M : Type 1} → statement M
+replace-spec =
+    tie.close
+    (tie.spec
+    gsum-requires
+    add-last
+    cast-last
+    mul-last
+    element-write-last
+    cast-place
+    mul-place
+    element-write-place
+    returns)

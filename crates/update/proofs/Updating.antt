@@ -1,0 +1,116 @@
+-- The update by its questions and by lingering, and the part of the commands that it hands back.
+-- Assumes nothing.
+use mathlib.Core.Path.{_≡_, refl, ap, sym, _∙_}
+use mathlib.Core.Logic.{_≢_}
+use mathlib.Core.Bool.{Bool, true, false, cond}
+use mathlib.Core.List.{List, [], _∷_}
+use Prim.Native.Nat.{ℕ, zero, suc, _+_, _-_, _*_, _≤_}
+use native.Mathlib.Omega.{arith}
+use borrow.Author.Tests.{eq-eqb, ne-eqb, eqb-true}
+use lib.Dec.{eqb}
+use lib.ListN.{length, drop, take, set, length-drop}
+use lib.Seq.{take-all}
+use Rattle.layout.specs.Layout.{machineLength, lingeringAt, Reaches}
+use Rattle.machine.specs.Questions.{asked, question1, question2}
+use Rattle.machine.proofs.SoundMachine.{reaches}
+use Rattle.control.specs.Built.{commandRefusal}
+use Rattle.command.specs.Command.{done, waits}
+use Rattle.update.specs.Update.{Outcome, outcome, mostCommands, stillLingering, takenBy, updateOf, takenCount, tailAt}
+use Rattle.machine.proofs.Asked.{machine-passes}
+
+-- A machine that passes question 1 reaches past each group of words.
+pub passes-reach : (m : List ℕ) → asked (question1 m ∷ question2 m ∷ []) ≡ 0 → Reaches m
+passes-reach m e = reaches m (machine-passes m e .0)
+
+module _ (m cs : List ℕ) where
+  pub update-refused : {n : ℕ} → n ≡ asked (question1 m ∷ question2 m ∷ []) → n ≢ 0 → outcome n m cs ≡ updateOf m cs
+  unfolding updateOf
+  update-refused {n} e h = rw (← e, ne-eqb n 0 h)
+
+  module _ (e : asked (question1 m ∷ question2 m ∷ []) ≡ 0) where
+    pub update-lingers : stillLingering m ≡ true → outcome 0 m cs ≡ updateOf m cs
+    unfolding updateOf
+    update-lingers s = rw (eq-eqb (asked (question1 m ∷ question2 m ∷ [])) 0 e, s)
+
+    pub update-takes : {o : Outcome} → stillLingering m ≡ false → o ≡ takenBy (mostCommands m) (set m lingeringAt 0) cs → o ≡ updateOf m cs
+    unfolding updateOf
+    update-takes s q = rw (eq-eqb (asked (question1 m ∷ question2 m ∷ [])) 0 e, s) q
+
+-- The part handed back is a tail of the commands.
+pub record Tail (cs left : List ℕ) : Type 0 where
+  pub shorter : length left ≤ length cs
+  pub is-tail : drop (length cs - length left) cs ≡ left
+
+whole : (cs : List ℕ) → Tail cs cs
+whole cs = let z : length cs - length cs ≡ 0 = omega arith in record { shorter = omega arith; is-tail = rw z refl }
+
+tail-more : (c : ℕ) (cs left : List ℕ) → Tail cs left → Tail (c ∷ cs) left
+tail-more c cs left t =
+    let h = t .shorter in
+    let z : suc (length cs) - length left ≡ suc (length cs - length left) = omega arith in
+    record { shorter = omega arith; is-tail = rw z (t .is-tail) }
+
+tail-by : (b : Bool) (cs : List ℕ) (x y : Outcome) → Tail cs (x .left) → Tail cs (y .left) → Tail cs (cond b x y .left)
+tail-by true cs x y p q = p
+tail-by false cs x y p q = q
+
+taken-tail : (k : ℕ) (m cs : List ℕ) → Tail cs (takenBy k m cs .left)
+unfolding takenBy
+taken-tail zero m cs = whole cs
+taken-tail (suc k) m [] = whole []
+taken-tail (suc k) m (c ∷ cs) =
+    tail-by (eqb (commandRefusal c) 0) (c ∷ cs)
+    (cond (waits m c) (outcome 0 (done m c) cs) (takenBy k (done m c) cs))
+    (outcome (commandRefusal c) m (c ∷ cs))
+    (tail-by (waits m c) (c ∷ cs) (outcome 0 (done m c) cs) (takenBy k (done m c) cs) (tail-more c cs cs (whole cs)) (tail-more c cs _ (taken-tail k (done m c) cs)))
+    (whole (c ∷ cs))
+
+update-tail : (m cs : List ℕ) → Tail cs (updateOf m cs .left)
+unfolding updateOf
+update-tail m cs =
+    let n = asked (question1 m ∷ question2 m ∷ []) in
+    let takes = takenBy (mostCommands m) (set m lingeringAt 0) cs in
+    tail-by (eqb n 0) cs (cond (stillLingering m) (outcome 0 m cs) takes) (outcome n m cs)
+    (tail-by (stillLingering m) cs (outcome 0 m cs) takes (whole cs) (taken-tail (mostCommands m) (set m lingeringAt 0) cs))
+    (whole cs)
+
+-- The count is at most the number of commands, and what is left is the commands from there on.
+pub taken-within : (m cs : List ℕ) → takenCount m cs ≤ length cs
+taken-within m cs = omega arith
+
+pub taken-rest : (m cs : List ℕ) → drop (takenCount m cs) cs ≡ updateOf m cs .left
+taken-rest m cs = update-tail m cs .is-tail
+
+-- Where the part handed back begins.
+module _ (place : ℕ × ℕ) (m cs : List ℕ) {n : ℕ} {l : List ℕ} where
+  pub place-whole : outcome n l cs ≡ updateOf m cs → place ≡ tailAt place (takenCount m cs)
+  place-whole e = ap (λ (k : ℕ). (place .0, k)) (omega (arith, ap (λ (o : Outcome). length (o .left)) e))
+
+  pub place-tail : (r : ℕ) → r ≤ length cs → outcome n l (drop r cs) ≡ updateOf m cs → (place .0, r * 4 + place .1) ≡ tailAt place (takenCount m cs)
+  place-tail r h e = ap (λ (k : ℕ). (place .0, k)) (omega (arith, ap (λ (o : Outcome). length (o .left)) e, length-drop r cs))
+
+-- The part from place r on, as a slice has it.
+pub part-from : (cs : List ℕ) (r : ℕ) → take (length cs - r) (drop r cs) ≡ drop r cs
+part-from cs r = take-all (length cs - r) (drop r cs) (omega (arith, length-drop r cs))
+
+-- The commands taken and the part handed back, together.
+pub update-ran : (place : ℕ × ℕ) (m cs : List ℕ) {most r n : ℕ} {l : List ℕ} → asked (question1 m ∷ question2 m ∷ []) ≡ 0 → stillLingering m ≡ false →
+    most ≡ mostCommands m → (r ≤ length cs) × (outcome n l (drop r cs) ≡ takenBy most (set m lingeringAt 0) cs) →
+    (outcome n l (take (length cs - r) (drop r cs)) ≡ updateOf m cs) × ((place .0, r * 4 + place .1) ≡ tailAt place (takenCount m cs))
+update-ran place m cs {most} {r} {n} {l} e s b (h, q) =
+    let whole-is : outcome n l (drop r cs) ≡ updateOf m cs = update-takes m cs e s (q ∙ ap (λ (k : ℕ). takenBy k (set m lingeringAt 0) cs) b) in
+    (ap (outcome n l) (part-from cs r) ∙ whole-is, place-tail place m cs r h whole-is)
+
+-- From the part handed back to the count of the commands taken.
+module _ (m cs : List ℕ) {n : ℕ} {l left : List ℕ} (e : outcome n l left ≡ updateOf m cs) where
+  left-is : left ≡ updateOf m cs .left
+  left-is = ap (λ (o : Outcome). o .left) e
+
+  pub left-within : length left ≤ length cs
+  left-within = rw left-is (update-tail m cs .shorter)
+
+  pub count-is : length cs - length left ≡ takenCount m cs
+  count-is = rw left-is
+
+  pub tail-of : outcome n l (drop (length cs - length left) cs) ≡ updateOf m cs
+  tail-of = ap (outcome n l) (ap (λ (k : ℕ). drop k cs) count-is ∙ taken-rest m cs ∙ sym left-is) ∙ e

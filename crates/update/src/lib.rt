@@ -1,0 +1,74 @@
+// An update: commands are taken one after the other, and the part of them not taken is handed back.
+ghost use mathlib.Core.Path.{_≡_};
+ghost use Prim.Native.Nat.{_≤_};
+ghost use lib.ListN.{length, drop};
+ghost use Rattle.layout.specs.Layout.{Reaches};
+ghost use Rattle.update.specs.Update.{outcome, mostCommands, stillLingering, takenBy, updateOf, takenCount, tailAt};
+
+// Whether it is lingering and the counter isn't the Linger pass.
+fn still_lingering(m: &[u32]) -> bool
+    requires { ⌜ Reaches (now m) ⌝ }
+    ensures { λ r. ⌜ r ≡ stillLingering (now (m .entry)) ⌝ }
+{
+    let lingering = m[layout::LINGERING_AT];
+    let counter = m[layout::COUNTER_AT];
+    let pass = m[layout::LINGER_PASS_AT];
+    (lingering == 1) & (counter != pass)
+}
+
+// The most commands that an update takes, by N and T as it begins.
+fn most_commands(m: &[u32]) -> usize
+    requires { ⌜ Reaches (now m) ⌝ }
+    ensures { λ r. ⌜ r ≡ mostCommands (now (m .entry)) ⌝ }
+{
+    let n = m[layout::N_AT] as usize;
+    let busy = m[layout::T_AT] as usize + 8;
+    if n < busy {
+        return 0;
+    }
+    n - busy
+}
+
+// Takes at most so many commands and answers how many it took.
+fn run(m: &mut [u32], commands: &[u32], most: usize, refused: &mut u32) -> usize
+    requires { ⌜ Reaches (now m) ⌝ }
+    ensures { λ r. ⌜ (r ≤ length (now (commands .entry))) × (outcome (now (refused .exit)) (now (m .exit)) (drop r (now (commands .entry))) ≡ takenBy most (now (m .entry)) (now (commands .entry))) ⌝ }
+{
+    *refused = 0;
+    let mut i: usize = 0;
+    while i < most {
+        if commands.len() <= i {
+            return commands.len();
+        }
+        let turn = command::take(m, commands[i]);
+        if turn.number != 0 {
+            *refused = turn.number;
+            return i;
+        }
+        if turn.waits {
+            return i + 1;
+        }
+        i += 1;
+    }
+    i
+}
+
+// An update. It hands back the part of the commands that it didn't take, and gives the number of the refusing question or 0.
+pub fn update<'a>(m: &mut [u32], commands: &'a [u32], refused: &mut u32) -> &'a [u32]
+    ensures { λ r. ⌜ outcome (now (refused .exit)) (now (m .exit)) (now r) ≡ updateOf (now (m .entry)) (now (commands .entry)) ⌝ }
+    ensures { λ r. ⌜ r .ptr ≡ tailAt (commands .entry .ptr) (takenCount (now (m .entry)) (now (commands .entry))) ⌝ }
+{
+    let number = machine::refusal(m);
+    if number != 0 {
+        *refused = number;
+        return commands;
+    }
+    if still_lingering(m) {
+        *refused = 0;
+        return commands;
+    }
+    let most = most_commands(m);
+    m[layout::LINGERING_AT] = 0;
+    let taken = run(m, commands, most, refused);
+    &commands[taken..]
+}

@@ -1,0 +1,198 @@
+"""The requests of tests/compares.py: pairs of orders, and passes that try what a compare says.
+
+Settings are drawn for one of the four points or for all of them, so that each point
+fails alone now and then. Each request comes with the reference's answer. Where it is
+yes, the request also asks for passes from contents at random, which must end alike;
+where it is no, passes by the two orders from contents that part them follow.
+"""
+
+import random
+from typing import NamedTuple
+
+from leaf_requests import biased
+from pass_requests import BAD_ORDERS, DAMAGES, LENGTHS, good_order, whole_machine
+from reference import layout
+from reference.orders import POINTS, agree, compare, parting
+
+COMPARE, PASSES = range(2)
+CONTENTS = 12
+
+
+class Request(NamedTuple):
+    """What is asked: the operation, a count of contents, the runs of words, and a name."""
+
+    operation: int
+    contents: int
+    machine: list
+    first: list
+    second: list
+    items: list
+    name: str
+
+
+class Answer(NamedTuple):
+    """What is answered: the number, yes or no, and how many pairs of passes end alike."""
+
+    number: int
+    equal: int
+    alike: int
+
+
+# Settings
+
+A, B, C = layout.RUNNING_A, layout.RUNNING_B, layout.RUNNING_C
+EVERY = tuple(layout.RUN_MODES)
+KINDS = {
+    "triggers": (B, C, layout.WAIT),
+    "DACs": (layout.WRITE_DAC, layout.WRITE_DAC, layout.WRITE_DAC, A),
+    "written": (layout.WRITE_DATA, layout.WRITE_DATA, layout.WRITE_DATA, layout.PAUSE),
+    "replaced": (layout.READ_DATA, A, B, C),
+    "readers": (layout.READ_DATA, layout.READ_DATA, layout.WRITE_DAC, A),
+    "all": EVERY,
+    "some": EVERY,
+}
+
+
+def ticks(chance, number):
+    """T: every eighth machine takes the next of 1..256, the others have few."""
+    if number % 8 == 0:
+        return number // 8 * 37 % 256 + 1
+    return chance.choice((1, 2, 3, 4, 4, 5, 6, 6, 7, 8, 8, chance.randint(9, 24)))
+
+
+def shared(chance, limit):
+    """The numbers below a limit that are used: few or all, an end of the range among them."""
+    used = chance.sample(range(limit), chance.choice((1, 2, 3, 4, limit)))
+    used[0] = chance.choice((0, limit - 1))
+    return used
+
+
+def put_settings(chance, machine, t):
+    """T, and new settings below T: few words and DACs are shared, or many. Gives their kind."""
+    kind = chance.choice(tuple(KINDS))
+    modes = KINDS[kind] if kind != "some" else chance.choices(EVERY, k=3)
+    words, dacs = shared(chance, 64), shared(chance, 16)
+    sources, quadrants = shared(chance, 64), chance.choice(((0,), (64,), (0, 64), (0, 64)))
+    machine[layout.T] = t
+    for g in range(t):
+        at = layout.generator_at(g)
+        mode = chance.choice(modes) << 6 | chance.randrange(4) << 4
+        machine[at + layout.GMODE] = mode | chance.choice(layout.OSCILLATOR_MODES)
+        machine[at + layout.GSUM] = chance.choice(words)
+        machine[at + layout.GFM] = chance.choice(quadrants) | chance.choice(sources)
+        machine[at + layout.GO] = biased(chance, 20) >> 4 << 4 | chance.choice(dacs)
+    return kind
+
+
+# Pairs of orders
+
+def swapped(chance, order):
+    """The order with two neighbours exchanged, or any two."""
+    other = list(order)
+    if len(order) > 1:
+        i = chance.randrange(len(order) - 1)
+        j = chance.choice((i + 1, i + 1, chance.randrange(len(order))))
+        other[i], other[j] = other[j], other[i]
+    return other
+
+
+def walked(chance, machine, order):
+    """An order far from this one that agrees with it: exchanges that keep the agreement."""
+    other = order
+    for _ in range(2 * len(order) if len(order) < 16 else 8):
+        tried = swapped(chance, other)
+        if agree(machine, order, tried):
+            other = tried
+    return other
+
+
+def pairs(chance, machine):
+    """Pairs of good orders of a machine, with their names."""
+    t = machine[layout.T]
+    first = good_order(chance, t)
+    far = walked(chance, machine, first)
+    yield first, list(first), "the same"
+    yield first, far, "exchanges that agree"
+    yield first, swapped(chance, far), "one exchange more"
+    for _ in range(3):
+        yield first, swapped(chance, first), "one exchange"
+    for _ in range(6):
+        yield first, chance.sample(range(t), t), "at random"
+
+
+# Refused
+
+def bad(chance, machine, order):
+    """The order changed by one of the kinds of bad orders, and its name."""
+    change = chance.choice(BAD_ORDERS)
+    return change(chance, machine[layout.T], order), change.__name__
+
+
+def refused_pairs(chance, machine):
+    """The first order bad, the second, and both."""
+    good = good_order(chance, machine[layout.T])
+    (one, its_name), (other, other_name) = (bad(chance, machine, good) for _ in range(2))
+    yield one, good, f"first {its_name}"
+    yield good, other, f"second {other_name}"
+    yield one, other, f"first {its_name}, second {other_name}"
+
+
+def damaged(machine, number):
+    """A machine that question 1 or 2 refuses, and what was done to it."""
+    if number % 6 == 0:
+        length = LENGTHS[number // 6 % len(LENGTHS)]
+        return (machine + machine)[:length], f"{length} words"
+    name, place, keep, bits = DAMAGES[number % len(DAMAGES)]
+    other = list(machine)
+    other[place] = other[place] & keep | bits
+    return other, name
+
+
+# The whole of the requests
+
+def compared(machine, first, second, name):
+    """A compare with the reference's answer; contents are tried where it says yes."""
+    number, equal = compare(machine, first, second)
+    contents = CONTENTS if equal else 0
+    request = Request(COMPARE, contents, machine, first, second, [], name)
+    return request, Answer(number, int(equal), contents)
+
+
+def parted(machine, first, second, name):
+    """Passes by two unequal orders from contents that part them: no refusal, not alike."""
+    contents, items = parting(machine, first, second)
+    return Request(PASSES, 0, contents, first, second, items, "parted, " + name), Answer(0, 0, 0)
+
+
+def failing(request):
+    """The points that two good orders fail, by number from 1."""
+    return tuple(i for i, point in enumerate(POINTS, 1)
+                 if point(request.machine, request.first) != point(request.machine, request.second))
+
+
+def of_machine(chance, machine, number):
+    """The requests of one machine: pairs of good orders, refused pairs, and a damaged machine."""
+    kind = put_settings(chance, machine, ticks(chance, number))
+    for first, second, name in pairs(chance, machine):
+        request, answer = compared(machine, first, second, f"{kind}, {name}")
+        yield request, answer
+        if not answer.equal:
+            yield parted(machine, first, second, request.name)
+    for first, second, name in refused_pairs(chance, machine):
+        yield compared(machine, first, second, name)
+    other, name = damaged(machine, number)
+    order = good_order(chance, machine[layout.T])
+    second = chance.choice((order, order[:-1], [0, 0]))
+    yield compared(other, order, second, name)
+
+
+def all_requests(count, seed):
+    """So many compares, and the passes that go with them, one machine after the other."""
+    chance = random.Random(seed)
+    pool = [whole_machine(chance) for _ in range(6)]
+    made, number = 0, 0
+    while made < count:
+        for request, answer in of_machine(chance, list(chance.choice(pool)), number):
+            yield request, answer
+            made += request.operation == COMPARE
+        number += 1

@@ -1,0 +1,126 @@
+/* Calls the library for tests/compares.py: requests on standard input, answers on standard output, to the input's end.
+ *
+ * A request is seven 32-bit numbers (0 for a compare or 1 for passes; a count of contents; a number to draw them by;
+ * the lengths of machine, first order, second order and items), then the words of the four. An answer is three 32-bit
+ * numbers:
+ * - a compare answers its number, whether it says yes, and, of so many machines with the settings of this one and
+ *   contents and items at random, on how many passes by the two orders end alike;
+ * - passes by the two orders from this very machine answer the larger number, 0, and whether they end alike.
+ * Two passes end alike where they leave the same machine and write the same items.
+ */
+#include "karvelorn.h"
+#include "runs.h"
+
+enum { COMPARE, PASSES };
+enum { MACHINE, FIRST, SECOND, ITEMS, RUNS };
+enum { GENERATORS = 256, GO = 0, GP = 5, GQ = 6, GSUM = 8, GFM = 9, GMODE = 10, GENERATOR_WORDS = 11 };
+enum { MODIFIERS = 128, MODIFIERS_AT = 2816, MODIFIER_WORDS = 8, MIN = 4, MRM = 5, MMODE = 7 };
+enum { SUMS_AT = 3840, DX = 4112, T, N, COUNTER, LINGERING, LINGER_PASS, OVERRUN };
+enum { WRITE_DAC = 2 };
+
+/* Drawing. */
+
+static uint64_t drawn;
+
+static uint32_t draw(uint32_t width) {
+    drawn = drawn * 6364136223846793005u + 1442695040888963407u;
+    return (uint32_t)(drawn >> (64 - width));
+}
+
+/* Contents at random. */
+
+/* A generator with the same settings. GQ is at an end of its range where edge is 1 or 2, so that many overflow. */
+static void draw_generator(uint32_t *g, const uint32_t *settings, uint32_t edge) {
+    static const uint32_t widths[GENERATOR_WORDS] = {20, 28, 20, 11, 4, 20, 24, 12, 6, 7, 10};
+    for (int j = 0; j < GENERATOR_WORDS; j++) g[j] = draw(widths[j]);
+    g[GSUM] = settings[GSUM];
+    g[GFM] = settings[GFM];
+    g[GMODE] = settings[GMODE];
+    if (g[GMODE] >> 6 == WRITE_DAC) g[GO] = (g[GO] & ~15u) | (settings[GO] & 15);
+    if (edge == 1) g[GQ] = 16777215;
+    if (edge == 2) g[GQ] = 0;
+}
+
+static void draw_modifier(uint32_t *u) {
+    static const uint32_t widths[MODIFIER_WORDS] = {30, 30, 20, 20, 7, 7, 7, 4};
+    static const uint32_t functions[16] = {0, 2, 3, 4, 6, 8, 9, 11, 12, 13, 16, 17, 20, 22, 24, 28};
+    for (int j = 0; j < MODIFIER_WORDS; j++) u[j] = draw(widths[j]);
+    if (draw(1)) u[MIN] = 128 | draw(6);
+    if (draw(1)) u[MRM] = 128 | draw(6);
+    u[MMODE] |= functions[draw(4)] << 4;
+}
+
+static void draw_contents(uint32_t *m, const uint32_t *settings) {
+    uint32_t edge = draw(2);
+    for (int g = 0; g < GENERATORS; g++) draw_generator(m + GENERATOR_WORDS * g, settings + GENERATOR_WORDS * g, edge);
+    for (int k = 0; k < MODIFIERS; k++) draw_modifier(m + MODIFIERS_AT + MODIFIER_WORDS * k);
+    for (int i = SUMS_AT; i <= OVERRUN; i++) m[i] = draw(20);
+    m[T] = settings[T];
+    m[N] = 2 + draw(10);
+    m[LINGERING] = draw(1);
+    m[OVERRUN] = draw(1);
+}
+
+/* Passes by two orders. */
+
+/* Whether two passes end alike; the larger of their numbers goes to *refused. */
+static uint32_t alike(const uint32_t *m, const run *r, const uint32_t *items, size_t items_len, uint32_t *refused) {
+    static uint32_t machines[2][KARVELORN_WORDS], places[2][GENERATORS];
+    size_t read[2], written[2];
+    for (int k = 0; k < 2; k++) {
+        const run *order = &r[FIRST + k];
+        memcpy(machines[k], m, sizeof machines[k]);
+        memset(places[k], 0, sizeof places[k]);
+        uint32_t number = karvelorn_pass(machines[k], KARVELORN_WORDS, order->words, order->length, items, items_len,
+                                         places[k], GENERATORS, &read[k], &written[k]);
+        if (number > *refused) *refused = number;
+    }
+    return written[0] == written[1] && !memcmp(machines[0], machines[1], sizeof machines[0]) &&
+           !memcmp(places[0], places[1], written[0] * sizeof places[0][0]);
+}
+
+/* On how many contents two passes end alike. */
+static uint32_t alike_on(uint32_t contents, const run *r) {
+    static uint32_t m[KARVELORN_WORDS], items[GENERATORS];
+    uint32_t same = 0;
+    for (uint32_t i = 0; i < contents; i++) {
+        uint32_t refused = 0;
+        draw_contents(m, r[MACHINE].words);
+        for (int k = 0; k < GENERATORS; k++) items[k] = draw(32);
+        same += alike(m, r, items, GENERATORS, &refused);
+        if (refused) stop(2, "a pass from contents at random was refused");
+    }
+    return same;
+}
+
+/* Answers. */
+
+static void answer(uint32_t operation, uint32_t contents, const run *r) {
+    uint32_t given[3] = {0, 0, 0};
+    if (operation == COMPARE) {
+        given[1] = UINT32_MAX;
+        given[0] = karvelorn_compare(r[MACHINE].words, r[MACHINE].length, r[FIRST].words, r[FIRST].length,
+                                     r[SECOND].words, r[SECOND].length, &given[1]);
+        given[2] = alike_on(contents, r);
+    } else {
+        given[2] = alike(r[MACHINE].words, r, r[ITEMS].words, r[ITEMS].length, &given[0]);
+    }
+    for (int i = 0; i < RUNS; i++) {
+        check_kept(&r[i]);
+        check_beside(&r[i]);
+    }
+    put(given, sizeof given[0], 3);
+}
+
+int main(void) {
+    uint32_t head[3], lengths[RUNS];
+    while (fread(head, sizeof head[0], 3, stdin) == 3) {
+        run runs[RUNS];
+        get(lengths, sizeof lengths[0], RUNS);
+        for (int i = 0; i < RUNS; i++) runs[i] = read_run(lengths[i]);
+        drawn = head[2];
+        answer(head[0], head[1], runs);
+        for (int i = 0; i < RUNS; i++) free_run(&runs[i]);
+    }
+    return fflush(stdout) ? 2 : 0;
+}

@@ -1,0 +1,67 @@
+"""Compares the example host in C with the reference, and tries the header from C and C++.
+
+    python3 tests/host.py [COUNT] [SEED]
+
+Run from the repository root. Builds examples/ring_host.c with include/karvelorn.h and
+target/staticlib/libhost.a, with the address and undefined-behaviour sanitizers on and
+tests/host_guard.c before each call, and rings the files of tests/ring_files.py, COUNT of
+them at random: the host must print what the reference does, and the sanitizers nothing.
+"""
+
+import os
+import shutil
+import subprocess
+import sys
+from itertools import chain
+
+from library import LIBRARY, ROOT, library_is_new
+from ring_files import at_random, by_hand
+from ringing import compared
+
+COUNT, SEED = 300, 1978
+INCLUDE = os.path.join(ROOT, "include")
+HEADER = os.path.join(INCLUDE, "karvelorn.h")
+SOURCE = os.path.join(ROOT, "examples", "ring_host.c")
+GUARD = os.path.join(ROOT, "tests", "host_guard.c")
+GUARDED = tuple("-Wl,--wrap=karvelorn_" + call for call in ("fresh", "pass", "update"))
+HOST = os.path.join(ROOT, "target", "ring_host")
+WARNINGS = ("-Wall", "-Wextra", "-Werror", "-pedantic")
+# The host allocates nothing, and a search for leaks would take five times as long as all else.
+NO_LEAKS = {"ASAN_OPTIONS": "detect_leaks=0"}
+SANITIZERS = ("-fsanitize=address,undefined", "-fno-sanitize-recover=all", "-O1", "-g")
+
+
+def compiled(*command):
+    """Whether a compiler takes its command; its complaints are printed."""
+    return subprocess.run(command).returncode == 0
+
+
+def header_compiles():
+    """Whether the header alone is good C99 and, where there is a C++ compiler, good C++."""
+    if not compiled("gcc", "-std=c99", *WARNINGS, "-fsyntax-only", "-x", "c", HEADER):
+        return False
+    if not shutil.which("g++"):
+        print("host: no g++ here, so the header is not tried from C++")
+        return True
+    return compiled("g++", *WARNINGS, "-fsyntax-only", "-x", "c++", HEADER)
+
+
+def build():
+    """Builds the host; says whether that went well."""
+    if not library_is_new():
+        subprocess.run(["rt", "staticlib", "host"], cwd=ROOT, check=True, stdout=subprocess.DEVNULL)
+    return compiled("gcc", "-std=c99", *WARNINGS, *SANITIZERS, *GUARDED, "-I", INCLUDE,
+                    SOURCE, GUARD, LIBRARY, "-o", HOST)
+
+
+def main(arguments):
+    """Reads the arguments; see the head of this file."""
+    count, seed = [int(text) for text in arguments[:2]] + [COUNT, SEED][len(arguments[:2]):]
+    if not header_compiles() or not build():
+        print("host: a compiler refused")
+        return 1
+    return compared("host", HOST, chain(by_hand(), at_random(count, seed)), NO_LEAKS)
+
+
+if __name__ == "__main__":
+    sys.exit(main(sys.argv[1:]))

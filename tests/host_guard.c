@@ -1,0 +1,46 @@
+/* Stands between the example host and the library in tests/host.py (the linker's --wrap) and checks what karvelorn.h
+ * asks of a host: valid memory for every length. The library itself is not compiled with the sanitizers, so this asks
+ * the address sanitizer before each call.
+ */
+#include <sanitizer/asan_interface.h>
+#include <stdio.h>
+#include <stdlib.h>
+
+#include "karvelorn.h"
+
+static void check(const char *name, const void *memory, size_t count, size_t size) {
+    if (count && (!memory || __asan_region_is_poisoned((void *)memory, count * size))) {
+        fprintf(stderr, "host_guard: %s has no valid memory for %zu times %zu bytes\n", name, count, size);
+        exit(3);
+    }
+}
+
+uint32_t __real_karvelorn_fresh(uint32_t *, size_t);
+uint32_t __real_karvelorn_pass(uint32_t *, size_t, const uint32_t *, size_t, const uint32_t *, size_t, uint32_t *,
+                               size_t, size_t *, size_t *);
+uint32_t __real_karvelorn_update(uint32_t *, size_t, const uint32_t *, size_t, size_t *);
+
+uint32_t __wrap_karvelorn_fresh(uint32_t *machine, size_t words) {
+    check("machine", machine, words, sizeof *machine);
+    return __real_karvelorn_fresh(machine, words);
+}
+
+uint32_t __wrap_karvelorn_pass(uint32_t *machine, size_t words, const uint32_t *order, size_t entries,
+                               const uint32_t *items, size_t items_len, uint32_t *places, size_t places_len,
+                               size_t *read, size_t *written) {
+    check("machine", machine, words, sizeof *machine);
+    check("order", order, entries, sizeof *order);
+    check("items", items, items_len, sizeof *items);
+    check("places", places, places_len, sizeof *places);
+    check("read", read, 1, sizeof *read);
+    check("written", written, 1, sizeof *written);
+    return __real_karvelorn_pass(machine, words, order, entries, items, items_len, places, places_len, read, written);
+}
+
+uint32_t __wrap_karvelorn_update(uint32_t *machine, size_t words, const uint32_t *commands, size_t commands_len,
+                                 size_t *taken) {
+    check("machine", machine, words, sizeof *machine);
+    check("commands", commands, commands_len, sizeof *commands);
+    check("taken", taken, 1, sizeof *taken);
+    return __real_karvelorn_update(machine, words, commands, commands_len, taken);
+}

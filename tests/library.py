@@ -1,0 +1,162 @@
+"""What the tests that call the library from C share: building, asking in batches, words by name.
+
+A test has a C program, tests/NAME.c, that answers requests. A request and its answer
+are runs of bytes that the test makes; an answer must be the reference's, byte for byte.
+"""
+
+import os
+import subprocess
+import sys
+from array import array
+from glob import glob
+from itertools import islice
+from typing import Callable, NamedTuple
+
+ROOT = os.path.dirname(os.path.dirname(os.path.abspath(__file__)))
+sys.path.insert(0, ROOT)
+
+from reference import layout  # noqa: E402
+
+BATCH, SHOWN, WORDS_SHOWN = 500, 5, 8
+LIBRARY = os.path.join(ROOT, "target", "staticlib", "libhost.a")
+
+
+class Test(NamedTuple):
+    """A test: its name, a request and an answer as bytes, and how a difference is shown."""
+
+    name: str
+    request_bytes: Callable
+    answer_bytes: Callable
+    show: Callable
+
+    @property
+    def program(self):
+        """The path of the C program."""
+        return os.path.join(ROOT, "target", self.name)
+
+
+# Building
+
+def library_is_new():
+    """Whether the static library is there and no source file is newer."""
+    sources = glob(os.path.join(ROOT, "crates", "*", "src", "**", "*.rt"), recursive=True)
+    return (os.path.exists(LIBRARY)
+            and max(map(os.path.getmtime, sources)) <= os.path.getmtime(LIBRARY))
+
+
+def build(test):
+    """The test's program, over the static library."""
+    if not library_is_new():
+        subprocess.run(["rt", "staticlib", "host"], cwd=ROOT, check=True, stdout=subprocess.DEVNULL)
+    source = os.path.join(ROOT, "tests", test.name + ".c")
+    subprocess.run(["gcc", "-std=c99", "-Wall", "-Wextra", "-pedantic", "-Werror", "-O1",
+                    "-I", os.path.join(ROOT, "include"), source, LIBRARY, "-o", test.program],
+                   check=True)
+
+
+# Words as bytes
+
+def packed(words):
+    """Words as bytes, the low byte first."""
+    run = array("I", words)
+    if sys.byteorder == "big":
+        run.byteswap()
+    return run.tobytes()
+
+
+def unpacked(data):
+    """Bytes as words, the low byte first."""
+    run = array("I", data)
+    if sys.byteorder == "big":
+        run.byteswap()
+    return run.tolist()
+
+
+# Asking
+
+def differing(test, batch, first, shown):
+    """Asks a batch; shows the first differences, gives how many differ."""
+    asked = b"".join(test.request_bytes(request) for request, _ in batch)
+    done = subprocess.run([test.program], input=asked, stdout=subprocess.PIPE)
+    at, differ = 0, 0
+    for number, (request, expected) in enumerate(batch, first):
+        good = test.answer_bytes(expected)
+        got = done.stdout[at:at + len(good)]
+        at += len(good)
+        if got == good:
+            continue
+        if shown + differ < SHOWN:
+            print(f"request {number} ({request.name}), whole in {kept(test, number, request)}:")
+            test.show(request, expected, got)
+        differ += 1
+    if done.returncode:
+        print(f"the program ended with status {done.returncode}")
+    return differ + (done.returncode != 0) + (len(done.stdout) > at)
+
+
+def kept(test, number, request):
+    """Keeps a request whole in a file; gives its path."""
+    path = f"{test.program}-{number}.request"
+    with open(path, "wb") as file:
+        file.write(test.request_bytes(request))
+    return path
+
+
+def compared(test, pairs, count):
+    """Asks all pairs of request and answer; count sees each. Prints and gives the exit status."""
+    asked, differ = 0, 0
+    while batch := list(islice(pairs, BATCH)):
+        differ += differing(test, batch, asked, differ)
+        asked += len(batch)
+        for request, answer in batch:
+            count(request, answer)
+    print(f"{test.name}: {asked} compared, {differ} differ")
+    return 1 if differ else 0
+
+
+# Words by name
+
+CONTROL_NAMES = ("DX", "T", "N", "counter", "lingering", "Linger pass", "overrun")
+
+
+def word_name(place):
+    """What stands at a place of the machine."""
+    if place < layout.MODIFIERS_AT:
+        g, register = divmod(place, layout.GENERATOR_WORDS)
+        return f"{layout.GENERATOR_NAMES[register]} of generator {g}"
+    if place < layout.GENERATOR_THIS:
+        m, register = divmod(place - layout.MODIFIERS_AT, layout.MODIFIER_WORDS)
+        return f"{layout.MODIFIER_NAMES[register]} of modifier {m}"
+    if layout.DX <= place < layout.MACHINE_WORDS:
+        return CONTROL_NAMES[place - layout.DX]
+    return f"word {place}"
+
+
+def unit_words(machine, place):
+    """The words of the unit that a place belongs to, as they were before the call."""
+    if place >= layout.GENERATOR_THIS or len(machine) != layout.MACHINE_WORDS:
+        return ""
+    at, size = (0, layout.GENERATOR_WORDS)
+    if place >= layout.MODIFIERS_AT:
+        at, size = layout.MODIFIERS_AT, layout.MODIFIER_WORDS
+    first = place - (place - at) % size
+    return f", before {machine[first:first + size]}"
+
+
+def machine_differences(before, expected, got):
+    """The words of the machine that differ: name, reference's word, program's word."""
+    return [(word_name(i) + unit_words(before, i), a, b)
+            for i, (a, b) in enumerate(zip(expected, got)) if a != b]
+
+
+def show_words(differences):
+    """The first words that differ."""
+    for name, a, b in differences[:WORDS_SHOWN]:
+        print(f"  {name}: reference {a}, program {b}")
+    if len(differences) > WORDS_SHOWN:
+        print(f"  and {len(differences) - WORDS_SHOWN} words more")
+
+
+def counts(counter):
+    """A counter as one line."""
+    return ", ".join(f"{key}: {counter[key]}" for key in sorted(counter))
