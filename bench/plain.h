@@ -7,6 +7,12 @@
 #include <stdlib.h>
 #include <time.h>
 
+#if defined(__GNUC__)
+#define SHARED __attribute__((unused)) static /* not every program uses all of it */
+#else
+#define SHARED static
+#endif
+
 #define LOW(x, w) ((x) & ((1u << (w)) - 1))
 
 enum { GO, GJ, GK, GN, GM, GP, GQ, GL, GSUM, GFM, GMODE, GENERATOR_WORDS };
@@ -46,7 +52,7 @@ static int sound_machine(const uint32_t *m) {
 
 /* Question 6. */
 
-static int each_once(const uint32_t *order, uint32_t t) {
+SHARED int each_once(const uint32_t *order, uint32_t t) {
     uint8_t seen[256] = {0};
     for (uint32_t i = 0; i < t; i++) {
         if (order[i] >= t || seen[order[i]]) return 0;

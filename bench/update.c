@@ -219,7 +219,7 @@ static int compare(size_t count, int updates) {
         double b = timed(plain_update, plain, commands, count, updates);
         if (i >= 0) proved_times[i] = a, plain_times[i] = b;
     }
-    double a = median(proved_times), b = median(plain_times);
+    double a = median(proved_times, ROUNDS), b = median(plain_times, ROUNDS);
     printf("update with %zu commands: R %.0f ns, C %.0f ns, ratio %.2f\n", count, a, b, a / b);
     if (!memcmp(proved, plain, sizeof plain)) return 1;
     printf("update with %zu commands: the machines differ\n", count);
