@@ -55,6 +55,16 @@ def shown():
         yield file("the bell", bell.read())
 
 
+def written_out():
+    """The files of tests/files, each with the lines that it prints, written by hand: the reference must give the same."""
+    folder = os.path.join(ROOT, "tests", "files")
+    for name in sorted(name[:-len(".bench")] for name in os.listdir(folder) if name.endswith(".bench")):
+        with open(os.path.join(folder, name + ".bench"), "rb") as text, open(os.path.join(folder, name + ".lines"), "rb") as lines:
+            tried = File(name, text.read(), lines.read())
+        assert ring(tried.text) == tried.printed, f"tests/files/{name}: the reference prints something else"
+        yield tried
+
+
 # Files that fit, made by hand
 
 # Commands: the counter set to 16, Lingers at passes 3 and 4, one that is not built (DLY), TICKS of

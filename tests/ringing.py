@@ -1,6 +1,7 @@
 """How tests/ring.py and tests/host.py compare a program with the reference on bench files."""
 
 import os
+import resource
 import subprocess
 from collections import Counter
 from concurrent.futures import ThreadPoolExecutor
@@ -8,13 +9,22 @@ from concurrent.futures import ThreadPoolExecutor
 from library import counts
 
 SHOWN = 5
+STACK = 256 * 1024
 TIME_MOST = 60
 
 
+def small_stack():
+    """The limit for a program's stack."""
+    resource.setrlimit(resource.RLIMIT_STACK, (STACK, STACK))
+
+
 def printed_by(program, text, environment):
-    """What a program prints for a file, what it says on the error output, and its exit status."""
+    """What a program prints for a file, what it says on the error output, and its exit status.
+
+    Without an environment of its own it runs in a stack of 256 kB."""
+    prepare = None if environment else small_stack
     done = subprocess.run([program], input=text, stdout=subprocess.PIPE, stderr=subprocess.PIPE,
-                          env={**os.environ, **environment}, timeout=TIME_MOST)
+                          env={**os.environ, **environment}, timeout=TIME_MOST, preexec_fn=prepare)
     return done.stdout, done.stderr, done.returncode
 
 

@@ -1,4 +1,3 @@
 pub mod CommandFields
-pub mod Reach
 pub mod Releases
 pub mod Lingers

@@ -24,7 +24,6 @@ use Rattle.sums.proofs.Memory.{Quadrants, quadrant-word, sums-quadrant, sums-qu
 use Rattle.sums.proofs.Closing.{closed-generator-last}
 use Rattle.generator.specs.Generator.{after}
 use Rattle.generator_stage.specs.GeneratorStage.{State, steps, begun}
-use Rattle.generator_stage.proofs.Puts.{same-reach}
 use Rattle.modifier_stage.specs.ModifierStage.{wordsAfter}
 use Rattle.modifier_stage.proofs.Stage.{words-length}
 use Rattle.pass.specs.Pass.{counted, completed, ran, passRefusal, passOf}
@@ -40,6 +39,7 @@ use Rattle.endings.proofs.Folds.{replacing-left, writing-from-start, ma
 use Rattle.endings.proofs.Taking.{Taking}
 use Rattle.endings.proofs.Stage.{dac-left, places-left, writes-left, word-left}
 use Rattle.endings.proofs.Told.{own-turned}
+use Rattle.layout.proofs.Reach.{same-reach}
 
 -- What holds where a test passes and where it fails holds of a choice by it.
 by-test : (b : Bool) {v x y : ℕ} → (b ≡ true → v ≡ x) → (b ≡ false → v ≡ y) → v ≡ cond b x y

@@ -11,7 +11,6 @@ use Rattle.modes.specs.Modes.{oscillatorOn, envelopeOn, free, wait, runningC}
 use Rattle.envelope.specs.Envelope.{overflows, decayed}
 use Rattle.generator.specs.declared.Generator.{Generator}
 use Rattle.generator.specs.Generator.{loaded, Ranged, runMode, jOf, gjAfter, gkAfter, gqAfter, gmodeAfter, pOf, after, triggers}
-use Rattle.generator.specs.Steps.{kBy}
 
 pub ranged : (m : List ℕ) → Ranged (loaded m)
 unfolding loaded
@@ -37,10 +36,6 @@ either false h k = k
 pub j-low : (g : Generator) (f : ℕ) → jOf g f < 2 ^ 20
 unfolding jOf sum
 j-low g f = low-lt 20 _
-
-pub k-low : (g : Generator) (j : ℕ) → g .gk < 2 ^ 20 → j < 2 ^ 20 → kBy g j < 2 ^ 13
-unfolding kBy
-k-low g j h i = omega (arith, either (eqb (g .gmode % 2 ^ 4) 8) i h)
 
 pub p-low : (g : Generator) (f : ℕ) → pOf g f < 2 ^ 20
 unfolding pOf

@@ -2,23 +2,47 @@
 -- Assumes nothing.
 use mathlib.Core.Path.{_≡_, refl, sym, ap, _∙_}
 use mathlib.Core.Bool.{Bool, true, false, cond, _&&_}
-use Prim.Native.Nat.{ℕ, _^_, _<_}
+use Prim.Native.Nat.{ℕ, _/_, _^_, _<_, _≤_}
+use native.Mathlib.Omega.{arith}
 use lib.Dec.{eqb}
-use Rattle.words.specs.Words.{sum, sumInto}
+use borrow.Author.Tests.{ne-eqb}
+use Rattle.words.specs.declared.SignMagnitude.{SignMagnitude}
+use Rattle.words.specs.Words.{lowBits, sum, sumInto, valueOf}
 use Rattle.modes.specs.declared.Switches.{Switches}
 use Rattle.modes.specs.Modes.{oscillatorOn, envelopeOn, free, wait, runningC, switchesOf}
 use Rattle.modes.proofs.RunModes.{oscillator-tells, free-tells}
 use Rattle.modes.proofs.Exclusions.{quiet, off-not-on, on-not-off}
-use Rattle.envelope.specs.Envelope.{overflows, decayed}
+use Rattle.oscillator.specs.Oscillator.{Wave, waveOf, sineWave}
+use Rattle.envelope.specs.Envelope.{overflows, decayed, enveloped}
 use Rattle.lists.specs.Lists.{isOneOf}
 use Rattle.generator.specs.declared.Generator.{Generator}
-use Rattle.generator.specs.Generator.{updated, Ranged, runMode, withRunMode, jOf, kOf, leftRange, wOf, pOf, gjAfter, gkAfter, gqAfter, gmodeAfter, triggers, after, soundedOf}
+use Rattle.generator.specs.Generator.{updated, Ranged, runMode, oscillatorMode, withRunMode, jOf, kOf, leftRange, wOf, vOf, pOf, gjAfter, gkAfter, gqAfter, gmodeAfter, triggers, after, soundedOf}
 use Rattle.generator.specs.Steps.{oscillated, kBy, leftBy, outputBy, endedOf}
 
 -- P, of J and the oscillator's switch.
 pub output-is : (g : Generator) (f : ℕ) → outputBy (oscillatorOn (runMode g)) g f (jOf g f) ≡ pOf g f
 unfolding outputBy kBy leftBy pOf wOf kOf leftRange
 output-is g f = refl
+
+-- P by the oscillator mode, of V.
+module _ (on : Bool) (g : Generator) (f j v : ℕ) {p : ℕ} (is-v : v ≡ vOf g) where
+  pub output-of-j : p ≡ lowBits 20 (enveloped (sineWave (j / 2 ^ 7) (g .gm)) v) → oscillatorMode g ≡ 8 → p ≡ outputBy on g f j
+  unfolding outputBy kBy waveOf
+  output-of-j h e = rw (e, h, is-v)
+
+  pub output-of-gk : p ≡ lowBits 20 (enveloped (sineWave (g .gk / 2 ^ 7) (g .gm)) v) → oscillatorMode g ≡ 0 → p ≡ outputBy on g f j
+  unfolding outputBy kBy waveOf
+  output-of-gk h e = rw (e, h, is-v)
+
+  pub output-shaped : {w : SignMagnitude} → p ≡ lowBits 20 (enveloped (valueOf w) v)
+      → Wave (waveOf (oscillatorMode g) (g .gk / 2 ^ 7) (g .gm) (leftBy on g f j)) w → oscillatorMode g < 4 → p ≡ outputBy on g f j
+  unfolding outputBy kBy
+  output-shaped h k l = rw (ne-eqb (oscillatorMode g) 8 (λ e. omega arith), ← (k .is), ← is-v) h
+
+  -- A mode that isn't built.
+  pub output-rest : p ≡ lowBits 20 (enveloped (sineWave (g .gk / 2 ^ 7) (g .gm)) v) → ¬ (oscillatorMode g ≡ 8) → 4 ≤ oscillatorMode g → p ≡ outputBy on g f j
+  unfolding outputBy kBy waveOf
+  output-rest h n l = simp (ne-eqb (oscillatorMode g) 8 n, ne-eqb (oscillatorMode g) 1 (λ e. omega arith), ne-eqb (oscillatorMode g) 2 (λ e. omega arith), ne-eqb (oscillatorMode g) 3 (λ e. omega arith)) (rw (← is-v) h)
 
 -- A generator whose envelope is on doesn't wait.
 sounds-not-waits : (r : ℕ) → envelopeOn r ≡ true → eqb r wait ≡ false
@@ -70,11 +94,11 @@ module _ (g : Generator) (f : ℕ) (told : Bool) (sounds : envelopeOn (runMode g
       decays-by g (free (runMode g)) (oscillatorOn (runMode g)) _ _
       ∙ rw (sounds, t, and-false, sounds-not-waits (runMode g) sounds)
 
--- The turn by the code's values: J, P, the registers u after the oscillator's steps, and whether it triggers.
+-- The turn by the code's values: J, P, the registers u after the oscillator's steps and v after the envelope's, and whether the envelope overflows.
 module _ (g : Generator) (f : ℕ) (on : Switches) (same : on ≡ switchesOf (runMode g)) (sounds : envelopeOn (runMode g) ≡ true)
-    (j p : ℕ) (u v : Generator) (t : Bool) (is-j : j ≡ jOf g f) (is-p : p ≡ outputBy (eqb (on .oscillator) 1) g f j)
+    (j p : ℕ) (u v : Generator) (over : Bool) (is-j : j ≡ jOf g f) (is-p : p ≡ outputBy (eqb (on .oscillator) 1) g f j)
     (is-u : u ≡ oscillated (eqb (on .oscillator) 1) g j) (is-v : v ≡ decays (eqb (on .free) 1) u)
-    (is-t : t ≡ (eqb (on .free) 1 && overflows (g .gq) (g .gp))) where
+    (is-over : over ≡ overflows (g .gq) (g .gp)) where
   oscillator-same : eqb (on .oscillator) 1 ≡ oscillatorOn (runMode g)
   oscillator-same = rw same (oscillator-tells (runMode g))
 
@@ -84,23 +108,33 @@ module _ (g : Generator) (f : ℕ) (on : Switches) (same : on ≡ switchesOf (ru
   p-same : p ≡ pOf g f
   p-same = rw (is-p, is-j, oscillator-same) (output-is g f)
 
-  t-same : t ≡ triggers g
+  triggers-same : (eqb (on .free) 1 && over) ≡ triggers g
   unfolding triggers
-  t-same = rw (is-t, free-same)
+  triggers-same = rw (is-over, free-same)
 
-  pub sounded-triggers : {w : Generator} → w ≡ endedOf v → t ≡ true → record { unit = w; p = p; triggers = true } ≡ soundedOf g f
-  unfolding soundedOf
-  sounded-triggers {w} e h = rw (whole, p-same, ← t-same, h)
-    where
-      whole : w ≡ after g f false
-      whole = rw (e, is-v, is-u, is-j, oscillator-same, free-same) (turn-triggers g f false sounds (sym t-same ∙ h))
+  triggers-by : {b o : Bool} → eqb (on .free) 1 ≡ b → over ≡ o → triggers g ≡ (b && o)
+  triggers-by h k = sym triggers-same ∙ rw (h, k)
 
-  pub sounded-quiet : t ≡ false → record { unit = v; p = p; triggers = false } ≡ soundedOf g f
+  quiet-by : triggers g ≡ false → record { unit = v; p = p; triggers = false } ≡ soundedOf g f
   unfolding soundedOf
-  sounded-quiet h = rw (whole, p-same, ← t-same, h)
+  quiet-by t = rw (whole, p-same, t)
     where
       whole : v ≡ after g f false
-      whole = rw (is-v, is-u, is-j, oscillator-same, free-same) (turn-quiet g f false sounds (sym t-same ∙ h))
+      whole = rw (is-v, is-u, is-j, oscillator-same, free-same) (turn-quiet g f false sounds t)
+
+  -- An overflow of a free envelope, one of a sticky envelope, and none.
+  pub sounded-triggers : {w : Generator} → w ≡ endedOf v → over ≡ true → eqb (on .free) 1 ≡ true → record { unit = w; p = p; triggers = true } ≡ soundedOf g f
+  unfolding soundedOf
+  sounded-triggers {w} e k h = rw (whole, p-same, triggers-by h k)
+    where
+      whole : w ≡ after g f false
+      whole = rw (e, is-v, is-u, is-j, oscillator-same, free-same) (turn-triggers g f false sounds (triggers-by h k))
+
+  pub sounded-sticky : over ≡ true → eqb (on .free) 1 ≡ false → record { unit = v; p = p; triggers = false } ≡ soundedOf g f
+  sounded-sticky k h = quiet-by (triggers-by h k)
+
+  pub sounded-quiet : over ≡ false → record { unit = v; p = p; triggers = false } ≡ soundedOf g f
+  sounded-quiet k = quiet-by (triggers-by refl k ∙ and-false (eqb (on .free) 1))
 
 oscillated-gq : (o : Bool) (g : Generator) (j : ℕ) → oscillated o g j .gq ≡ g .gq
 unfolding oscillated

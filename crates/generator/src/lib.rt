@@ -1,17 +1,17 @@
 // One generator by value: its registers, and its turn in a pass.
 ghost use Prim.Native.Nat.{_≤_, _<_, _^_};
 ghost use mathlib.Core.Path.{_≡_};
-ghost use mathlib.Core.Bool.{true, _&&_};
+ghost use mathlib.Core.Bool.{true};
 ghost use lib.Dec.{eqb};
 ghost use lib.ListN.{length};
-ghost use Rattle.words.specs.Words.{sum, sumInto};
+ghost use Rattle.words.specs.Words.{lowBits, sum, sumInto};
 ghost use Rattle.sine.specs.Sine.{quarter};
 ghost use Rattle.exponential.specs.Exponential.{entries};
 ghost use Rattle.modes.specs.Modes.{switchesOf, envelopeOn, wait};
-ghost use Rattle.oscillator.specs.Oscillator.{Wave, waveOf};
-ghost use Rattle.envelope.specs.Envelope.{overflows, decayed};
+ghost use Rattle.oscillator.specs.Oscillator.{Wave, waveOf, sineWave};
+ghost use Rattle.envelope.specs.Envelope.{overflows, decayed, enveloped};
 ghost use Rattle.generator.specs.Generator.{loaded, stored, updated, Ranged, runMode, oscillatorMode, withRunMode, jOf, after, soundedOf};
-ghost use Rattle.generator.specs.Steps.{oscillated, kBy, leftBy, outputBy, endedOf};
+ghost use Rattle.generator.specs.Steps.{oscillated, leftBy, outputBy, endedOf};
 use modes::Switches;
 use words::SignMagnitude;
 
@@ -145,16 +145,6 @@ impl Generator {
         self
     }
 
-    // Step 3: K, the high 13 bits of J or of GK.
-    fn k(self, j: u32) -> u32
-        ensures { λ r. ⌜ r ≡ kBy self j ⌝ }
-    {
-        if self.gmode % 16 == 8 {
-            return j / 128;
-        }
-        self.gk / 128
-    }
-
     // Whether the sum of step 1, or of step 4 where it is done, leaves its range.
     fn left_range(self, on: u8, f: u32, j: u32) -> bool
         requires { ⌜ Ranged self ⌝ }
@@ -187,45 +177,33 @@ impl Generator {
         oscillator::pulse(self.left_range(on, f, j))
     }
 
-    // Step 6: W.
-    fn wave(self, sine: &[u16; 2048], on: u8, f: u32, j: u32) -> SignMagnitude
-        requires { ⌜ Ranged self ⌝ }
+    // Steps 6 and 9 in the oscillator modes 0000 and 1000: P, of K and V.
+    fn sine_under(self, sine: &[u16; 2048], k: u32, v: u32) -> u32
         requires { ⌜ now sine ≡ quarter ⌝ }
-        requires { ⌜ (f < 2 ^ 20) × (j < 2 ^ 20) ⌝ }
-        ensures { λ r. ⌜ Wave (waveOf (oscillatorMode self) (kBy self j) (self .gm) (leftBy (eqb on 1) self f j)) r ⌝ }
+        requires { ⌜ (self .gm < 2 ^ 4) × (k < 2 ^ 13) × (v < 2 ^ 12) ⌝ }
+        ensures { λ r. ⌜ r ≡ lowBits 20 (enveloped (sineWave k (self .gm)) v) ⌝ }
     {
-        let k = self.k(j);
-        let mode = self.gmode % 16;
-        if mode == 0 {
-            return oscillator::sine_wave(sine, k, self.gm);
-        }
-        if mode < 4 {
-            return self.shaped(on, f, j, k);
-        }
-        oscillator::sine_wave(sine, k, self.gm)
+        envelope::enveloped(oscillator::sine_wave(sine, k, self.gm), v)
     }
 
-    // Steps 3 and 6 to 9: P, of J and whether the oscillator is on.
+    // Steps 3 and 6 to 9: P, of J and whether the oscillator is on. K is the high 13 bits of J or of GK.
     fn output(self, sine: &[u16; 2048], decay: &[u16; 256], on: u8, f: u32, j: u32) -> u32
         requires { ⌜ Ranged self ⌝ }
         requires { ⌜ (now sine ≡ quarter) × (now decay ≡ entries 256) ⌝ }
         requires { ⌜ (f < 2 ^ 20) × (j < 2 ^ 20) ⌝ }
         ensures { λ r. ⌜ r ≡ outputBy (eqb on 1) self f j ⌝ }
     {
-        let w = self.wave(sine, on, f, j);
         let v = envelope::level(decay, self.gmode / 16 % 4, self.gl, self.gq);
-        envelope::enveloped(w, v)
-    }
-
-    // Whether a generator triggers, where free is 1 for a free envelope.
-    fn fires(self, free: u8) -> bool
-        requires { ⌜ Ranged self ⌝ }
-        ensures { λ r. ⌜ r ≡ (eqb free 1 && overflows (self .gq) (self .gp)) ⌝ }
-    {
-        if free == 1 {
-            return self.overflows();
+        if self.gmode % 16 == 8 {
+            return self.sine_under(sine, j / 128, v);
         }
-        false
+        if self.gmode % 16 == 0 {
+            return self.sine_under(sine, self.gk / 128, v);
+        }
+        if self.gmode % 16 < 4 {
+            return envelope::enveloped(self.shaped(on, f, j, self.gk / 128), v);
+        }
+        self.sine_under(sine, self.gk / 128, v)
     }
 
     // 1101 goes to 1001.
@@ -249,15 +227,23 @@ impl Generator {
         let j = self.phase(f);
         let p = self.output(sine, decay, on.oscillator, f, j);
         let turned = self.oscillate(on.oscillator, j);
-        let decayed = turned.decay(on.free);
-        if self.fires(on.free) {
-            let ended = decayed.ended();
+        if self.overflows() {
+            let decayed = turned.decay(on.free);
+            if on.free == 1 {
+                let ended = decayed.ended();
+                return Sounded {
+                    unit: ended,
+                    p,
+                    triggers: true,
+                };
+            }
             return Sounded {
-                unit: ended,
+                unit: decayed,
                 p,
-                triggers: true,
+                triggers: false,
             };
         }
+        let decayed = turned.decay(on.free);
         Sounded {
             unit: decayed,
             p,

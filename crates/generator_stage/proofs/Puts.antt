@@ -18,6 +18,7 @@ use Rattle.generator.specs.Generator.{Ranged, runMode, after}
 use Rattle.generator.proofs.Registers.{ranged, after-ranged}
 use Rattle.generator_stage.specs.GeneratorStage.{State, generatorOf, putGenerator, putDAC, told, step}
 use Rattle.generator_stage.specs.Loops.{Low, Ready}
+use Rattle.layout.proofs.Reach.{same-reach}
 
 -- The words of generator g that its turn leaves alone, and all other words.
 pub record Apart (i g : ℕ) : Type 0 where
@@ -107,16 +108,6 @@ module _ (words : List ℕ) (u : Generator) (f : ℕ) where
   pub dac-length : length (putDAC words u f) ≡ length words
   unfolding putDAC
   dac-length = length-by (eqb (runMode u) writeDAC)
-
-pub same-reach : {l m : List ℕ} → length m ≡ length l → Reaches l → Reaches m
-same-reach e r =
-    record {
-      generators = rw e (r .generators);
-      modifiers = rw e (r .modifiers);
-      sums = rw e (r .sums);
-      dacs = rw e (r .dacs);
-      controls = rw e (r .controls);
-    }
 
 -- Generator h after generator g was put back: as it was, or as it was put.
 low-after : (words : List ℕ) (g h : ℕ) (u : Generator) → g < 256 → h < 256 → Ready words → Ranged u → Low (putGenerator words g u) h

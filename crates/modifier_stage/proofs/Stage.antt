@@ -18,6 +18,7 @@ use Rattle.sums.proofs.Blocks.{Outside, getD-outside}
 use Rattle.modifier_stage.specs.ModifierStage.{left, earlyView, lateView, turnSeen, modifierOf, modify, modified, wordsAfter, modifierThisAfter}
 use Rattle.modifier_stage.proofs.Registers.{registers, four, put-is, sets-low}
 use Rattle.modifier_stage.proofs.Views.{left-snoc, left-length, written-low, seen-low}
+use Rattle.layout.proofs.Reach.{same-reach}
 
 -- What a turn gives is within its widths, whatever stands in the machine.
 pub turn-seen-low : (s : List (List ℕ)) (early late words : List ℕ) (m : ℕ) → Low (turnSeen s early late (modifierOf words m))
@@ -51,15 +52,6 @@ words-length words s zero = ap length (words-none words s)
 words-length words s (suc n) =
     let t = taken words s n in
     rw (t .is, length-sets (wordsAfter words s n) (2816 + 8 * n) (registers (t .unit))) (words-length words s n)
-
-pub same-reach : {l m : List ℕ} → length m ≡ length l → Reaches l → Reaches m
-same-reach e r = record {
-  generators = rw e (r .generators);
-  modifiers = rw e (r .modifiers);
-  sums = rw e (r .sums);
-  dacs = rw e (r .dacs);
-  controls = rw e (r .controls);
-}
 
 pub words-reach : (words : List ℕ) (s : List (List ℕ)) (n : ℕ) → Reaches words → Reaches (wordsAfter words s n)
 words-reach words s n r = same-reach (words-length words s n) r

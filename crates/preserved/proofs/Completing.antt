@@ -16,11 +16,11 @@ use Rattle.sums.specs.Sums.{generatorThis, modifierThis, closed}
 use Rattle.sums.proofs.Blocks.{Outside, outside-after}
 use Rattle.sums.proofs.Memory.{Quadrants}
 use Rattle.sums.proofs.Closing.{closed-length, closed-outside}
-use Rattle.generator_stage.proofs.Puts.{same-reach}
 use Rattle.modifier_stage.specs.ModifierStage.{earlyView, lateView, turnSeen, modifierOf, modify, modified, wordsAfter, modifierThisAfter}
 use Rattle.modifier_stage.proofs.Stage.{Elsewhere, turn-seen-low, words-length, words-kept, words-above, this-length, this-low}
 use Rattle.pass.specs.Pass.{counted, completed}
 use Rattle.preserved.proofs.SoundPuts.{sound-modifier-put, sound-counted, sound-closed}
+use Rattle.layout.proofs.Reach.{same-reach}
 
 -- The modifiers keep a machine sound.
 pub modified-sound : (words : List ℕ) (s : List (List ℕ)) (n : ℕ) → n ≤ 128 → sound words ≡ true → sound (wordsAfter words s n) ≡ true

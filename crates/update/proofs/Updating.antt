@@ -6,11 +6,11 @@ use mathlib.Core.Bool.{Bool, true, false, cond}
 use mathlib.Core.List.{List, [], _∷_}
 use Prim.Native.Nat.{ℕ, zero, suc, _+_, _-_, _*_, _≤_}
 use native.Mathlib.Omega.{arith}
-use borrow.Author.Tests.{eq-eqb, ne-eqb, eqb-true}
+use borrow.Author.Tests.{eq-eqb, ne-eqb}
 use lib.Dec.{eqb}
 use lib.ListN.{length, drop, take, set, length-drop}
 use lib.Seq.{take-all}
-use Rattle.layout.specs.Layout.{machineLength, lingeringAt, Reaches}
+use Rattle.layout.specs.Layout.{lingeringAt, Reaches}
 use Rattle.machine.specs.Questions.{asked, question1, question2}
 use Rattle.machine.proofs.SoundMachine.{reaches}
 use Rattle.control.specs.Built.{commandRefusal}

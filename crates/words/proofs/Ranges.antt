@@ -1,16 +1,18 @@
 -- A signed word by its bias, a number 2^(w-1) above it; and whether an exact sum leaves its range, told from such numbers, at any width.
 -- Assumes nothing.
-use mathlib.Core.Path.{_≡_, refl, sym}
+use mathlib.Core.Path.{_≡_, refl, sym, ap, _∙_}
 use mathlib.Core.Bool.{Bool, true, false, cond, not}
 use Prim.Native.Nat.{ℕ, suc, _+_, _-_, _%_, _^_, _<_, _≤_}
-use native.Mathlib.Nat.{mod-eq-of-lt, mod-eq-sub-mod}
+use native.Mathlib.Nat.{mod-lt, mod-eq-of-lt, mod-eq-sub-mod}
 use native.Mathlib.Omega.{arith}
-use lib.Dec.{T, leb, ltb, ltb→lt, nltb→le}
+use lib.Dec.{T, leb, ltb, ltb→lt, nltb→le, lit≤}
+use lib.Pow.{pow-pos}
 use lib.IntN.{ℤ, pos, negsuc, _+ℤ_, _-ℤ_}
 use lib.Signed.{mag}
 use borrow.Author.Tests.{le-leb, lt-leb, leb-true, leb-false}
-use Rattle.words.specs.Words.{signed, leaves, exactSum, outside}
+use Rattle.words.specs.Words.{lowBits, signed, leaves, extended, exactSum, outside}
 use Rattle.words.proofs.Differences.{add-law, Difference, is-difference, sum-difference, is-minus}
+use Rattle.words.proofs.Residues.{into-code}
 
 -- A word of m numbers, where a test against t tells its halves, of h numbers, apart.
 halves : (t m h n : ℕ) → m ≡ h + h → n < m → (n < t → n < h) → (t ≤ n → h ≤ n)
@@ -56,26 +58,28 @@ module _ (w a b m n : ℕ) (p : signed w a ≡ pos m -ℤ pos (2 ^ (w - 1))) (q 
   unfolding leaves
   leaves-above h = mag-above (2 ^ (w - 1)) both (omega arith)
 
--- An integer n - k beside the range from 0 to 2^u - 1.
-beside-below : (u : ℕ) {z : ℤ} {n k : ℕ} → Difference z n k → n < k → outside u z ≡ true
-unfolding outside
-beside-below u {z = pos a} d l = absurd (omega arith)
-beside-below u {z = negsuc a} d l = refl
+-- An integer n - k, where n is below m + 2k.
+mag-small : (m : ℕ) {z : ℤ} {n k : ℕ} → Difference z n k → n < m + (k + k) → 0 < k → mag z < m + k
+mag-small m {z = pos a} d l p = omega arith
+mag-small m {z = negsuc a} d l p = omega arith
 
-beside-above : (u : ℕ) {z : ℤ} {n k : ℕ} → Difference z n k → k ≤ n → outside u z ≡ leb (2 ^ u + k) n
-unfolding outside
-beside-above u {z = pos a} {n} {k} d l =
-    alike _ _ (λ e. le-leb (2 ^ u + k) n (omega (arith, leb-true))) (λ e. lt-leb (2 ^ u + k) n (omega (arith, leb-false)))
-beside-above u {z = negsuc a} d l = absurd (omega arith)
+-- Whether an integer is outside the range from 0 to 2^u - 1, by its low v bits: one below 0 has low bits above that range.
+outside-low : (u v : ℕ) (z : ℤ) → mag z + 2 ^ u < 2 ^ v → leb (2 ^ u) (lowBits v z) ≡ outside u z
+unfolding outside lowBits
+outside-low u v (pos n) h = ap (leb (2 ^ u)) (mod-eq-of-lt (omega arith))
+outside-low u v (negsuc n) h = le-leb (2 ^ u) _ (omega (arith, mod-eq-of-lt {n = n} {m = 2 ^ v} (omega arith)))
 
--- Whether the sum of an unsigned register of u bits and a signed word is outside the register's range.
-module _ (u w a b n : ℕ) (p : signed w b ≡ pos n -ℤ pos (2 ^ (w - 1))) where
-  exact : Difference (exactSum w a b) (a + n) (2 ^ (w - 1))
+-- The code: whether the sum of an unsigned register of u bits and a signed word, wrapped at 32 bits to r, is outside the register's range.
+module _ (u w a b : ℕ) (e : 2 ^ w ≡ 2 ^ (w - 1) + 2 ^ (w - 1)) (f : 2 ^ u + 2 ^ (w - 1) + 2 ^ u < 2 ^ 32) (ha : a < 2 ^ u) (hb : b < 2 ^ w) where
+  exact : Difference (exactSum w a b) (a + (b + 2 ^ (w - 1)) % 2 ^ w) (2 ^ (w - 1))
   unfolding exactSum
-  exact = record { said = omega (arith, add-law (pos a) (signed w b), is-difference n (2 ^ (w - 1)) p .said) }
+  exact = record { said = omega (arith, add-law (pos a) (signed w b), is-difference _ (2 ^ (w - 1)) (bias w b e hb) .said) }
 
-  pub outside-below : a + n < 2 ^ (w - 1) → outside u (exactSum w a b) ≡ true
-  outside-below h = beside-below u exact h
+  exact-small : mag (exactSum w a b) < 2 ^ u + 2 ^ (w - 1)
+  exact-small = mag-small (2 ^ u) exact (omega (arith, e, ha, mod-lt (b + 2 ^ (w - 1)) (pow-pos w))) (pow-pos (w - 1))
 
-  pub outside-above : 2 ^ (w - 1) ≤ a + n → outside u (exactSum w a b) ≡ leb (2 ^ u + 2 ^ (w - 1)) (a + n)
-  outside-above h = beside-above u exact h
+  pub outside-code : {x r : ℕ} → x ≡ extended w 32 b → r ≡ (a + x) % 2 ^ 32 → leb (2 ^ u) r ≡ outside u (exactSum w a b)
+  outside-code {x} {r} p q = ap (leb (2 ^ u)) whole ∙ outside-low u 32 (exactSum w a b) (omega (arith, exact-small, f))
+    where
+      whole : r ≡ lowBits 32 (exactSum w a b)
+      whole = sym (mod-eq-of-lt (omega (arith, q))) ∙ into-code 32 w a b (lit≤ tt) p q

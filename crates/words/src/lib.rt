@@ -70,16 +70,13 @@ pub fn into24(a: u32, b: u32) -> u32
     std::num::wrapping_add_u32(a, extend20(b)) % 16777216
 }
 
-// Whether that sum, before it is reduced, is outside 0 to 16,777,215.
+// Whether that sum, before it is reduced, is outside 0 to 16,777,215. One below 0 wraps to a number above that range.
 pub fn outside24(a: u32, b: u32) -> bool
     requires { ⌜ (a < 2 ^ 24) × (b < 2 ^ 20) ⌝ }
     ensures { λ r. ⌜ r ≡ outside 24 (exactSum 20 a b) ⌝ }
 {
-    let exact = a + biased20(b);
-    if exact < 524288 {
-        return true;
-    }
-    17301504 <= exact
+    let wrapped = std::num::wrapping_add_u32(a, extend20(b));
+    16777216 <= wrapped
 }
 
 // A signed word of 20 bits added into a signed register of 28 bits, reduced to 28 bits.

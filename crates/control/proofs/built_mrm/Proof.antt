@@ -1,5 +1,6 @@
 -- `control::built_mrm` meets its contract.
 -- Assumes nothing.
+use mathlib.Core.Path.{refl}
 use borrow.Author.Needs.{needs}
 use Rattle.control.proofs.built_mrm.Statement.{statement}
 use Rattle.control.proofs.built_mrm.Tie as tie
@@ -11,7 +12,7 @@ built-address-requires-2 : tie.Need-built-address-requires-2
 built-address-requires-2 c κs = search needs
 
 returns : tie.Need-returns
-returns c = cc
+returns c = rw (c .before .built-address .ensures, c .built-address2 .ensures) refl
 
 pub built-mrm-spec : {M : Type 1} → statement M
 built-mrm-spec = tie.close (tie.spec built-address-requires built-address-requires-2 returns)

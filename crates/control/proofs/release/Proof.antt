@@ -5,9 +5,9 @@ use Prim.Native.Nat.{_-_, _≤_}
 use native.Mathlib.Omega.{arith}
 use lib.ListN.{length}
 use Rattle.control.specs.Control.{releasedBelow}
-use Rattle.control.proofs.Reach.{same-reach}
 use Rattle.control.proofs.Releases.{none-released, one-more, all-released}
 use Rattle.control.proofs.release.Statement.{statement}
+use Rattle.layout.proofs.Reach.{same-reach}
 use Rattle.control.proofs.release.Tie as tie
 
 abbrev Inv-loop : tie.InvT-loop

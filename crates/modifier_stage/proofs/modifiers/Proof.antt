@@ -5,8 +5,8 @@ use lib.ListN.{length}
 use borrow.Author.Needs.{needs}
 use Rattle.modifier_stage.specs.Loops.{lagging, lagged}
 use Rattle.modifier_stage.proofs.Lags.{lagged-on, stage-end}
-use Rattle.modifier_stage.proofs.Stage.{same-reach}
 use Rattle.modifier_stage.proofs.modifiers.Statement.{statement}
+use Rattle.layout.proofs.Reach.{same-reach}
 use Rattle.modifier_stage.proofs.modifiers.Tie as tie
 
 abbrev Inv-loop : tie.InvT-loop

@@ -1,8 +1,8 @@
 use mathlib.Core.Path.{_∙_}
 use native.Mathlib.Omega.{arith}
-use Rattle.generator_stage.proofs.Puts.{same-reach}
 use Rattle.pass.proofs.Runs.{ran-by}
 use Rattle.pass.proofs.run.Statement.{statement}
+use Rattle.layout.proofs.Reach.{same-reach}
 use Rattle.pass.proofs.run.Tie as tie
 
 ticks-requires : tie.Need-ticks-requires

@@ -4,9 +4,9 @@ use mathlib.Core.Path.{_∙_}
 use Prim.Native.Nat.{_-_}
 use native.Mathlib.Omega.{arith}
 use borrow.Author.Needs.{needs}
-use Rattle.control.proofs.Reach.{same-reach}
 use Rattle.update.proofs.Taking.{Going, begins, ends-most, ends-empty, ends-refused, ends-waiting, goes-on}
 use Rattle.update.proofs.run.Statement.{statement}
+use Rattle.layout.proofs.Reach.{same-reach}
 use Rattle.update.proofs.run.Tie as tie
 
 abbrev Inv-loop : tie.InvT-loop

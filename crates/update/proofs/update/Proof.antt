@@ -3,10 +3,10 @@
 use mathlib.Core.Path.{sym, _∙_}
 use native.Mathlib.Omega.{arith}
 use lib.ListN.{length-set}
-use Rattle.control.proofs.Reach.{same-reach}
 use Rattle.update.proofs.Updating.{passes-reach, update-refused, update-lingers, update-ran, place-whole}
 use borrow.Author.Needs.{needs}
 use Rattle.update.proofs.update.Statement.{statement}
+use Rattle.layout.proofs.Reach.{same-reach}
 use Rattle.update.proofs.update.Tie as tie
 
 refusal-requires : tie.Need-refusal-requires
