@@ -44,7 +44,7 @@ FORMS = (
 )
 
 # Records of equations that contracts of inner functions use.
-EQUATIONS = ("≡", "Word ", "Wave ", "Taken ")
+EQUATIONS = ("≡", "Word ", "Wave ", "Taken ", "Trace ")
 
 FUNCTION = re.compile(r"^ *pub (?:extern \"C\" )?fn (\w+).*?^ *\{$", re.M | re.S)
 

@@ -1,0 +1,45 @@
+use mathlib.Core.Path.{_≡_, refl, _∙_}
+use lib.ListN.{length, drop}
+use borrow.Author.Needs.{needs}
+use Rattle.ringing.specs.Ringing.{ringing}
+use Rattle.ring.proofs.Parts.{part-falls}
+use Rattle.ring.proofs.ring_all.Statement.{statement}
+use Rattle.ring.proofs.ring_all.Tie as tie
+
+abbrev Inv-loop : tie.InvT-loop
+Inv-loop m₀ commands passes at₀ m at = length m ≡ length m₀
+
+abbrev μ-loop : tie.MeasureT-loop
+μ-loop m₀ commands passes at₀ m at = at .passes
+
+loop-holds : tie.Need-loop-holds Inv-loop μ-loop
+loop-holds c = refl
+
+ring-part-requires : tie.Need-ring-part-requires Inv-loop μ-loop
+ring-part-requires c κs = search needs
+
+loop-less : tie.Need-loop-less Inv-loop μ-loop
+loop-less c = let l = c .before .before .before .before .before .before .loop in
+    part-falls (ringing (l .at .passes) (l .m) (drop (l .at .taken) (c .before .before .before .before .before .before .before .before .before .args .commands .now))) (c .before .before .before .before .if1 .taken) (c .before .before .ring-part .ensures)
+
+loop-again : tie.Need-loop-again Inv-loop μ-loop
+loop-again c = c .before .before .ring-part .kept .1 .0 ∙ c .before .before .before .before .before .before .loop .inv
+
+same-length : tie.Need-same-length Inv-loop μ-loop
+same-length c = c .before .before .loop .inv
+
+returns : tie.Need-returns Inv-loop μ-loop
+returns c = search needs
+
+pub ring-all-spec : {M : Type 1} → statement M
+ring-all-spec =
+    tie.close
+    (tie.spec
+    Inv-loop
+    μ-loop
+    loop-holds
+    ring-part-requires
+    loop-less
+    loop-again
+    same-length
+    returns)

@@ -1,0 +1,5 @@
+pub mod Steps
+pub mod ByNumber
+pub mod RungFile
+pub mod Turns
+pub mod Gatherings
