@@ -17,8 +17,9 @@ use Rattle.bench_file.specs.BenchFile.{readOf}
 use Rattle.ringing.specs.Ringing.{passed, lineAfter, printed, Ringing, ringing, Step, stepTo, stepOf, rungFrom, outputOf}
 use Rattle.ringing.specs.Gathering.{gatheredAfter, gathered, printedBy, printedFrom}
 use Rattle.ringing.proofs.Steps.{steps-are-output}
-use Rattle.ringing.proofs.RungFile.{first-put, rung-file}
+use Rattle.ringing.proofs.RungFile.{rung-file}
 use Rattle.ringing.proofs.Turns.{step-length}
+use Rattle.bench_file.proofs.FewCommands.{commands-first}
 
 -- What is printed from a ringing under way.
 abbrev pub onward : Ringing → List ℕ
@@ -139,7 +140,7 @@ module _ (passes : ℕ) (m cs line : List ℕ) {size : ℕ} {after : List ℕ} (
   part-is : take (size - 0) after ≡ bytes
   part-is =
       let k : size - 0 ≡ length bytes = omega arith in
-      rw (k, ea) (first-put line bytes (omega (arith, step-length passes m cs)))
+      rw (k, ea) (commands-first bytes line (omega (arith, step-length passes m cs)))
 
   pub part-fits : (at n : ℕ) → at + 64 ≤ n → at + length (take (size - 0) after) ≤ n
   part-fits at n h = rw part-is (omega (arith, step-length passes m cs))

@@ -6,8 +6,8 @@ use mathlib.Core.List.{List, [], _∷_}
 use Prim.Native.Nat.{ℕ, _+_, _≤_}
 use native.Mathlib.Omega.{arith}
 use lib.Dec.{eqb}
-use lib.ListN.{length, take, drop, length-set}
-use lib.Seq.{sets, length-sets, sets-eq, take-append-seam}
+use lib.ListN.{length, take, length-set}
+use lib.Seq.{sets, length-sets}
 use Rattle.text.specs.Text.{refusalLine}
 use Rattle.text.proofs.Lines.{of-cond}
 use Rattle.layout.specs.Layout.{machineLength}
@@ -15,13 +15,9 @@ use Rattle.machine.proofs.FreshMachine.{fresh-length}
 use Rattle.bench_file.specs.declared.Line.{Line}
 use Rattle.bench_file.specs.declared.Line.the-variants.{Passes, Word, Command, Other}
 use Rattle.bench_file.specs.BenchFile.{lineOf, linesOf, Reading, unread, withLine, withLines, fileOf, fits, Answer, answer, readOf}
-use Rattle.bench_file.proofs.FewCommands.{few-commands}
+use Rattle.bench_file.proofs.FewCommands.{few-commands, commands-first}
 use Rattle.ringing.specs.Ringing.{printed, ringing, untilDone, outputOf, rungFrom}
 use Rattle.ringing.proofs.Steps.{steps-are-output}
-
--- What is put at the start of a run that is long enough stands there.
-pub first-put : (room cs : List ℕ) → length cs ≤ length room → take (length cs) (sets room 0 cs) ≡ cs
-first-put room cs h = ap (take (length cs)) (sets-eq cs room 0 (omega arith)) ∙ take-append-seam cs (drop (0 + length cs) room)
 
 -- The whole program, for every text.
 pub rung-file : (text m room : List ℕ) → length room ≡ 4096 → rungFrom (readOf text m room) ≡ outputOf text
@@ -36,7 +32,7 @@ rung-file text m room h = go (fits text) refl
         ≡ cond b (printed (file .passes) (file .machine) (file .commands)) (refusalLine 9)
     go true e =
         let cs = file .commands in
-        ap (λ (l : List ℕ). untilDone (file .passes) (ringing (file .passes) (file .machine) l)) (first-put room cs (omega (arith, few-commands text e)))
+        ap (λ (l : List ℕ). untilDone (file .passes) (ringing (file .passes) (file .machine) l)) (commands-first cs room (omega (arith, few-commands text e)))
         ∙ steps-are-output (file .passes) (ringing (file .passes) (file .machine) cs) (omega arith)
     go false e = refl
 
