@@ -1,6 +1,7 @@
 """Runs target/bin/speed and target/bench/leaves by turns on the same generators; bench/leaves calls it.
 
-The time is the processor's, so that other work on the machine disturbs it less.
+The time is the processor's, so that other work on the machine disturbs it less. The ratio
+is the median of the ratios of neighbouring runs, since the machine's pace may change.
 """
 
 import random
@@ -13,13 +14,13 @@ from statistics import median
 from reference.tables import EXPONENTIAL, SINE
 
 RATTLE, C, TABLES = "target/bin/speed", "target/bench/leaves", "target/bench/tables"
-RUNS = 9
+RUNS = 61
 SEED = 1978
 GENERATORS = 256
 # The job's name in C, its number in Rattle, what is measured, how often, and how many of them that makes.
 JOBS = (
-    ("generators", 0, "generator's turn", 400_000, GENERATORS),
-    ("products", 1, "product", 150_000_000, 1),
+    ("generators", 0, "generator's turn", 30_000, GENERATORS),
+    ("products", 1, "product", 10_000_000, 1),
 )
 RUN_MODES = (0b1111,) * 9 + (0b1110,) * 9 + (0b0111, 0b0000)
 OSCILLATOR_MODES = (0b0000, 0b1000)
@@ -59,7 +60,8 @@ def measure(job, number, what, count, each, words):
         print("%s: the checksums differ: Rattle %s, C %s" % (what, *printed))
         return False
     rattle, c = (median(taken) / count / each * 1e9 for taken in seconds)
-    print("%s: Rattle %.2f ns, C %.2f ns, ratio %.2f" % (what, rattle, c, rattle / c))
+    ratio = median(a / b for a, b in zip(*seconds))
+    print("%s: Rattle %.2f ns, C %.2f ns, ratio %.2f" % (what, rattle, c, ratio))
     return True
 
 

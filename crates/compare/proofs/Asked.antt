@@ -1,15 +1,11 @@
 -- The questions of a compare: asked two by two, as the code asks them, and what a machine and the orders that pass them are.
 -- Assumes nothing.
-use mathlib.Core.Path.{_≡_, refl, sym, _∙_}
+use mathlib.Core.Path.{_≡_, sym, _∙_}
 use mathlib.Core.Logic.{_≢_}
-use mathlib.Core.Bool.{Bool, true, false, cond}
 use mathlib.Core.List.{List, [], _∷_}
 use Prim.Native.Nat.{ℕ}
 use native.Mathlib.Omega.{arith}
-use lib.ListN.{length}
-use borrow.Author.Tests.{eqb-true}
-use Rattle.layout.specs.Layout.{machineLength}
-use Rattle.machine.specs.Questions.{Question, asked, question1, question2, sound}
+use Rattle.machine.specs.Questions.{asked, question1, question2}
 use Rattle.machine.proofs.SoundMachine.{reaches, sound-generator, sound-controls}
 use Rattle.order.specs.Order.{ticksOf, question5, question6, IsOrder}
 use Rattle.order.proofs.Entries.{order-passes}

@@ -1,16 +1,16 @@
 -- What a step leaves in each word of the machine, and that generators stay ready to be taken.
 -- Assumes nothing.
-use mathlib.Core.Path.{_≡_, refl, sym, ap, _∙_}
+use mathlib.Core.Path.{_≡_, refl, _∙_}
 use mathlib.Core.Logic.{_≢_}
 use mathlib.Core.Bool.{Bool, true, false, cond}
 use mathlib.Core.List.{List}
-use Prim.Native.Nat.{ℕ, _+_, _*_, _%_, _^_, _<_, _≤_}
+use Prim.Native.Nat.{ℕ, _+_, _%_, _^_, _<_}
 use native.Mathlib.Omega.{arith}
 use lib.Dec.{eqb}
 use lib.ListN.{length, getD, set, drop, length-set}
 use lib.Seq.{getD-set-same, getD-set-other}
 use borrow.Author.Tests.{eqb-true, eqb-false}
-use Rattle.layout.specs.Layout.{Reaches, generatorAt, dacAt}
+use Rattle.layout.specs.Layout.{generatorAt, dacAt}
 use Rattle.modes.specs.Modes.{writeDAC}
 use Rattle.sums.specs.Sums.{fAt}
 use Rattle.generator.specs.declared.Generator.{Generator}

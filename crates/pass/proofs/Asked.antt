@@ -1,16 +1,15 @@
 -- The questions of a pass: asked two by two, as the code asks them, and what a machine and an order that pass them are.
 -- Assumes nothing.
-use mathlib.Core.Path.{_≡_, refl, sym, ap, _∙_}
+use mathlib.Core.Path.{_≡_, refl, sym, _∙_}
 use mathlib.Core.Logic.{_≢_}
 use mathlib.Core.Bool.{Bool, true, false, cond}
 use mathlib.Core.List.{List, [], _∷_}
 use Prim.Native.Nat.{ℕ, _<_, _≤_}
 use native.Mathlib.Omega.{arith}
-use lib.Dec.{eqb, leb}
-use lib.ListN.{length, getD}
-use borrow.Author.Tests.{eqb-true, le-leb, lt-leb}
+use lib.ListN.{length}
+use borrow.Author.Tests.{le-leb, lt-leb}
 use Rattle.layout.specs.Layout.{machineLength}
-use Rattle.machine.specs.Questions.{Question, asked, question1, question2, sound}
+use Rattle.machine.specs.Questions.{asked, question1, question2, sound}
 use Rattle.machine.proofs.SoundMachine.{reaches, sound-generator, sound-controls}
 use Rattle.order.specs.Order.{ticksOf, question5, question6, question7, question8, inMode}
 use Rattle.order.proofs.Entries.{order-passes}

@@ -1,11 +1,10 @@
 -- The second and the third point by what is held of the orders are these points.
 -- Assumes nothing.
-use mathlib.Core.Path.{_≡_, refl, sym, ap, _∙_}
+use mathlib.Core.Path.{_≡_, refl, ap, _∙_}
 use mathlib.Core.Bool.{Bool, true, false, cond}
 use mathlib.Core.List.{List}
-use Prim.Native.Nat.{ℕ, _<_}
+use Prim.Native.Nat.{ℕ}
 use lib.Dec.{eqb}
-use lib.ListN.{getD}
 use Rattle.sequences.specs.Sequences.{some, lastOf, firstFailing, latest}
 use Rattle.sequences.proofs.Orders.{some-orders}
 use Rattle.sequences.proofs.Loops.{failing-same}

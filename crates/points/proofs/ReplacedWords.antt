@@ -1,23 +1,23 @@
 -- The fourth point by what is held of the orders is the fourth point.
 -- Assumes nothing.
 use mathlib.Core.Path.{_≡_, refl, sym, ap, _∙_}
-use mathlib.Core.Bool.{Bool, true, false, cond, _&&_, not, and-true, and-false}
+use mathlib.Core.Bool.{Bool, true, false, cond, _&&_, and-true, and-false}
 use mathlib.Core.List.{List}
-use Prim.Native.Nat.{ℕ, zero, suc, _+_, _-_, _≤_, _<_}
+use Prim.Native.Nat.{ℕ, suc, _+_, _-_, _≤_, _<_}
 use native.Mathlib.Omega.{arith}
 use native.Mathlib.Numerals.{add-one}
-use borrow.Author.Tests.{eqb-true, eqb-false, ne-eqb}
+use borrow.Author.Tests.{eqb-true, eqb-false}
 use lib.Dec.{eqb, eqb·suc-zero, eqb·suc-suc}
 use lib.ListN.{length, getD, set, length-set}
 use lib.Seq.{getD-set-same, getD-set-other}
 use Rattle.lists.specs.Lists.{allBelow}
 use Rattle.lists.proofs.Below.{below-same, below-from}
-use Rattle.sequences.specs.Sequences.{keep, some, lastOf, placeOf, before, firstFailing, latest}
-use Rattle.sequences.proofs.Orders.{some-orders, last-below, none-at}
+use Rattle.sequences.specs.Sequences.{some, lastOf, before, firstFailing, latest}
+use Rattle.sequences.proofs.Orders.{some-orders, last-below}
 use Rattle.sequences.proofs.Loops.{failing-same}
 use Rattle.machine.specs.Questions.{zeros}
 use Rattle.machine.proofs.FreshMachine.{zeros-length, zeros-at}
-use Rattle.order.specs.Order.{ticksOf, runModeAt, IsOrder}
+use Rattle.order.specs.Order.{ticksOf, IsOrder}
 use Rattle.agreement.specs.Agreement.{settingsOf, gsumAt, replacesWord, addsToWord, lastReplacing, placeReplacing, afterReplacing}
 use Rattle.agreement.specs.Points.{same, wordSame, wordPoint}
 use Rattle.traces.specs.Traces.{Ready, Placed, Replaced}

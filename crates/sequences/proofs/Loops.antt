@@ -1,18 +1,18 @@
 -- What a loop over a list's entries, or over the numbers below a bound, learns at each step: of the entries kept, of the last that passes,
 -- and of the lowest number at which a test fails.
 -- Assumes nothing.
-use mathlib.Core.Path.{_≡_, refl, sym, ap, _∙_}
-use mathlib.Core.Bool.{Bool, true, false, cond, _||_}
-use mathlib.Core.List.{List, [], _∷_, map}
+use mathlib.Core.Path.{_≡_, refl, sym, _∙_}
+use mathlib.Core.Bool.{Bool, true, false}
+use mathlib.Core.List.{List, [], _∷_}
 use Prim.Native.Nat.{ℕ, zero, suc, _+_, _≤_, _<_}
 use native.Mathlib.Omega.{arith}
-use native.Mathlib.Nat.{not-suc-le-zero, le-of-suc-le-suc}
+use native.Mathlib.Nat.{not-suc-le-zero}
 use native.Mathlib.Numerals.{add-one}
 use borrow.Author.Tests.{ltb-true, ltb-false, lt-ltb, le-ltb}
 use lib.Dec.{ltb}
 use lib.ListN.{length, getD, drop, drop-of-length-le}
 use lib.Seq.{drop-cons}
-use Rattle.sequences.specs.Sequences.{keep, some, lastOf, firstFailing}
+use Rattle.sequences.specs.Sequences.{keep, firstFailing}
 
 -- The test passes at each number below 0; at each below i, and at i; it fails at i.
 pub failing-zero : (p : ℕ → Bool) → firstFailing p 0 ≡ 0

@@ -16,7 +16,7 @@ use Rattle.sequences.specs.Sequences.{keep, some, lastOf, placeOf, latest}
 use Rattle.sequences.proofs.Entries.{keep-count}
 use Rattle.sequences.proofs.Places.{place-absent, place-holds, place-of-entry}
 use Rattle.sequences.proofs.Orders.{there-once}
-use Rattle.sequences.proofs.Loops.{Next, kept-next}
+use Rattle.sequences.proofs.Loops.{kept-next}
 use Rattle.order.specs.Order.{IsOrder}
 
 -- A number that is set where a test passes.

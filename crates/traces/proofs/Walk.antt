@@ -3,7 +3,7 @@
 use mathlib.Core.Path.{_≡_, refl, sym, ap, _∙_}
 use mathlib.Core.Bool.{Bool, true, false, cond, _&&_, and-comm}
 use mathlib.Core.List.{List, map}
-use Prim.Native.Nat.{ℕ, zero, suc, _+_, _%_, _^_, _≤_, _<_}
+use Prim.Native.Nat.{ℕ, suc, _+_, _≤_, _<_}
 use native.Mathlib.Omega.{arith}
 use native.Mathlib.Nat.{mod-lt}
 use native.Mathlib.Numerals.{add-one}
@@ -13,11 +13,11 @@ use lib.ListN.{length, getD, set, drop, length-set}
 use lib.Seq.{getD-set-same, getD-set-other}
 use Rattle.lists.specs.Lists.{countBelow}
 use Rattle.layout.specs.Layout.{generatorAt}
-use Rattle.modes.specs.Modes.{readData, writeData, writeDAC, replaces}
+use Rattle.modes.specs.Modes.{readData, writeData, writeDAC}
 use Rattle.modes.proofs.RunModes.{replaces-is}
 use Rattle.sequences.specs.Sequences.{keep, placeOf, latest}
 use Rattle.sequences.proofs.Orders.{length-keep}
-use Rattle.sequences.proofs.Loops.{Next, kept-next, kept-past, kept-end}
+use Rattle.sequences.proofs.Loops.{kept-next, kept-past, kept-end}
 use Rattle.machine.specs.Questions.{zeros}
 use Rattle.machine.proofs.FreshMachine.{zeros-length, zeros-at}
 use Rattle.order.specs.Order.{ticksOf, runModeAt, IsOrder}

@@ -1,7 +1,9 @@
 -- `points::feeder_point` meets its contract.
 -- Assumes nothing.
 use borrow.Author.Needs.{needs}
-use mathlib.Core.Path.{_∙_}
+use mathlib.Core.Path.{_≡_, _∙_}
+use Rattle.sequences.specs.Sequences.{firstFailing}
+use Rattle.points.specs.Loops.{sameAt}
 use Rattle.points.proofs.Differences.{feeders-held}
 use Rattle.points.proofs.feeder_point.Statement.{statement}
 use Rattle.points.proofs.feeder_point.Tie as tie
@@ -13,7 +15,8 @@ returns : tie.Need-returns
 returns c =
     let b = c .before .before .before .before .before .before in
     let a = b .args in
-    c .first-difference .ensures ∙ feeders-held (a .m .now) (a .first .now) (a .second .now) (a .fed1 .now) (a .fed2 .now) (b .pre .0) (b .pre .1)
+    let e : c .first-difference .result ≡ firstFailing (sameAt (a .fed1 .now) (a .fed2 .now)) 16 = c .first-difference .ensures in
+    e ∙ feeders-held (a .m .now) (a .first .now) (a .second .now) (a .fed1 .now) (a .fed2 .now) (b .pre .0) (b .pre .1)
 
 pub feeder-point-spec : {M : Type 1} → statement M
 feeder-point-spec = tie.close (tie.spec first-difference-requires returns)

@@ -1,8 +1,10 @@
 -- `points::neighbour_same` meets its contract.
 -- Assumes nothing.
 use borrow.Author.Needs.{needs}
-use mathlib.Core.Path.{sym, _∙_}
+use mathlib.Core.Path.{_≡_, sym, _∙_}
+use Prim.Native.Nat.{_-_}
 use borrow.Author.Tests.{not-true, not-false}
+use Rattle.points.specs.Loops.{sideBy}
 use Rattle.points.proofs.Asked.{no-neighbour, no-wait, no-trigger, sides}
 use Rattle.points.proofs.neighbour_same.Statement.{statement}
 use Rattle.points.proofs.neighbour_same.Tie as tie
@@ -44,7 +46,8 @@ same-side-requires c κs = search needs
 returns-4 : tie.Need-returns-4
 returns-4 c =
     let b = c .before .before .before .before .before .before .before .before .args in
-    c .same-side .ensures
+    let e : c .same-side .result ≡ sideBy (b .at1 .now) (b .at2 .now) (b .g - 1) (b .g) = c .same-side .ensures in
+    e
     ∙ sides (b .m .now) (b .at1 .now) (b .at2 .now) (b .g) (c .before .before .before .before .before .before .if1 .left) (c .before .before .before .before .before .run-mode .ensures) (c .before .before .before .before .if2 .left) (c .before .before .before .run-mode2 .ensures)
     (sym (c .before .before .triggering .ensures) ∙ not-false _ (c .before .if3 .left))
 

@@ -1,6 +1,9 @@
 -- `traces::replace` meets its contract.
 -- Assumes nothing.
+use mathlib.Core.Path.{ap}
+use Prim.Native.Nat.{ℕ, _+_}
 use native.Mathlib.Omega.{arith}
+use lib.ListN.{set}
 use borrow.Author.Needs.{needs}
 use Rattle.traces.proofs.replace.Statement.{statement}
 use Rattle.traces.proofs.replace.Tie as tie
@@ -38,7 +41,11 @@ element-write-place c =
     omega (arith, c .gsum .ensures, b .pre .0 .gsums (b .args .g) (b .pre .1 .0))
 
 returns : tie.Need-returns
-returns c = (rw (c .gsum .ensures), rw (c .gsum .ensures))
+returns c =
+    let b = c .before .before .args in (
+      ap (λ (w : ℕ). set (b .last .now) w (b .g + 1)) (c .gsum .ensures),
+      ap (λ (w : ℕ). set (b .place .now) w (b .n)) (c .gsum .ensures),
+    )
 
 pub replace-spec : {M : Type 1} → statement M
 replace-spec =
