@@ -46,10 +46,6 @@ pub keep-first : (p : ℕ → Bool) (x : ℕ) (xs : List ℕ) → p x ≡ true �
 unfolding keep
 keep-first p x xs e = rw e
 
-pub keep-next : (p : ℕ → Bool) (x : ℕ) (xs : List ℕ) → p x ≡ false → keep p (x ∷ xs) ≡ keep p xs
-unfolding keep
-keep-next p x xs e = rw e
-
 -- The parts of a list, by a test.
 pub keep-append : (p : ℕ → Bool) (xs ys : List ℕ) → keep p (xs ++ ys) ≡ keep p xs ++ keep p ys
 unfolding keep

@@ -87,10 +87,7 @@ module _ (t : ℕ) (order : List ℕ) (once : (k : ℕ) → k < t → count k or
   pub last-below : (p : ℕ → Bool) → some p order ≡ true → lastOf p order < t
   last-below p e = there-below (lastOf p order) (last-entry p order e)
 
-  -- An entry that passes, or none does below t.
-  pub some-order : (p : ℕ → Bool) → some p order ≡ true → (k : ℕ) × (k < t) × (p k ≡ true)
-  some-order p e = (lastOf p order, last-below p e, last-passes p order e)
-
+  -- None passes where none does below t.
   pub none-from : (p : ℕ → Bool) → ((k : ℕ) → k < t → p k ≡ false) → some p order ≡ false
   none-from p f = go (some p order) refl
     where

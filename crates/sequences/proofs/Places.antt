@@ -1,6 +1,6 @@
 -- The places of numbers in a list, and which of two stands before the other.
 -- Assumes nothing.
-use mathlib.Core.Path.{_≡_, refl, sym, ap, _∙_}
+use mathlib.Core.Path.{_≡_, refl, ap, _∙_}
 use mathlib.Core.Logic.{_≢_}
 use mathlib.Core.Bool.{Bool, true, false, cond, not}
 use mathlib.Core.List.{List, [], _∷_, _++_}
@@ -68,10 +68,6 @@ place-of-entry (x ∷ xs) (suc i) h o = go (eqb x (getD xs i 0)) o (place-of-ent
     go true l ih = absurd (omega (arith, count-entry xs i (le-of-suc-le-suc h)))
     go false l ih = omega (arith, ih (omega arith))
 
--- Two numbers that are there have two places.
-pub place-tells : (g h : ℕ) (xs : List ℕ) → 1 ≤ count g xs → 1 ≤ count h xs → placeOf g xs ≡ placeOf h xs → g ≡ h
-place-tells g h xs a b e = sym (place-holds g xs a) ∙ ap (λ (i : ℕ). getD xs i 0) e ∙ place-holds h xs b
-
 -- Of two lists joined.
 pub place-past : (g : ℕ) (a b : List ℕ) → count g a ≡ 0 → placeOf g (a ++ b) ≡ length a + placeOf g b
 unfolding placeOf count
@@ -121,16 +117,6 @@ not-before-places g h xs e = ltb-false (placeOf g xs) (placeOf h xs) e
 pub before-itself : (g : ℕ) (xs : List ℕ) → before g g xs ≡ false
 before-itself g xs = not-before-from g g xs (omega arith)
 
--- Of two different numbers that are there, one stands before the other.
-pub before-or-after : (g h : ℕ) (xs : List ℕ) → 1 ≤ count g xs → 1 ≤ count h xs → g ≢ h → before h g xs ≡ not (before g h xs)
-before-or-after g h xs a b n = go (before g h xs) refl
-  where
-    go : (v : Bool) → before g h xs ≡ v → before h g xs ≡ not v
-    go true e = not-before-from h g xs (omega (arith, before-places g h xs e))
-    go false e =
-        let differ : placeOf g xs ≢ placeOf h xs = λ q. n (place-tells g h xs a b q) in
-        before-from h g xs (omega (arith, not-before-places g h xs e))
-
 -- A list that is cut at x, which stands there once.
 module _ (a : List ℕ) (x : ℕ) (b : List ℕ) (cut : count x a ≡ 0) where
   pub place-cut : placeOf x (a ++ (x ∷ b)) ≡ length a
@@ -162,22 +148,6 @@ module _ (a : List ℕ) (x : ℕ) (b : List ℕ) (cut : count x a ≡ 0) where
           let d = eqb-false x g e in
           let c = count-next g x b d in
           before-from x g (a ++ (x ∷ b)) (omega (arith, place-cut, place-past g a (x ∷ b) (omega (arith, parts)), place-next g x b d))
-
-  -- Of the numbers that stand there once, those behind it are those it stands before.
-  pub behind-cut : count x b ≡ 0 → (g : ℕ) → count g (a ++ (x ∷ b)) ≡ 1 → count g b ≡ cond (before x g (a ++ (x ∷ b))) 1 0
-  behind-cut none g once = go (eqb x g) refl (count g a) refl
-    where
-      parts : count g a + count g (x ∷ b) ≡ 1
-      parts = sym (count-append g a (x ∷ b)) ∙ once
-
-      go : (v : Bool) → eqb x g ≡ v → (n : ℕ) → count g a ≡ n → count g b ≡ cond (before x g (a ++ (x ∷ b))) 1 0
-      go true e n k = rw (← (eqb-true x g e), before-itself x (a ++ (x ∷ b))) none
-      go false e zero k =
-          rw (before-from x g (a ++ (x ∷ b)) (omega (arith, place-cut, place-past g a (x ∷ b) k, place-next g x b (eqb-false x g e))))
-          (omega (arith, parts, count-next g x b (eqb-false x g e)))
-      go false e (suc n) k =
-          rw (not-before-from x g (a ++ (x ∷ b)) (omega (arith, place-cut, place-in-front g a (x ∷ b) (omega arith), place-inside g a (omega arith))))
-          (omega (arith, parts, count-next g x b (eqb-false x g e)))
 
   -- Its place among those that pass a test.
   pub place-kept : (p : ℕ → Bool) → p x ≡ true → placeOf x (keep p (a ++ (x ∷ b))) ≡ length (keep p a)

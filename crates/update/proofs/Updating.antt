@@ -74,10 +74,7 @@ update-tail m cs =
     (tail-by (stillLingering m) cs (outcome 0 m cs) takes (whole cs) (taken-tail (mostCommands m) (set m lingeringAt 0) cs))
     (whole cs)
 
--- The count is at most the number of commands, and what is left is the commands from there on.
-pub taken-within : (m cs : List ℕ) → takenCount m cs ≤ length cs
-taken-within m cs = omega arith
-
+-- What is left is the commands from the count on.
 pub taken-rest : (m cs : List ℕ) → drop (takenCount m cs) cs ≡ updateOf m cs .left
 taken-rest m cs = update-tail m cs .is-tail
 
