@@ -18,7 +18,7 @@ REACHABLE = {
     ("update", "update"): "updateOf",
     ("compare", "compare"): "compareOf",
     ("bench_file", "read"): "readOf",
-    ("ringing", "step"): "stepOf",
+    ("bench_ringing", "step"): "stepOf",
     ("host", "karvelorn_fresh"): "freshRun",
     ("host", "karvelorn_pass"): "passOf",
     ("host", "karvelorn_update"): "updateOf",
@@ -29,7 +29,7 @@ REACHABLE = {
 FORMS = (
     ("a constant quarter sine of 2,048 entries", "sine", r"const QUARTER: \[u16; 2048\] ="),
     ("wrapping add, then a remainder", "words", r"std::num::wrapping_add_u32\(a, b\) % 1048576"),
-    ("the part of the machine from 11g", "generator_stage", r"Generator::load\(&m\[at\.\.\]\)"),
+    ("the part of the machine from 11g", "pass_generators", r"Generator::load\(&m\[at\.\.\]\)"),
     ("a tail of the caller's commands", "update", r"-> &'a \[u32\]"),
     ("a tail at the count taken", "update", r"&commands\[taken\.\.\]"),
     ("sum memory as four arrays of 64", "sums", r"-> \[\[u32; 64\]; 4\]"),

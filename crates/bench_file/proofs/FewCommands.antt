@@ -9,7 +9,7 @@ use native.Mathlib.Omega.{arith}
 use lib.Dec.{eqb}
 use lib.ListN.{length, take, drop, length-drop, length-append}
 use lib.Seq.{sets, sets-eq, take-append-seam}
-use Rattle.text.proofs.Lines.{of-cond}
+use Rattle.bench_text.proofs.Lines.{of-cond}
 use Rattle.bench_file.specs.BenchFile.{numberIn, decimalIn, hexadecimalIn, startsWith, lineBy, passesStart, wordStart, commandStart, wordLine, lineOf, before, linesOf, fileOf, fits}
 use Rattle.bench_file.specs.Sweeps.{commandsOf, allCommands}
 use Rattle.bench_file.specs.declared.Number.{Number}

@@ -8,7 +8,7 @@ use borrow.Author.Tests.{eq-eqb, ne-eqb, eqb-false}
 use native.Mathlib.Omega.{arith}
 use lib.Dec.{eqb}
 use lib.ListN.{length, take, drop, length-append}
-use Rattle.text.proofs.Lines.{of-cond}
+use Rattle.bench_text.proofs.Lines.{of-cond}
 use Rattle.bench_file.specs.BenchFile.{bytesBefore, lineOf, linesOf, Reading, unread, withLine, withLines, fileOf}
 use Rattle.bench_file.specs.Sweeps.{file, outline, judgedLine, judgedLines}
 use Rattle.bench_file.specs.declared.File.{File}

@@ -8,7 +8,7 @@ use borrow.Author.Tests.{lt-ltb, le-ltb}
 use lib.Dec.{ltb}
 use lib.ListN.{length, take, drop}
 use Rattle.layout.specs.Layout.{filePlaces}
-use Rattle.text.proofs.Lines.{of-cond}
+use Rattle.bench_text.proofs.Lines.{of-cond}
 use Rattle.bench_file.specs.BenchFile.{decimalIn, hexadecimalIn, startsWith, bytesBefore, lineBy, passesStart, wordStart, commandStart, wordLine, lineOf}
 use Rattle.bench_file.specs.declared.Number.{Number}
 use Rattle.bench_file.specs.declared.Number.the-variants.{Is, No}

@@ -7,7 +7,7 @@ use native.Mathlib.Omega.{arith}
 use native.Mathlib.Nat.{add-zero}
 use lib.ListN.{length, take, drop, set}
 use lib.Seq.{sets}
-use Rattle.text.proofs.Lines.{sets-append}
+use Rattle.bench_text.proofs.Lines.{sets-append}
 use Rattle.bench_file.specs.BenchFile.{bytesBefore, lineOf, linesOf}
 use Rattle.bench_file.specs.Sweeps.{withWord, withWords, commandsOf, allCommands}
 use Rattle.bench_file.specs.declared.Line.{Line}

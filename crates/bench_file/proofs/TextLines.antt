@@ -10,7 +10,7 @@ use native.Mathlib.Numerals.{add-one}
 use lib.Dec.{eqb, leb, ltb}
 use lib.ListN.{length, getD, take, drop, length-drop, drop-of-length-le}
 use lib.Seq.{getD-drop, drop-drop}
-use Rattle.text.proofs.Lines.{of-cond}
+use Rattle.bench_text.proofs.Lines.{of-cond}
 use Rattle.bench_file.specs.BenchFile.{bytesBefore, linesOf, before}
 use Rattle.bench_file.specs.Sweeps.{ended}
 

@@ -10,7 +10,7 @@ use lib.ListN.{length, set}
 use lib.Seq.{sets}
 use Rattle.layout.specs.Layout.{machineLength}
 use Rattle.machine.specs.Questions.{freshMachine, freshRun}
-use Rattle.text.proofs.Lines.{of-cond}
+use Rattle.bench_text.proofs.Lines.{of-cond}
 use Rattle.bench_file.specs.BenchFile.{lineOf, linesOf, Reading, unread, withLine, withLines, fileOf, fits, answer, readOf}
 use Rattle.bench_file.specs.Sweeps.{ended, outline, withWord, withWords, commandsOf, allCommands}
 use Rattle.bench_file.specs.declared.File.{File}

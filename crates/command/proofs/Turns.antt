@@ -7,10 +7,10 @@ use mathlib.Core.List.{List}
 use Prim.Native.Nat.{ℕ}
 use native.Mathlib.Omega.{arith}
 use borrow.Author.Tests.{eq-eqb, ne-eqb}
-use Rattle.load.specs.Fields.{codeOf}
-use Rattle.load.specs.Loads.{loaded}
-use Rattle.control.specs.Control.{miscellany, timed, timerWaits, ticksSet}
-use Rattle.control.specs.Built.{commandRefusal}
+use Rattle.command_load.specs.Fields.{codeOf}
+use Rattle.command_load.specs.Loads.{loaded}
+use Rattle.command_control.specs.Control.{miscellany, timed, timerWaits, ticksSet}
+use Rattle.command_control.specs.Built.{commandRefusal}
 use Rattle.command.specs.Command.{done, waits, afterCommand, takenWaiting}
 
 module _ (m : List ℕ) (c : ℕ) {l : List ℕ} where

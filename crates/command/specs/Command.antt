@@ -4,10 +4,10 @@ use Prim.Native.Nat.{ℕ}
 use mathlib.Core.Bool.{Bool, false, cond}
 use mathlib.Core.List.{List}
 use lib.Dec.{eqb}
-use Rattle.load.specs.Fields.{codeOf}
-use Rattle.load.specs.Loads.{loaded}
-use Rattle.control.specs.Control.{miscellany, timed, timerWaits, ticksSet}
-use Rattle.control.specs.Built.{commandRefusal}
+use Rattle.command_load.specs.Fields.{codeOf}
+use Rattle.command_load.specs.Loads.{loaded}
+use Rattle.command_control.specs.Control.{miscellany, timed, timerWaits, ticksSet}
+use Rattle.command_control.specs.Built.{commandRefusal}
 
 -- What a command that passes its questions does: 00000 MISC, 00010 TIMER, 00011 TICKS, and the loads.
 unfoldable pub done : List ℕ → ℕ → List ℕ

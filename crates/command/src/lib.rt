@@ -1,7 +1,7 @@
 // One command in its turn: its questions, and what it does.
 ghost use mathlib.Core.Path.{_≡_};
 ghost use Rattle.layout.specs.Layout.{Reaches};
-ghost use Rattle.control.specs.Built.{commandRefusal};
+ghost use Rattle.command_control.specs.Built.{commandRefusal};
 ghost use Rattle.command.specs.Command.{done, waits, afterCommand, takenWaiting};
 
 // What a command's turn brings: the number of the refusing question or 0, and whether it is a Linger that waits.
@@ -17,17 +17,17 @@ fn perform(m: &mut [u32], c: u32) -> bool
 {
     let code = c / 128 % 32;
     if code == 0 {
-        control::miscellany(m, c);
+        command_control::miscellany(m, c);
         return false;
     }
     if code == 2 {
-        return control::timer(m, c);
+        return command_control::timer(m, c);
     }
     if code == 3 {
-        control::ticks(m, c);
+        command_control::ticks(m, c);
         return false;
     }
-    load::load(m, c);
+    command_load::load(m, c);
     false
 }
 
@@ -36,7 +36,7 @@ pub fn take(m: &mut [u32], c: u32) -> Taken
     requires { ⌜ Reaches (now m) ⌝ }
     ensures { λ r. ⌜ (r .number ≡ commandRefusal c) × (r .waits ≡ takenWaiting (now (m .entry)) c) × (now (m .exit) ≡ afterCommand (now (m .entry)) c) ⌝ }
 {
-    let number = control::refusal(c);
+    let number = command_control::refusal(c);
     if number != 0 {
         return Taken {
             number,

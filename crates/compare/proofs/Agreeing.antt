@@ -8,9 +8,9 @@ use Prim.Native.Nat.{ℕ}
 use lib.Dec.{eqb}
 use borrow.Author.Tests.{ne-eqb}
 use Rattle.order.specs.Order.{ticksOf}
-use Rattle.agreement.specs.Agreement.{settingsOf}
-use Rattle.agreement.specs.Points.{neighbourPoint, feederPoint, writerPoint, wordPoint, agrees, compareRefusal, compareOf}
-use Rattle.traces.specs.Traces.{Written}
+use Rattle.order_agreement.specs.Agreement.{settingsOf}
+use Rattle.order_agreement.specs.Points.{neighbourPoint, feederPoint, writerPoint, wordPoint, agrees, compareRefusal, compareOf}
+use Rattle.order_traces.specs.Traces.{Written}
 use Rattle.compare.specs.Compare.{compared}
 
 -- Both orders have as many writers.

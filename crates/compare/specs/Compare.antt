@@ -2,7 +2,7 @@
 -- Assumes nothing.
 use Prim.Native.Nat.{ℕ}
 use mathlib.Core.Bool.{Bool}
-use Rattle.agreement.specs.Points.{Comparison}
+use Rattle.order_agreement.specs.Points.{Comparison}
 
 -- The answer of a compare.
 abbrev pub compared : ℕ → Bool → Comparison

@@ -1,9 +1,9 @@
 // Whether two orders of the generators are equal.
 ghost use mathlib.Core.Path.{_≡_};
 ghost use Rattle.order.specs.Order.{ticksOf, IsOrder};
-ghost use Rattle.agreement.specs.Agreement.{settingsOf};
-ghost use Rattle.agreement.specs.Points.{agrees, compareRefusal, compareOf};
-ghost use Rattle.traces.specs.Traces.{Ready};
+ghost use Rattle.order_agreement.specs.Agreement.{settingsOf};
+ghost use Rattle.order_agreement.specs.Points.{agrees, compareRefusal, compareOf};
+ghost use Rattle.order_traces.specs.Traces.{Ready};
 ghost use Rattle.compare.specs.Compare.{compared};
 
 // What a compare answers: the number of the refusing question or 0, and whether the orders are equal.
@@ -20,7 +20,7 @@ fn refusal(m: &[u32], first: &[u32], second: &[u32]) -> u32
     if number != 0 {
         return number;
     }
-    let t = traces::ticks(m);
+    let t = order_traces::ticks(m);
     let number = order::order_refusal(first, t);
     if number != 0 {
         return number;
@@ -44,7 +44,7 @@ fn agrees(m: &[u32], first: &[u32], second: &[u32]) -> bool
     let mut last2 = [0u32; layout::QUADRANT_WORDS];
     let mut place1 = [0u32; layout::QUADRANT_WORDS];
     let mut place2 = [0u32; layout::QUADRANT_WORDS];
-    let n = traces::trace(
+    let n = order_traces::trace(
         m,
         first,
         &mut at1,
@@ -53,7 +53,7 @@ fn agrees(m: &[u32], first: &[u32], second: &[u32]) -> bool
         &mut last1,
         &mut place1,
     );
-    let also = traces::trace(
+    let also = order_traces::trace(
         m,
         second,
         &mut at2,
@@ -62,10 +62,10 @@ fn agrees(m: &[u32], first: &[u32], second: &[u32]) -> bool
         &mut last2,
         &mut place2,
     );
-    let neighbour = points::neighbour_point(m, first, second, &at1, &at2);
-    let feeder = points::feeder_point(m, first, second, &fed1, &fed2);
-    let writer = points::writer_point(m, first, second, &written1, &written2, n);
-    let word = points::word_point(
+    let neighbour = order_points::neighbour_point(m, first, second, &at1, &at2);
+    let feeder = order_points::feeder_point(m, first, second, &fed1, &fed2);
+    let writer = order_points::writer_point(m, first, second, &written1, &written2, n);
+    let word = order_points::word_point(
         m,
         first,
         second,
@@ -76,7 +76,7 @@ fn agrees(m: &[u32], first: &[u32], second: &[u32]) -> bool
         &place1,
         &place2,
     );
-    let t = traces::ticks(m);
+    let t = order_traces::ticks(m);
     (neighbour == t) & (feeder == layout::DACS) & (writer == n) & (word == layout::QUADRANT_WORDS)
 }
 

@@ -5,7 +5,7 @@ ghost use Rattle.machine.specs.Questions.{freshAnswer, freshRun};
 ghost use Rattle.pass.specs.Pass.{passOf, answered};
 ghost use Rattle.update.specs.Update.{outcome, updateOf, takenCount};
 ghost use mathlib.Core.Bool.{cond};
-ghost use Rattle.agreement.specs.Points.{compareOf};
+ghost use Rattle.order_agreement.specs.Points.{compareOf};
 
 // A fresh machine.
 #[no_mangle]

@@ -8,7 +8,7 @@ use native.Mathlib.Nat.{mod-eq-of-lt}
 use borrow.Author.Tests.{ltb-true, ltb-false, lt-ltb, eq-eqb, ne-eqb}
 use lib.Dec.{eqb, ltb}
 use Rattle.modes.specs.Modes.{builtRun, builtOscillator}
-use Rattle.modifiers.specs.Turn.{builtFunction}
+use Rattle.modifier_turn.specs.Turn.{builtFunction}
 use Rattle.machine.specs.Questions.{bits, goodGmode, goodAddress, goodMmode}
 use Rattle.machine.specs.Loops.{builtModes, builtMmode}
 

@@ -8,7 +8,7 @@ use lib.Bits.{bitOr}
 use lib.ListN.{getD}
 use Rattle.lists.specs.Lists.{allBelow}
 use Rattle.modes.specs.Modes.{builtRun, builtOscillator}
-use Rattle.modifiers.specs.Turn.{builtFunction}
+use Rattle.modifier_turn.specs.Turn.{builtFunction}
 use Rattle.layout.specs.Layout.{dxAt, tAt, nAt, counterAt, lingeringAt, lingerPassAt, overrunAt}
 use Rattle.machine.specs.Questions.{bits, between, goodAddress}
 use Rattle.machine.specs.declared.GeneratorColumns.{GeneratorColumns}

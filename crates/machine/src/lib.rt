@@ -47,7 +47,7 @@ fn built_modes(gmode: u32) -> bool
 fn built_mmode(mmode: u32) -> bool
     ensures { λ r. ⌜ r ≡ builtMmode mmode ⌝ }
 {
-    modifiers::built_function(mmode / 16 % 32)
+    modifier_turn::built_function(mmode / 16 % 32)
 }
 
 // Eight bits, the top two not 11.

@@ -13,7 +13,7 @@ use Rattle.machine.specs.Questions.{asked, question1, question2, sound}
 use Rattle.machine.proofs.SoundMachine.{reaches, sound-generator, sound-controls}
 use Rattle.order.specs.Order.{ticksOf, question5, question6, question7, question8, inMode}
 use Rattle.order.proofs.Entries.{order-passes}
-use Rattle.generator_stage.specs.Loops.{Ready, Numbers}
+use Rattle.pass_generators.specs.Loops.{Ready, Numbers}
 use Rattle.pass.specs.Pass.{passRefusal}
 use Rattle.machine.proofs.Asked.{asked-first, asked-later, machine-passes}
 

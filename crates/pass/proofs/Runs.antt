@@ -8,10 +8,10 @@ use lib.ListN.{set}
 use Rattle.words.proofs.Residues.{wrapped}
 use Rattle.sums.specs.Sums.{sumsOf, closed}
 use Rattle.order.specs.Order.{ticksOf}
-use Rattle.generator_stage.specs.declared.Items.{Items}
-use Rattle.generator_stage.specs.GeneratorStage.{steps, begun}
-use Rattle.generator_stage.specs.Loops.{held, Taken}
-use Rattle.modifier_stage.specs.ModifierStage.{wordsAfter, modifierThisAfter}
+use Rattle.pass_generators.specs.declared.Items.{Items}
+use Rattle.pass_generators.specs.GeneratorStage.{steps, begun}
+use Rattle.pass_generators.specs.Loops.{held, Taken}
+use Rattle.pass_modifiers.specs.ModifierStage.{wordsAfter, modifierThisAfter}
 use Rattle.pass.specs.Pass.{answered, counterBits, counted, completed, ran}
 
 module _ (m order items places words : List ℕ) (s₀ s : List (List ℕ)) (n : ℕ) (places' : List ℕ) (items' : Items) where

@@ -9,8 +9,8 @@ use Rattle.layout.specs.Layout.{counterAt}
 use Rattle.machine.specs.Questions.{asked, question1, question2}
 use Rattle.order.specs.Order.{ticksOf, question5, question6, question7, question8}
 use Rattle.sums.specs.Sums.{modifierThis, closed}
-use Rattle.generator_stage.specs.GeneratorStage.{State, steps, begun}
-use Rattle.modifier_stage.specs.ModifierStage.{wordsAfter, modifierThisAfter}
+use Rattle.pass_generators.specs.GeneratorStage.{State, steps, begun}
+use Rattle.pass_modifiers.specs.ModifierStage.{wordsAfter, modifierThisAfter}
 
 -- What a pass answers and leaves: the number of the refusing question or 0, the items read and written, the machine and the written places.
 pub record Outcome : Type 0 where

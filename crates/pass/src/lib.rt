@@ -3,10 +3,10 @@ ghost use mathlib.Core.Path.{_≡_};
 ghost use Prim.Native.Nat.{_≤_};
 ghost use lib.ListN.{length, getD};
 ghost use Rattle.layout.specs.Layout.{Reaches};
-ghost use Rattle.generator_stage.specs.Loops.{Ready, Numbers};
+ghost use Rattle.pass_generators.specs.Loops.{Ready, Numbers};
 ghost use Rattle.order.specs.Order.{ticksOf};
 ghost use Rattle.pass.specs.Pass.{counted, ran, passRefusal, passOf, answered};
-use generator_stage::Items;
+use pass_generators::Items;
 
 // What a pass answers: the number of the refusing question or 0, and the items read and written.
 pub struct Passed {
@@ -42,8 +42,8 @@ fn run(m: &mut [u32], order: &[u32], items: &[u32], places: &mut [u32]) -> Items
 {
     let t = ticks(m);
     let mut s = sums::load(m);
-    let done = generator_stage::generators(m, &mut s, order, items, places);
-    modifier_stage::modifiers(m, &mut s, t / 2);
+    let done = pass_generators::generators(m, &mut s, order, items, places);
+    pass_modifiers::modifiers(m, &mut s, t / 2);
     sums::close(m, &s);
     count(m);
     done

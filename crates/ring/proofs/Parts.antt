@@ -8,13 +8,13 @@ use native.Mathlib.Omega.{arith}
 use lib.Dec.{lit≤}
 use lib.ListN.{length}
 use lib.Seq.{sets, length-sets}
-use Rattle.text.specs.Text.{refusalLine}
-use Rattle.text.proofs.Lines.{refusal-line-length}
+use Rattle.bench_text.specs.Text.{refusalLine}
+use Rattle.bench_text.proofs.Lines.{refusal-line-length}
 use Rattle.bench_file.specs.BenchFile.{Answer, answer, readOf}
-use Rattle.ringing.specs.Ringing.{Ringing}
-use Rattle.ringing.specs.Gathering.{gathered}
-use Rattle.ringing.proofs.RungFile.{read-count, read-room, read-machine}
-use Rattle.ringing.proofs.Gatherings.{gathered-length, gathered-falls}
+use Rattle.bench_ringing.specs.Ringing.{Ringing}
+use Rattle.bench_ringing.specs.Gathering.{gathered}
+use Rattle.bench_ringing.proofs.RungFile.{read-count, read-room, read-machine}
+use Rattle.bench_ringing.proofs.Gatherings.{gathered-length, gathered-falls}
 
 -- What was put into a buffer has room in it.
 put-within : (line bytes : List ℕ) {size : ℕ} {after : List ℕ} → length bytes ≤ length line → size ≡ length bytes → after ≡ sets line 0 bytes → size ≤ length after

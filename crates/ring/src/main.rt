@@ -1,14 +1,14 @@
 // Program ring: rings the bench file on standard input and prints a line for each pass, or a refusal.
 ghost use mathlib.Core.Path.{_≡_};
 ghost use lib.ListN.{drop};
-ghost use Rattle.ringing.specs.Ringing.{ringing};
-ghost use Rattle.ringing.specs.Gathering.{gathered};
-use ringing::Progress;
+ghost use Rattle.bench_ringing.specs.Ringing.{ringing};
+ghost use Rattle.bench_ringing.specs.Gathering.{gathered};
+use bench_ringing::Progress;
 
 // Prints the line of a refusal.
 fn refuse(n: u32) {
     let mut line = [0u8; 64];
-    let size = text::refusal_line(&mut line, n);
+    let size = bench_text::refusal_line(&mut line, n);
     io::write_all(1, &line[0..size]);
 }
 
@@ -17,7 +17,7 @@ fn ring_part(at: Progress, m: &mut [u32], commands: &[u32]) -> Progress
     ensures { λ r. ⌜ ringing (r .passes) (now (m .exit)) (drop (r .taken) (now (commands .entry))) ≡ gathered 8192 (ringing (at .passes) (now (m .entry)) (drop (at .taken) (now (commands .entry)))) .next ⌝ }
 {
     let mut out = [0u8; 8192];
-    let next = ringing::gather(at, m, commands, &mut out);
+    let next = bench_ringing::gather(at, m, commands, &mut out);
     let passes = next.passes;
     let taken = next.taken;
     let length = next.length;

@@ -125,7 +125,7 @@ fn modifier_of(x: &[u32]) -> Modifier
 
 // A modifier's turn with A and B: its words afterwards, and S.
 fn modifier_turn(x: &[u32; 16]) -> [u32; 16] {
-    let turned = modifiers::turn(modifier_of(x), x[9] % 1048576, x[10] % 1048576);
+    let turned = modifier_turn::turn(modifier_of(x), x[9] % 1048576, x[10] % 1048576);
     let unit = turned.unit;
     let mut r = [0u32; 16];
     r[0] = unit.m0;
@@ -145,7 +145,7 @@ fn built(x: &[u32; 16]) -> [u32; 16] {
     let mut r = [0u32; 16];
     r[0] = flag(modes::built_run(x[1] / 64 % 16));
     r[1] = flag(modes::built_oscillator(x[1] % 16));
-    r[2] = flag(modifiers::built_function(x[2] / 16 % 32));
+    r[2] = flag(modifier_turn::built_function(x[2] / 16 % 32));
     r
 }
 

@@ -13,7 +13,7 @@ use lib.Seq.{take-all}
 use Rattle.layout.specs.Layout.{lingeringAt, Reaches}
 use Rattle.machine.specs.Questions.{asked, question1, question2}
 use Rattle.machine.proofs.SoundMachine.{reaches}
-use Rattle.control.specs.Built.{commandRefusal}
+use Rattle.command_control.specs.Built.{commandRefusal}
 use Rattle.command.specs.Command.{done, waits}
 use Rattle.update.specs.Update.{Outcome, outcome, mostCommands, stillLingering, takenBy, updateOf, takenCount, tailAt}
 use Rattle.machine.proofs.Asked.{machine-passes}

@@ -7,7 +7,7 @@ use lib.Dec.{eqb}
 use lib.ListN.{length, getD, set}
 use Rattle.layout.specs.Layout.{tAt, nAt, counterAt, lingeringAt, lingerPassAt}
 use Rattle.machine.specs.Questions.{asked, question1, question2}
-use Rattle.control.specs.Built.{commandRefusal}
+use Rattle.command_control.specs.Built.{commandRefusal}
 use Rattle.command.specs.Command.{done, waits}
 
 -- What an update answers and leaves: the number of the refusing question or 0, the machine, and the part of the commands not taken.

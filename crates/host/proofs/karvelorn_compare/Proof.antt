@@ -3,7 +3,7 @@ use mathlib.Core.Bool.{Bool, true, false, cond}
 use Prim.Native.Nat.{ℕ}
 use mir.Val.{boolByte}
 use borrow.Author.Needs.{needs}
-use Rattle.agreement.specs.Points.{Comparison}
+use Rattle.order_agreement.specs.Points.{Comparison}
 use Rattle.host.proofs.karvelorn_compare.Statement.{statement}
 use Rattle.host.proofs.karvelorn_compare.Tie as tie
 

@@ -1,7 +1,7 @@
 use mathlib.Core.Path.{_≡_, refl, _∙_}
 use lib.ListN.{length, drop}
 use borrow.Author.Needs.{needs}
-use Rattle.ringing.specs.Ringing.{ringing}
+use Rattle.bench_ringing.specs.Ringing.{ringing}
 use Rattle.ring.proofs.Parts.{part-falls}
 use Rattle.ring.proofs.ring_all.Statement.{statement}
 use Rattle.ring.proofs.ring_all.Tie as tie

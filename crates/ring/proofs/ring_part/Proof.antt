@@ -1,5 +1,5 @@
 use lib.ListN.{drop, replicate}
-use Rattle.ringing.specs.Ringing.{ringing}
+use Rattle.bench_ringing.specs.Ringing.{ringing}
 use Rattle.ring.proofs.Parts.{gathered-within}
 use borrow.Author.Needs.{needs}
 use Rattle.ring.proofs.ring_part.Statement.{statement}

@@ -1,0 +1,21 @@
+use lib.ListN.{drop}
+use Rattle.bench_ringing.proofs.Turns.{step-none}
+use borrow.Author.Needs.{needs}
+use Rattle.bench_ringing.proofs.step.Statement.{statement}
+use Rattle.bench_ringing.proofs.step.Tie as tie
+
+returns : tie.Need-returns
+returns c = let b = c .before .before .before in
+    step-none (b .args .at .passes) (b .args .m .now) (drop (b .args .at .taken) (b .args .commands .now)) (b .args .line .now) (c .if1 .taken)
+
+ring-once-requires : tie.Need-ring-once-requires
+ring-once-requires c κs = search needs
+
+same-length : tie.Need-same-length
+same-length c = search needs
+
+returns-2 : tie.Need-returns-2
+returns-2 c = search needs
+
+pub step-spec : {M : Type 1} → statement M
+step-spec = tie.close (tie.spec returns ring-once-requires same-length returns-2)

@@ -1,0 +1,90 @@
+-- `text::pass_line` meets its contract: seven texts, one after another.
+-- Assumes nothing.
+use Prim.Native.Nat.{_≤_}
+use native.Mathlib.Omega.{arith}
+use Rattle.bench_text.proofs.Lines as lines
+use borrow.Author.Needs.{needs}
+use Rattle.bench_text.proofs.pass_line.Statement.{statement}
+use Rattle.bench_text.proofs.pass_line.Tie as tie
+
+-- Where the texts end.
+counter-ends : (c : tie.After-put-digits) → c .put-digits .result ≤ 15
+counter-ends c = omega (arith, lines.digits-end _ _ _ (c .put-digits .ensures .0), c .before .before .put .ensures .0)
+
+left-starts : (c : tie.After-put2) → c .put2 .result ≤ 21
+left-starts c = omega (arith, c .put2 .ensures .0, counter-ends (c .before .before .before))
+
+left-ends : (c : tie.After-put-signed) → c .put-signed .result ≤ 32
+left-ends c = omega (arith, lines.signed-end _ _ (c .put-signed .ensures .0), left-starts (c .before .before))
+
+right-starts : (c : tie.After-put3) → c .put3 .result ≤ 39
+right-starts c = omega (arith, c .put3 .ensures .0, left-ends (c .before .before .before))
+
+right-ends : (c : tie.After-put-signed2) → c .put-signed2 .result ≤ 50
+right-ends c = omega (arith, lines.signed-end _ _ (c .put-signed2 .ensures .0), right-starts (c .before .before))
+
+slice-aggregate-put : tie.Need-slice-aggregate-put
+slice-aggregate-put c = search needs
+
+put-requires : tie.Need-put-requires
+put-requires c κs = search needs
+
+put-digits-requires : tie.Need-put-digits-requires
+put-digits-requires c κs = search needs
+
+slice-aggregate-put-2 : tie.Need-slice-aggregate-put-2
+slice-aggregate-put-2 c = search needs
+
+put-requires-2 : tie.Need-put-requires-2
+put-requires-2 c κs = omega (arith, counter-ends (c .before .before))
+
+put-signed-requires : tie.Need-put-signed-requires
+put-signed-requires c κs = omega (arith, left-starts (c .before), c .before .before .before .before .before .before .before .before .before .pre)
+
+slice-aggregate-put-3 : tie.Need-slice-aggregate-put-3
+slice-aggregate-put-3 c = search needs
+
+put-requires-3 : tie.Need-put-requires-3
+put-requires-3 c κs = omega (arith, left-ends (c .before .before))
+
+put-signed-requires-2 : tie.Need-put-signed-requires-2
+put-signed-requires-2 c κs = omega (arith, right-starts (c .before), c .before .before .before .before .before .before .before .before .before .before .before .before .before .before .pre)
+
+slice-aggregate-put-4 : tie.Need-slice-aggregate-put-4
+slice-aggregate-put-4 c = search needs
+
+put-requires-4 : tie.Need-put-requires-4
+put-requires-4 c κs = omega (arith, right-ends (c .before .before))
+
+returns : tie.Need-returns
+returns c =
+    let a = c .before .before .before .before .before .before .before .before .before .before .before .before .before .before .before .before .before .before .args in
+    lines.put-pass
+    (a .line .now)
+    (a .counter)
+    (a .left)
+    (a .right)
+    (lines.done (c .before .before .before .before .before .before .before .before .before .before .before .before .before .before .before .put .ensures))
+    (lines.done (c .before .before .before .before .before .before .before .before .before .before .before .before .before .put-digits .ensures))
+    (lines.done (c .before .before .before .before .before .before .before .before .before .before .put2 .ensures))
+    (lines.done (c .before .before .before .before .before .before .before .before .put-signed .ensures))
+    (lines.done (c .before .before .before .before .before .put3 .ensures))
+    (lines.done (c .before .before .before .put-signed2 .ensures))
+    (lines.done (c .put4 .ensures))
+
+pub pass-line-spec : {M : Type 1} → statement M
+pass-line-spec =
+    tie.close
+    (tie.spec
+    slice-aggregate-put
+    put-requires
+    put-digits-requires
+    slice-aggregate-put-2
+    put-requires-2
+    put-signed-requires
+    slice-aggregate-put-3
+    put-requires-3
+    put-signed-requires-2
+    slice-aggregate-put-4
+    put-requires-4
+    returns)

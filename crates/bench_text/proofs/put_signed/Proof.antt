@@ -1,0 +1,41 @@
+-- `text::put_signed` meets its contract.
+-- Assumes nothing.
+use Rattle.bench_text.proofs.Lines as lines
+use borrow.Author.Needs.{needs}
+use Rattle.bench_text.proofs.put_signed.Statement.{statement}
+use Rattle.bench_text.proofs.put_signed.Tie as tie
+
+put-digits-requires : tie.Need-put-digits-requires
+put-digits-requires c κs = search needs
+
+returns : tie.Need-returns
+returns c = let a = c .before .before .before .args in
+    lines.put-positive (a .line .now) (a .at) (a .n) (c .before .before .if1 .taken) (c .put-digits .ensures)
+
+slice-aggregate-put : tie.Need-slice-aggregate-put
+slice-aggregate-put c = search needs
+
+put-requires : tie.Need-put-requires
+put-requires c κs = search needs
+
+sub-put-digits : tie.Need-sub-put-digits
+sub-put-digits c = search needs
+
+put-digits-requires-2 : tie.Need-put-digits-requires-2
+put-digits-requires-2 c κs = search needs
+
+returns-2 : tie.Need-returns-2
+returns-2 c = let a = c .before .before .before .before .before .before .args in
+    lines.put-negative (a .line .now) (a .at) (a .n) (c .before .before .before .before .before .if1 .left) (lines.done (c .before .before .put .ensures)) (lines.done (c .put-digits2 .ensures))
+
+pub put-signed-spec : {M : Type 1} → statement M
+put-signed-spec =
+    tie.close
+    (tie.spec
+    put-digits-requires
+    returns
+    slice-aggregate-put
+    put-requires
+    sub-put-digits
+    put-digits-requires-2
+    returns-2)

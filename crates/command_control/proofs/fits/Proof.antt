@@ -1,0 +1,13 @@
+-- `control::fits` meets its contract.
+-- Assumes nothing.
+use mathlib.Core.Path.{refl}
+use Rattle.command_control.specs.Built.{fits}
+use Rattle.command_control.proofs.fits.Statement.{statement}
+use Rattle.command_control.proofs.fits.Tie as tie
+
+returns : tie.Need-returns
+unfolding fits
+returns c = refl
+
+pub fits-spec : {M : Type 1} → statement M
+fits-spec = tie.close (tie.spec returns)

@@ -1,0 +1,41 @@
+-- `control::refusal` meets its contract.
+-- Assumes nothing.
+use mathlib.Core.Path.{_≡_, refl, sym, _∙_}
+use mathlib.Core.Bool.{true, false}
+use borrow.Author.Tests.{not-true, not-false}
+use Rattle.machine.specs.Questions.{asked}
+use Rattle.command_control.specs.Built.{built, fits, commandRefusal}
+use borrow.Author.Needs.{needs}
+use Rattle.command_control.proofs.refusal.Statement.{statement}
+use Rattle.command_control.proofs.refusal.Tie as tie
+
+built-requires : tie.Need-built-requires
+built-requires c κs = search needs
+
+returns : tie.Need-returns
+unfolding commandRefusal asked
+returns c =
+    let b : built (c .before .before .args .c) ≡ false = sym (c .before .built .ensures) ∙ not-true _ (c .if1 .taken) in
+    rw b refl
+
+fits-requires : tie.Need-fits-requires
+fits-requires c κs = search needs
+
+returns-2 : tie.Need-returns-2
+unfolding commandRefusal asked
+returns-2 c =
+    let n = c .before .before .before .before .args .c in
+    let b : built n ≡ true = sym (c .before .before .before .built .ensures) ∙ not-false _ (c .before .before .if1 .left) in
+    let f : fits n ≡ false = sym (c .before .fits2 .ensures) ∙ not-true _ (c .if2 .taken) in
+    rw (b, f) refl
+
+returns-3 : tie.Need-returns-3
+unfolding commandRefusal asked
+returns-3 c =
+    let n = c .before .before .before .before .args .c in
+    let b : built n ≡ true = sym (c .before .before .before .built .ensures) ∙ not-false _ (c .before .before .if1 .left) in
+    let f : fits n ≡ true = sym (c .before .fits2 .ensures) ∙ not-false _ (c .if2 .left) in
+    rw (b, f) refl
+
+pub refusal-spec : {M : Type 1} → statement M
+refusal-spec = tie.close (tie.spec built-requires returns fits-requires returns-2 returns-3)

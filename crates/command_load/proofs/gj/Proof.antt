@@ -1,0 +1,70 @@
+use mathlib.Core.Path.{refl}
+use native.Mathlib.Omega.{arith}
+use borrow.Author.Tests.{eq-eqb, ne-eqb}
+use Rattle.command_load.specs.Fields.{dataOf}
+use Rattle.command_load.specs.Loads.{loadedGJ}
+use Rattle.command_load.proofs.Adjusting.{into-extended, adjusted-left, adjusted-right}
+use borrow.Author.Needs.{needs}
+use Rattle.command_load.proofs.gj.Statement.{statement}
+use Rattle.command_load.proofs.gj.Tie as tie
+
+generator-word-requires : tie.Need-generator-word-requires
+generator-word-requires c κs = search needs
+
+slice-read-low : tie.Need-slice-read-low
+slice-read-low c = search needs
+
+mul-load-left : tie.Need-mul-load-left
+mul-load-left c = search needs
+
+add-load-left : tie.Need-add-load-left
+add-load-left c = omega (arith, c .before .slice-known2 .given 4112)
+
+load-left-requires : tie.Need-load-left-requires
+load-left-requires c κs = search needs
+
+same-length : tie.Need-same-length
+same-length c = search needs
+
+returns : tie.Need-returns
+unfolding loadedGJ
+returns c =
+    let a = c .before .before .before .before .before .before .before .before .args in
+    adjusted-left 28 _ (a .m .now) _ _ (a .c) _ (eq-eqb _ 1 (c .before .before .before .before .before .if1 .taken)) (c .before .before .before .before .before .before .generator-word .ensures .0) refl
+    (c .before .before .load-left .ensures)
+
+into28-requires : tie.Need-into28-requires
+into28-requires c κs = search needs
+
+mul-m : tie.Need-mul-m
+mul-m c = search needs
+
+slice-write-m : tie.Need-slice-write-m
+slice-write-m c = search needs
+
+same-length-2 : tie.Need-same-length-2
+same-length-2 c = search needs
+
+returns-2 : tie.Need-returns-2
+unfolding loadedGJ
+returns-2 c =
+    let a = c .before .before .before .before .args in
+    adjusted-right 28 _ (a .m .now) _ _ (a .c) _ (ne-eqb _ 1 (c .before .if1 .left)) (c .before .before .generator-word .ensures .0)
+    (into-extended 28 20 (dataOf (a .c)) (c .into28 .ensures)) refl
+
+pub gj-spec : {M : Type 1} → statement M
+gj-spec =
+    tie.close
+    (tie.spec
+    generator-word-requires
+    slice-read-low
+    mul-load-left
+    add-load-left
+    load-left-requires
+    same-length
+    returns
+    into28-requires
+    mul-m
+    slice-write-m
+    same-length-2
+    returns-2)

@@ -1,0 +1,42 @@
+-- What these turns give stays within its widths, and MIN, MRM, MSUM and MMODE are unchanged.
+-- Assumes nothing.
+use Prim.Native.Nat.{ℕ}
+use Rattle.modifier.specs.declared.Modifier.{Modifier}
+use Rattle.modifier.proofs.Low.{lows}
+use Rattle.modifier.proofs.Turns.{Steady, changed}
+use Rattle.modifier_filters.specs.Filters.{onePole, filtered, oneZero, twoPoles, m0Variable, m1Variable, twoPolesM0Variable, twoPolesM1Variable, twoZeros, twoZerosM0Variable, twoZerosM1Variable}
+
+module _ (u : Modifier) (a : ℕ) where
+  pub one-pole-steady : (b : ℕ) → Steady u a (onePole u b)
+  unfolding onePole
+  one-pole-steady b = changed u a (λ r h. search lows)
+
+  pub one-zero-steady : Steady u a (oneZero u a)
+  unfolding oneZero filtered
+  one-zero-steady = changed u a (λ r h. search lows)
+
+  pub two-poles-steady : Steady u a (twoPoles u a)
+  unfolding twoPoles
+  two-poles-steady = changed u a (λ r h. search lows)
+
+  pub two-poles-m0-variable-steady : (b : ℕ) → Steady u a (twoPolesM0Variable u a b)
+  unfolding twoPolesM0Variable twoPoles m0Variable
+  two-poles-m0-variable-steady b = changed u a (λ r h. search lows)
+
+  pub two-poles-m1-variable-steady : (b : ℕ) → Steady u a (twoPolesM1Variable u a b)
+  unfolding twoPolesM1Variable twoPoles m1Variable
+  two-poles-m1-variable-steady b = changed u a (λ r h. search lows)
+
+  pub two-zeros-steady : Steady u a (twoZeros u a)
+  unfolding twoZeros
+  two-zeros-steady = changed u a (λ r h. search lows)
+
+  pub two-zeros-m0-variable-steady : (b : ℕ) → Steady u a (twoZerosM0Variable u a b)
+  unfolding twoZerosM0Variable twoZeros m0Variable
+  two-zeros-m0-variable-steady b = changed u a (λ r h. search lows)
+
+  pub two-zeros-m1-variable-steady : (b : ℕ) → Steady u a (twoZerosM1Variable u a b)
+  unfolding twoZerosM1Variable twoZeros m1Variable
+  two-zeros-m1-variable-steady b = changed u a (λ r h. search lows)
+
+pub ruleset steady-filters = (one-pole-steady, one-zero-steady, two-poles-steady, two-poles-m0-variable-steady, two-poles-m1-variable-steady, two-zeros-steady, two-zeros-m0-variable-steady, two-zeros-m1-variable-steady)

@@ -1,0 +1,18 @@
+use borrow.Author.Needs.{needs}
+use mathlib.Core.Path.{refl}
+use Rattle.modifier_filters.specs.Filters.{oneZero}
+use Rattle.modifier_filters.proofs.one_zero.Statement.{statement}
+use Rattle.modifier_filters.proofs.one_zero.Tie as tie
+
+filtered-requires : tie.Need-filtered-requires
+filtered-requires c κs = search needs
+
+gives-requires : tie.Need-gives-requires
+gives-requires c κs = search needs
+
+returns : tie.Need-returns
+unfolding oneZero
+returns c = rw (c .gives .ensures, c .before .filtered .ensures .is) refl
+
+pub one-zero-spec : {M : Type 1} → statement M
+one-zero-spec = tie.close (tie.spec filtered-requires gives-requires returns)

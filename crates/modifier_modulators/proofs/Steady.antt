@@ -1,0 +1,34 @@
+-- What these turns give stays within its widths, and MIN, MRM, MSUM and MMODE are unchanged.
+-- Assumes nothing.
+use Prim.Native.Nat.{ℕ}
+use Rattle.modifier.specs.declared.Modifier.{Modifier}
+use Rattle.modifier.proofs.Low.{lows}
+use Rattle.modifier.proofs.Turns.{Steady, changed}
+use Rattle.modifier_modulators.specs.Modulators.{latch, pulser, amplitudeModulation, fourQuadrant, noise, uniformNoise, triggeredNoise}
+
+module _ (u : Modifier) (a : ℕ) where
+  pub latch-steady : (b : ℕ) → Steady u a (latch u a b)
+  unfolding latch
+  latch-steady b = changed u a (λ r h. search lows)
+
+  pub pulser-steady : (b : ℕ) → Steady u a (pulser u b)
+  unfolding pulser
+  pulser-steady b = changed u a (λ r h. search lows)
+
+  pub amplitude-modulation-steady : (b : ℕ) → Steady u a (amplitudeModulation u a b)
+  unfolding amplitudeModulation
+  amplitude-modulation-steady b = changed u a (λ r h. search lows)
+
+  pub four-quadrant-steady : (b : ℕ) → Steady u a (fourQuadrant u a b)
+  unfolding fourQuadrant
+  four-quadrant-steady b = changed u a (λ r h. search lows)
+
+  pub uniform-noise-steady : Steady u a (uniformNoise u)
+  unfolding uniformNoise noise
+  uniform-noise-steady = changed u a (λ r h. search lows)
+
+  pub triggered-noise-steady : (b : ℕ) → Steady u a (triggeredNoise u b)
+  unfolding triggeredNoise noise
+  triggered-noise-steady b = changed u a (λ r h. search lows)
+
+pub ruleset steady-modulators = (latch-steady, pulser-steady, amplitude-modulation-steady, four-quadrant-steady, uniform-noise-steady, triggered-noise-steady)

@@ -1,0 +1,16 @@
+use borrow.Author.Needs.{needs}
+use Rattle.lists.proofs.Masks.{tells, bit-tells}
+use Rattle.lists.specs.Lists.{isOneOf}
+use Rattle.modifier_turn.specs.Turn.{builtFunctions, builtFunction}
+use Rattle.modifier_turn.proofs.built_function.Statement.{statement}
+use Rattle.modifier_turn.proofs.built_function.Tie as tie
+
+shr-result : tie.Need-shr-result
+shr-result c = search needs
+
+returns : tie.Need-returns
+unfolding builtFunction builtFunctions isOneOf tells
+returns c = bit-tells _ builtFunctions 32 tt _ (c .pre)
+
+pub built-function-spec : {M : Type 1} → statement M
+built-function-spec = tie.close (tie.spec shr-result returns)

@@ -1,0 +1,63 @@
+-- `points::adders` meets its contract: the marks are those of the generators passed.
+-- Assumes nothing.
+use Prim.Native.Nat.{_≤_, _-_}
+use native.Mathlib.Omega.{arith}
+use Rattle.order_points.proofs.ReplacedWords.{MarkedTo, marked-none, marked-next, marked-all}
+use Rattle.order_points.proofs.adders.Statement.{statement}
+use Rattle.order_points.proofs.adders.Tie as tie
+
+abbrev Inv-loop : tie.InvT-loop
+Inv-loop m at1 at2 last marks₀ t g₀ marks g = (g ≤ t) × MarkedTo m at1 at2 last marks g
+
+abbrev μ-loop : tie.MeasureT-loop
+μ-loop m at1 at2 last marks₀ t g₀ marks g = t - g
+
+ticks-requires : tie.Need-ticks-requires Inv-loop μ-loop
+ticks-requires c κs = c .before .pre .0 .reaches
+
+loop-holds : tie.Need-loop-holds Inv-loop μ-loop
+loop-holds c =
+    let b = c .before .before in
+    (omega arith, marked-none (b .args .m .now) (b .args .at1 .now) (b .args .at2 .now) (b .args .last .now) (b .pre .1 .1))
+
+adder-requires : tie.Need-adder-requires Inv-loop μ-loop
+adder-requires c κs =
+    let z = c .before .before in
+    let b = z .before .before .before in
+    (b .pre .0, (b .pre .1 .0, omega (arith, z .before .ticks .ensures, b .pre .0 .ticks)))
+
+add-g : tie.Need-add-g Inv-loop μ-loop
+add-g c = omega arith
+
+loop-less : tie.Need-loop-less Inv-loop μ-loop
+loop-less c = omega arith
+
+loop-again : tie.Need-loop-again Inv-loop μ-loop
+loop-again c =
+    let z = c .before .before .before in
+    let b = z .before .before .before in
+    let a = b .args in (
+      omega arith,
+      marked-next (a .m .now) (a .at1 .now) (a .at2 .now) (a .last .now) (z .loop .marks) (z .loop .g)
+          (b .pre .0 .gsums (z .loop .g) (omega (arith, z .before .ticks .ensures, b .pre .0 .ticks))) (z .loop .inv .1) (c .adder .ensures),
+    )
+
+returns : tie.Need-returns Inv-loop μ-loop
+returns c =
+    let z = c .before in
+    let a = z .before .before .before .args in
+    marked-all (a .m .now) (a .at1 .now) (a .at2 .now) (a .last .now) (z .loop .marks) (z .loop .g) (omega (arith, z .before .ticks .ensures)) (z .loop .inv .1)
+
+pub adders-spec : {M : Type 1} → statement M
+adders-spec =
+    tie.close
+    (tie.spec
+    Inv-loop
+    μ-loop
+    ticks-requires
+    loop-holds
+    adder-requires
+    add-g
+    loop-less
+    loop-again
+    returns)

@@ -1,0 +1,20 @@
+-- `points::adding` meets its contract.
+-- Assumes nothing.
+use mathlib.Core.Path.{sym, ap, _∙_}
+use mathlib.Core.Bool.{Bool, _||_}
+use borrow.Author.Needs.{needs}
+use lib.Dec.{eqb}
+use Rattle.order_points.proofs.Asked.{adds-is}
+use Rattle.order_points.proofs.adding.Statement.{statement}
+use Rattle.order_points.proofs.adding.Tie as tie
+
+triggering-requires : tie.Need-triggering-requires
+triggering-requires c κs = search needs
+
+returns : tie.Need-returns
+returns c =
+    let r = c .before .args .run in
+    ap (λ (b : Bool). eqb r 15 || b) (c .triggering .ensures) ∙ sym (adds-is r)
+
+pub adding-spec : {M : Type 1} → statement M
+adding-spec = tie.close (tie.spec triggering-requires returns)

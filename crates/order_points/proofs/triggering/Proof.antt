@@ -1,0 +1,12 @@
+-- `points::triggering` meets its contract.
+-- Assumes nothing.
+use mathlib.Core.Path.{sym}
+use Rattle.modes.proofs.RunModes.{free-is}
+use Rattle.order_points.proofs.triggering.Statement.{statement}
+use Rattle.order_points.proofs.triggering.Tie as tie
+
+returns : tie.Need-returns
+returns c = sym (free-is (c .args .run))
+
+pub triggering-spec : {M : Type 1} → statement M
+triggering-spec = tie.close (tie.spec returns)

@@ -1,0 +1,35 @@
+-- `traces::dac_number` meets its contract.
+-- Assumes nothing.
+use mathlib.Core.Path.{_≡_}
+use Prim.Native.Nat.{_*_, _%_}
+use native.Mathlib.Nat.{mod-lt, add-zero}
+use native.Mathlib.Omega.{arith}
+use borrow.Author.Needs.{needs}
+use lib.ListN.{getD}
+use Rattle.order_traces.proofs.dac_number.Statement.{statement}
+use Rattle.order_traces.proofs.dac_number.Tie as tie
+
+mul-wide : tie.Need-mul-wide
+mul-wide c = search needs
+
+add-wide : tie.Need-add-wide
+add-wide c = search needs
+
+mul-wide-2 : tie.Need-mul-wide-2
+mul-wide-2 c = search needs
+
+shared-slice-read-wide : tie.Need-shared-slice-read-wide
+shared-slice-read-wide c = search needs
+
+wide-requires : tie.Need-wide-requires
+wide-requires c κs = search needs
+
+returns : tie.Need-returns
+returns c =
+    let b = c .before .before .before .args in
+    let e : c .wide .result ≡ getD (b .m .now) (11 * b .g) 0 % 16 = rw (add-zero (11 * b .g)) at (c .wide .ensures) in
+    (e, rw e (mod-lt (getD (b .m .now) (11 * b .g) 0) {m = 16} (omega arith)))
+
+pub dac-number-spec : {M : Type 1} → statement M
+dac-number-spec =
+    tie.close (tie.spec mul-wide add-wide mul-wide-2 shared-slice-read-wide wide-requires returns)

@@ -1,0 +1,40 @@
+use borrow.Author.Tests.{eq-eqb, ne-eqb}
+use Rattle.pass_generators.specs.Loops.{heard}
+use borrow.Author.Needs.{needs}
+use Rattle.pass_generators.proofs.hear.Statement.{statement}
+use Rattle.pass_generators.proofs.hear.Tie as tie
+
+add-requires : tie.Need-add-requires
+add-requires c κs = search needs
+
+returns : tie.Need-returns
+unfolding heard
+returns c = (rw (eq-eqb _ 1 (c .before .before .if1 .taken)) (c .add .ensures), rw (eq-eqb _ 1 (c .before .before .if1 .taken)))
+
+item-at-requires : tie.Need-item-at-requires
+item-at-requires c κs = search needs
+
+add20-requires : tie.Need-add20-requires
+add20-requires c κs = search needs
+
+replace-requires : tie.Need-replace-requires
+replace-requires c κs = search needs
+
+add-result : tie.Need-add-result
+add-result c = search needs
+
+returns-2 : tie.Need-returns-2
+unfolding heard
+returns-2 c = (rw (ne-eqb _ 1 (c .before .before .before .before .if1 .left), c .replace .ensures, c .before .add20 .ensures, c .before .before .before .item-at .ensures), rw (ne-eqb _ 1 (c .before .before .before .before .if1 .left)))
+
+pub hear-spec : {M : Type 1} → statement M
+hear-spec =
+    tie.close
+    (tie.spec
+    add-requires
+    returns
+    item-at-requires
+    add20-requires
+    replace-requires
+    add-result
+    returns-2)

@@ -1,0 +1,58 @@
+use borrow.Author.Tests.{eq-eqb, ne-eqb}
+use Rattle.pass_generators.specs.GeneratorStage.{putDAC, sent, writtenBy}
+use native.Mathlib.Numerals.{add-one}
+use borrow.Author.Needs.{needs}
+use Rattle.pass_generators.proofs.send.Statement.{statement}
+use Rattle.pass_generators.proofs.send.Tie as tie
+
+add-at : tie.Need-add-at
+add-at c = search needs
+
+cast-at : tie.Need-cast-at
+cast-at c = search needs
+
+mul-m : tie.Need-mul-m
+mul-m c = search needs
+
+slice-write-m : tie.Need-slice-write-m
+slice-write-m c = search needs
+
+same-length : tie.Need-same-length
+same-length c = search needs
+
+returns : tie.Need-returns
+unfolding putDAC sent writtenBy
+returns c = record { feeds = rw (eq-eqb _ 2 (c .before .if1 .taken)); sends = rw (c .before .if1 .taken); writes-on = rw (c .before .if1 .taken) }
+
+put-item-requires : tie.Need-put-item-requires
+put-item-requires c κs = search needs
+
+add-result : tie.Need-add-result
+add-result c = search needs
+
+same-length-2 : tie.Need-same-length-2
+same-length-2 c = search needs
+
+returns-2 : tie.Need-returns-2
+unfolding putDAC sent writtenBy
+returns-2 c = record { feeds = rw (ne-eqb _ 2 (c .before .before .before .before .before .if1 .left)); sends = rw (c .before .before .before .before .if2 .taken) (c .before .before .put-item .ensures); writes-on = rw (c .before .before .before .before .if2 .taken) (add-one _) }
+
+returns-3 : tie.Need-returns-3
+unfolding putDAC sent writtenBy
+returns-3 c = record { feeds = rw (ne-eqb _ 2 (c .before .if1 .left)); sends = rw (ne-eqb _ 3 (c .if2 .left)); writes-on = rw (ne-eqb _ 3 (c .if2 .left)) }
+
+pub send-spec : {M : Type 1} → statement M
+send-spec =
+    tie.close
+    (tie.spec
+    add-at
+    cast-at
+    mul-m
+    slice-write-m
+    same-length
+    returns
+    put-item-requires
+    add-result
+    same-length-2
+    returns-2
+    returns-3)

@@ -1,0 +1,22 @@
+use borrow.Author.Needs.{needs}
+use Rattle.pass_generators.proofs.wait.Statement.{statement}
+use Rattle.pass_generators.proofs.wait.Tie as tie
+
+told-requires : tie.Need-told-requires
+told-requires c κs = search needs
+
+wait-requires : tie.Need-wait-requires
+wait-requires c κs = search needs
+
+put-generator-at-requires : tie.Need-put-generator-at-requires
+put-generator-at-requires c κs = search needs
+
+same-length : tie.Need-same-length
+same-length c = search needs
+
+returns : tie.Need-returns
+returns c = rw (c .before .before .put-generator-at .ensures, c .before .before .before .before .wait .ensures, c .before .before .before .before .before .told .ensures)
+
+pub wait-spec : {M : Type 1} → statement M
+wait-spec =
+    tie.close (tie.spec told-requires wait-requires put-generator-at-requires same-length returns)

@@ -1,0 +1,230 @@
+-- Which settings a pass keeps: all registers of a generator but GJ, GK, GQ and the run modes 1001 and 1101 in GMODE, the addresses and modes of the modifiers, and all controls but the counter.
+-- Assumes nothing.
+use mathlib.Core.Path.{_≡_, refl, sym, _∙_, ap}
+use mathlib.Core.Logic.{_≢_}
+use mathlib.Core.Bool.{Bool, true, false, cond, _&&_}
+use mathlib.Core.List.{List}
+use Prim.Native.Nat.{ℕ, _+_, _/_, _%_, _^_, _≤_, _<_}
+use native.Mathlib.Omega.{arith}
+use native.Mathlib.Nat.{add-zero}
+use borrow.Author.Tests.{eqb-true, eqb-false, ltb-true}
+use lib.Dec.{eqb, ltb, lit<, lit≤}
+use lib.ListN.{length, getD}
+use Rattle.lists.proofs.Below.{and-first}
+use Rattle.layout.specs.Layout.{generatorAt, modifierAt, dxAt, tAt, nAt, counterAt, lingeringAt, lingerPassAt, overrunAt}
+use Rattle.modes.specs.Modes.{wait, runningC}
+use Rattle.machine.specs.Questions.{sound}
+use Rattle.machine.proofs.SoundMachine.{reaches}
+use Rattle.order.specs.Order.{ticksOf, runModeAt}
+use Rattle.sums.proofs.Blocks.{Outside, outside-before, outside-after}
+use Rattle.sums.proofs.Memory.{sums-quadrants}
+use Rattle.generator.specs.declared.Generator.{Generator}
+use Rattle.generator.specs.Generator.{runMode, withRunMode, triggers, gmodeAfter, after}
+use Rattle.pass_generators.specs.GeneratorStage.{State, told, step, steps, begun}
+use Rattle.pass_generators.proofs.Puts.{put-gmode}
+use Rattle.pass_modifiers.proofs.Stage.{Elsewhere}
+use Rattle.pass.specs.Pass.{Outcome, ran, passOf}
+use Rattle.pass_laws.proofs.Frames.{takenAt, turned, setting, apart-other, step-length, step-own, step-below, steps-keep, steps-middle, steps-beyond, steps-setting, steps-quadrants}
+use Rattle.pass_laws.proofs.SoundPuts.{gmode-loaded}
+use Rattle.pass_laws.proofs.Passing.{Passed, generatorsTaken, begun-words, begun-sums, passed, pass-by, refused-machine, ran-machine}
+use Rattle.pass_laws.proofs.Completing.{completed-word}
+use Rattle.pass_laws.proofs.PassSound.{step-sound}
+
+-- GMODE y after GMODE x: the envelope and oscillator modes are kept, and the run mode too unless it was 1001 or 1101.
+pub record ModeKept (x y : ℕ) : Type 0 where
+  pub rest : y % 2 ^ 6 ≡ x % 2 ^ 6
+  pub whole : x / 2 ^ 6 ≢ wait → x / 2 ^ 6 ≢ runningC → y ≡ x
+
+kept-same : (x : ℕ) → ModeKept x x
+kept-same x = record { rest = refl; whole = λ n c. refl }
+
+kept-on : (x y z : ℕ) → ModeKept x y → ModeKept y z → ModeKept x z
+kept-on x y z a b =
+    record {
+      rest = b .rest ∙ a .rest;
+      whole = λ n c.
+          let e : y ≡ x = a .whole n c in
+          b .whole (λ q. n (ap (λ (v : ℕ). v / 2 ^ 6) (sym e) ∙ q)) (λ q. c (ap (λ (v : ℕ). v / 2 ^ 6) (sym e) ∙ q)) ∙ e;
+    }
+
+-- Of one turn.
+mode-after : (u : Generator) (told : Bool) → ModeKept (u .gmode) (gmodeAfter u told)
+unfolding gmodeAfter
+mode-after u told = go (eqb (runMode u) runningC && triggers u) (eqb (runMode u) wait && told) refl refl
+  where
+    go : (a b : Bool) → (eqb (runMode u) runningC && triggers u) ≡ a → (eqb (runMode u) wait && told) ≡ b
+        → ModeKept (u .gmode) (cond a (withRunMode wait (u .gmode)) (cond b (withRunMode runningC (u .gmode)) (u .gmode)))
+    go true b ea eb =
+        record {
+          rest = omega arith;
+          whole = λ n c. absurd (c (eqb-true (runMode u) runningC (and-first (eqb (runMode u) runningC) (triggers u) ea)));
+        }
+    go false true ea eb =
+        record {
+          rest = omega arith;
+          whole = λ n c. absurd (n (eqb-true (runMode u) wait (and-first (eqb (runMode u) wait) told eb)));
+        }
+    go false false ea eb = kept-same (u .gmode)
+
+-- Of the turns of an order, on a sound machine.
+record Modes (x k : ℕ) (words : List ℕ) : Type 0 where
+  is-sound : sound words ≡ true
+  reach : 2816 ≤ length words
+  kept : ModeKept x (getD words (generatorAt k + 10) 0)
+
+turned-gmode : (s : State) (g : ℕ) → turned s g .gmode ≡ gmodeAfter (takenAt s g) (told (s .triggered) g)
+unfolding after
+turned-gmode s g = refl
+
+step-mode : (items : List ℕ) (s : State) (g k : ℕ) → g < 256 → k < 256 → sound (s .words) ≡ true → 2816 ≤ length (s .words)
+    → ModeKept (getD (s .words) (generatorAt k + 10) 0) (getD (step items s g .words) (generatorAt k + 10) 0)
+step-mode items s g k h l e r = go (eqb k g) refl
+  where
+    own : getD (step items s g .words) (generatorAt g + 10) 0 ≡ gmodeAfter (takenAt s g) (told (s .triggered) g)
+    own =
+        step-own items s g (generatorAt g + 10) (omega arith)
+        ∙ put-gmode (s .words) g (turned s g) (omega arith)
+        ∙ turned-gmode s g
+
+    go : (b : Bool) → eqb k g ≡ b → ModeKept (getD (s .words) (generatorAt k + 10) 0) (getD (step items s g .words) (generatorAt k + 10) 0)
+    go true q = rw (eqb-true k g q, own, ← (gmode-loaded (s .words) e g h)) (mode-after (takenAt s g) (told (s .triggered) g))
+    go false q =
+        rw (step-below items s g (generatorAt k + 10) (omega arith) (apart-other g k 10 (lit< tt) (eqb-false k g q)))
+        (kept-same (getD (s .words) (generatorAt k + 10) 0))
+
+pub steps-mode : (items order : List ℕ) (s : State) (k : ℕ) → k < 256 → ((i : ℕ) → i < length order → getD order i 0 < 256)
+    → sound (s .words) ≡ true → 2816 ≤ length (s .words)
+    → ModeKept (getD (s .words) (generatorAt k + 10) 0) (getD (steps items s order .words) (generatorAt k + 10) 0)
+steps-mode items order s k l below e r =
+    steps-keep items (λ g. g < 256) (λ t. Modes (getD (s .words) (generatorAt k + 10) 0) k (t .words)) next order below s
+    (record { is-sound = e; reach = r; kept = kept-same (getD (s .words) (generatorAt k + 10) 0) }) .kept
+  where
+    next : (t : State) (g : ℕ) → g < 256 → Modes (getD (s .words) (generatorAt k + 10) 0) k (t .words)
+        → Modes (getD (s .words) (generatorAt k + 10) 0) k (step items t g .words)
+    next t g h p =
+        record {
+          is-sound = step-sound items t g h (p .is-sound);
+          reach = rw (step-length items t g) (p .reach);
+          kept = kept-on _ _ _ (p .kept) (step-mode items t g k h l (p .is-sound) (p .reach));
+        }
+
+-- The settings of generator g and of modifier k of a machine r, as they are in m.
+pub record GeneratorKept (m r : List ℕ) (g : ℕ) : Type 0 where
+  pub go : getD r (generatorAt g) 0 ≡ getD m (generatorAt g) 0
+  pub gn : getD r (generatorAt g + 3) 0 ≡ getD m (generatorAt g + 3) 0
+  pub gm : getD r (generatorAt g + 4) 0 ≡ getD m (generatorAt g + 4) 0
+  pub gp : getD r (generatorAt g + 5) 0 ≡ getD m (generatorAt g + 5) 0
+  pub gl : getD r (generatorAt g + 7) 0 ≡ getD m (generatorAt g + 7) 0
+  pub gsum : getD r (generatorAt g + 8) 0 ≡ getD m (generatorAt g + 8) 0
+  pub gfm : getD r (generatorAt g + 9) 0 ≡ getD m (generatorAt g + 9) 0
+  pub gmode : runModeAt m g ≢ wait → runModeAt m g ≢ runningC → getD r (generatorAt g + 10) 0 ≡ getD m (generatorAt g + 10) 0
+  pub gmodeRest : getD r (generatorAt g + 10) 0 % 2 ^ 6 ≡ getD m (generatorAt g + 10) 0 % 2 ^ 6
+
+pub record ModifierKept (m r : List ℕ) (k : ℕ) : Type 0 where
+  pub min : getD r (modifierAt k + 4) 0 ≡ getD m (modifierAt k + 4) 0
+  pub mrm : getD r (modifierAt k + 5) 0 ≡ getD m (modifierAt k + 5) 0
+  pub msum : getD r (modifierAt k + 6) 0 ≡ getD m (modifierAt k + 6) 0
+  pub mmode : getD r (modifierAt k + 7) 0 ≡ getD m (modifierAt k + 7) 0
+
+-- All settings of a machine.
+pub record SettingsKept (m r : List ℕ) : Type 0 where
+  pub generator : (g : ℕ) → g < 256 → GeneratorKept m r g
+  pub modifier : (k : ℕ) → k < 128 → ModifierKept m r k
+  pub dx : getD r dxAt 0 ≡ getD m dxAt 0
+  pub t : getD r tAt 0 ≡ getD m tAt 0
+  pub n : getD r nAt 0 ≡ getD m nAt 0
+  pub lingering : getD r lingeringAt 0 ≡ getD m lingeringAt 0
+  pub lingerPass : getD r lingerPassAt 0 ≡ getD m lingerPassAt 0
+  pub overrun : getD r overrunAt 0 ≡ getD m overrunAt 0
+
+same-settings : (m : List ℕ) → SettingsKept m m
+same-settings m =
+    record {
+      generator = λ g h. record { go = refl; gn = refl; gm = refl; gp = refl; gl = refl; gsum = refl; gfm = refl; gmode = λ a b. refl; gmodeRest = refl };
+      modifier = λ k h. record { min = refl; mrm = refl; msum = refl; mmode = refl };
+      dx = refl;
+      t = refl;
+      n = refl;
+      lingering = refl;
+      lingerPass = refl;
+      overrun = refl;
+    }
+
+module _ (m order items places : List ℕ) (p : Passed m order) where
+  abbrev last : List ℕ
+  last = ran m order items places .machine
+
+  abbrev taken : State
+  taken = generatorsTaken m order items places
+
+  -- From the generators to the end of the pass.
+  completed-at : (i : ℕ) → Elsewhere i (ticksOf m / 2) → Outside i 3840 256 → i ≢ counterAt → getD last i 0 ≡ getD (taken .words) i 0
+  completed-at i a o c =
+      rw (ran-machine m order items places)
+      (completed-word (taken .words) (taken .sums) (ticksOf m / 2)
+      (steps-quadrants items order (begun m places) (rw (begun-sums m places) (sums-quadrants m (reaches m (p .whole))))) i a o c)
+
+  generator-word : (i : ℕ) → i < 2816 → getD last i 0 ≡ getD (taken .words) i 0
+  generator-word i h =
+      completed-at i (record { not-at = λ k j a b e. omega arith }) (outside-before i 3840 256 (omega arith)) (λ e. omega arith)
+
+  setting-word : (g j : ℕ) → g < 256 → ltb j 11 ≡ true → eqb j 1 ≡ false → eqb j 2 ≡ false → eqb j 6 ≡ false → eqb j 10 ≡ false
+      → getD last (generatorAt g + j) 0 ≡ getD m (generatorAt g + j) 0
+  setting-word g j h a b c d e =
+      generator-word (generatorAt g + j) (omega (arith, ltb-true j 11 a))
+      ∙ steps-setting items order (begun m places) g j h (setting j a b c d e)
+      ∙ rw (begun-words m places)
+
+  modifier-word : (k j : ℕ) → k < 128 → 4 ≤ j → j < 8 → getD last (modifierAt k + j) 0 ≡ getD m (modifierAt k + j) 0
+  modifier-word k j h a b =
+      completed-at (modifierAt k + j) (record { not-at = λ n i c d e. omega arith }) (outside-before (modifierAt k + j) 3840 256 (omega arith)) (λ e. omega arith)
+      ∙ steps-middle items order (begun m places) (p .below) (modifierAt k + j) (omega arith) (omega arith)
+      ∙ rw (begun-words m places)
+
+  control-word : (i : ℕ) → 4112 ≤ i → i ≢ counterAt → getD last i 0 ≡ getD m i 0
+  control-word i h c =
+      completed-at i (record { not-at = λ n j a b e. omega (arith, p .ticks) }) (outside-after i 3840 256 (omega arith)) c
+      ∙ steps-beyond items order (begun m places) (p .below) i h
+      ∙ rw (begun-words m places)
+
+  mode-word : (g : ℕ) → g < 256 → ModeKept (getD m (generatorAt g + 10) 0) (getD last (generatorAt g + 10) 0)
+  unfolding begun
+  mode-word g h =
+      rw (generator-word (generatorAt g + 10) (omega arith))
+      (steps-mode items order (begun m places) g h (p .below) (p .is-sound) (reaches m (p .whole) .generators))
+
+  ran-settings : SettingsKept m last
+  ran-settings =
+      record {
+        generator = λ g h.
+            record {
+              go = rw (add-zero (generatorAt g)) at (setting-word g 0 h refl refl refl refl refl);
+              gn = setting-word g 3 h refl refl refl refl refl;
+              gm = setting-word g 4 h refl refl refl refl refl;
+              gp = setting-word g 5 h refl refl refl refl refl;
+              gl = setting-word g 7 h refl refl refl refl refl;
+              gsum = setting-word g 8 h refl refl refl refl refl;
+              gfm = setting-word g 9 h refl refl refl refl refl;
+              gmode = λ a b. mode-word g h .whole a b;
+              gmodeRest = mode-word g h .rest;
+            };
+        modifier = λ k h.
+            record {
+              min = modifier-word k 4 h (lit≤ tt) (lit< tt);
+              mrm = modifier-word k 5 h (lit≤ tt) (lit< tt);
+              msum = modifier-word k 6 h (lit≤ tt) (lit< tt);
+              mmode = modifier-word k 7 h (lit≤ tt) (lit< tt);
+            };
+        dx = control-word dxAt (lit≤ tt) (eqb-false dxAt counterAt refl);
+        t = control-word tAt (lit≤ tt) (eqb-false tAt counterAt refl);
+        n = control-word nAt (lit≤ tt) (eqb-false nAt counterAt refl);
+        lingering = control-word lingeringAt (lit≤ tt) (eqb-false lingeringAt counterAt refl);
+        lingerPass = control-word lingerPassAt (lit≤ tt) (eqb-false lingerPassAt counterAt refl);
+        overrun = control-word overrunAt (lit≤ tt) (eqb-false overrunAt counterAt refl);
+      }
+
+-- A pass keeps the settings.
+pub pass-settings : (m order items places : List ℕ) → SettingsKept m (passOf m order items places .machine)
+pass-settings m order items places =
+    pass-by m order items places (λ (r : Outcome). SettingsKept m (r .machine))
+    (rw (refused-machine m order items places) (same-settings m)) (λ n. ran-settings m order items places (passed m order items places n))

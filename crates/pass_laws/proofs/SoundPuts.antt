@@ -1,0 +1,154 @@
+-- What a pass puts into the words of a sound machine passes its test, so that the machine stays sound.
+-- Assumes nothing.
+use mathlib.Core.Path.{_≡_, refl, _∙_, ap}
+use mathlib.Core.Bool.{Bool, true, false, _&&_}
+use mathlib.Core.List.{List, []}
+use Prim.Native.Nat.{ℕ, _+_, _-_, _*_, _/_, _%_, _^_, _≤_, _<_}
+use native.Mathlib.Omega.{arith}
+use native.Mathlib.Nat.{mod-eq-of-lt}
+use borrow.Author.Tests.{ltb-true, ltb-false, lt-ltb}
+use lib.Dec.{eqb, ltb, lit<}
+use lib.ListN.{length, getD, set}
+use lib.Seq.{getD-drop}
+use Rattle.lists.specs.Lists.{isOneOf}
+use Rattle.lists.proofs.Below.{and-second, and-both}
+use Rattle.modes.specs.Modes.{builtRun, builtOscillator, wait, runningC}
+use Rattle.layout.specs.Layout.{machineLength, generatorAt, modifierAt, quadrantAt, dacAt, counterAt, Reaches}
+use Rattle.machine.specs.Questions.{bits, goodGmode, regions, testAt, sound}
+use Rattle.machine.proofs.Regions.{region, start, unit-test}
+use Rattle.machine.proofs.SoundMachine.{sound-at, sound-from, sound-set, sound-generator}
+use Rattle.sums.specs.Sums.{generatorThis, modifierThis, fAt, closed}
+use Rattle.sums.proofs.Blocks.{Outside, outside-before, outside-after}
+use Rattle.sums.proofs.Memory.{Quadrants, word-low}
+use Rattle.sums.proofs.Closing.{closed-outside, closed-generator-this, closed-generator-last, closed-modifier-this, closed-modifier-last}
+use Rattle.generator.specs.declared.Generator.{Generator}
+use Rattle.generator.specs.Generator.{loaded, runMode, withRunMode, triggers, gmodeAfter}
+use Rattle.pass_generators.specs.GeneratorStage.{generatorOf, putGenerator}
+use Rattle.modifier.specs.declared.Modifier.{Modifier}
+use Rattle.modifier.specs.Modifier.{Ranged as RangedModifier}
+use Rattle.pass_modifiers.specs.ModifierStage.{putModifier}
+use Rattle.pass.specs.Pass.{counted}
+use Rattle.pass_laws.proofs.Frames.{of-cond}
+
+-- A word that passes the test of its register is put there.
+pub sound-put : (m : List ℕ) → sound m ≡ true → (k u j i v : ℕ) → u < region regions k .units → j < length (region regions k .tests)
+    → i ≡ start regions k + (length (region regions k .tests) * u + j) → i < machineLength → getD (region regions k .tests) j (λ y. true) v ≡ true
+    → sound (set m i v) ≡ true
+sound-put m e k u j i v h l q n p = sound-set m e i v n (ap (λ (at : ℕ). testAt regions at v) q ∙ unit-test regions k u j v h l ∙ p)
+
+-- The registers of generator g that a turn can change.
+pub sound-generator-put : (m : List ℕ) → sound m ≡ true → (g : ℕ) → g < 256 → (u : Generator)
+    → u .gj < 2 ^ 28 → u .gk < 2 ^ 20 → u .gq < 2 ^ 24 → goodGmode (u .gmode) ≡ true → sound (putGenerator m g u) ≡ true
+unfolding putGenerator regions
+sound-generator-put m e g h u gj gk gq mode =
+    let m1 = set m (generatorAt g + 1) (u .gj) in
+    let e1 = sound-put m e 0 g 1 (generatorAt g + 1) (u .gj) h (lit< tt) (omega arith) (omega arith) (lt-ltb (u .gj) (2 ^ 28) gj) in
+    let m2 = set m1 (generatorAt g + 2) (u .gk) in
+    let e2 = sound-put m1 e1 0 g 2 (generatorAt g + 2) (u .gk) h (lit< tt) (omega arith) (omega arith) (lt-ltb (u .gk) (2 ^ 20) gk) in
+    let m3 = set m2 (generatorAt g + 6) (u .gq) in
+    let e3 = sound-put m2 e2 0 g 6 (generatorAt g + 6) (u .gq) h (lit< tt) (omega arith) (omega arith) (lt-ltb (u .gq) (2 ^ 24) gq) in
+    sound-put m3 e3 0 g 10 (generatorAt g + 10) (u .gmode) h (lit< tt) (omega arith) (omega arith) mode
+
+-- A DAC word.
+pub sound-dac-put : (m : List ℕ) → sound m ≡ true → (d v : ℕ) → d < 16 → v < 2 ^ 20 → sound (set m (dacAt d) v) ≡ true
+unfolding regions
+sound-dac-put m e d v h l = sound-put m e 3 d 0 (dacAt d) v h (lit< tt) (omega arith) (omega arith) (lt-ltb v (2 ^ 20) l)
+
+-- M0, M1, L0 and L1 of a modifier.
+pub sound-modifier-put : (m : List ℕ) → sound m ≡ true → (k : ℕ) → k < 128 → (u : Modifier) → RangedModifier u → sound (putModifier m k u) ≡ true
+unfolding putModifier regions
+sound-modifier-put m e k h u r =
+    let m1 = set m (modifierAt k) (u .m0) in
+    let e1 = sound-put m e 1 k 0 (modifierAt k) (u .m0) h (lit< tt) (omega arith) (omega arith) (lt-ltb (u .m0) (2 ^ 30) (r .m0-low)) in
+    let m2 = set m1 (modifierAt k + 1) (u .m1) in
+    let e2 = sound-put m1 e1 1 k 1 (modifierAt k + 1) (u .m1) h (lit< tt) (omega arith) (omega arith) (lt-ltb (u .m1) (2 ^ 30) (r .m1-low)) in
+    let m3 = set m2 (modifierAt k + 2) (u .l0) in
+    let e3 = sound-put m2 e2 1 k 2 (modifierAt k + 2) (u .l0) h (lit< tt) (omega arith) (omega arith) (lt-ltb (u .l0) (2 ^ 20) (r .l0-low)) in
+    sound-put m3 e3 1 k 3 (modifierAt k + 3) (u .l1) h (lit< tt) (omega arith) (omega arith) (lt-ltb (u .l1) (2 ^ 20) (r .l1-low))
+
+-- The counter.
+pub sound-counted : (m : List ℕ) → sound m ≡ true → sound (counted m) ≡ true
+unfolding counted regions
+sound-counted m e =
+    sound-put m e 4 0 3 counterAt ((getD m counterAt 0 + 1) % 2 ^ 20) (lit< tt) (lit< tt) refl (lit< tt)
+    (lt-ltb ((getD m counterAt 0 + 1) % 2 ^ 20) (2 ^ 20) (omega arith))
+
+-- A word of sum memory.
+sum-passes : (i v : ℕ) → 3840 ≤ i → i < 4096 → v < 2 ^ 20 → testAt regions i v ≡ true
+unfolding regions
+sum-passes i v a b l =
+    let u = i - 3840 in
+    let q : i ≡ start regions 2 + (1 * u + 0) = omega arith in
+    ap (λ (at : ℕ). testAt regions at v) q ∙ unit-test regions 2 u 0 v (omega arith) (lit< tt) ∙ lt-ltb v (2 ^ 20) l
+
+-- The end of a pass, where the words of both this-pass quadrants have 20 bits.
+pub sound-closed : (m : List ℕ) (s : List (List ℕ)) → sound m ≡ true → Reaches m → Quadrants s
+    → ((i : ℕ) → i < 64 → getD (getD s generatorThis []) i 0 < 2 ^ 20) → ((i : ℕ) → i < 64 → getD (getD s modifierThis []) i 0 < 2 ^ 20)
+    → sound (closed m s) ≡ true
+sound-closed m s e r k low₀ low₂ = sound-from (closed m s) (λ i h. passes i h (ltb i 3840) (ltb i 3904) (ltb i 3968) (ltb i 4032) (ltb i 4096) refl refl refl refl refl)
+  where
+    outside : (i : ℕ) → i < machineLength → Outside i 3840 256 → testAt regions i (getD (closed m s) i 0) ≡ true
+    outside i h o = rw (closed-outside m s k i o) (sound-at m e i h)
+
+    -- Word j of quadrant q.
+    word : (q j i : ℕ) → q < 4 → j < 64 → i ≡ quadrantAt q + j → getD (closed m s) (quadrantAt q + j) 0 < 2 ^ 20 → testAt regions i (getD (closed m s) i 0) ≡ true
+    word q j i a b is l = rw is (sum-passes (quadrantAt q + j) (getD (closed m s) (quadrantAt q + j) 0) (omega arith) (omega arith) l)
+
+    passes : (i : ℕ) → i < machineLength → (a b c d f : Bool) → ltb i 3840 ≡ a → ltb i 3904 ≡ b → ltb i 3968 ≡ c → ltb i 4032 ≡ d → ltb i 4096 ≡ f
+        → testAt regions i (getD (closed m s) i 0) ≡ true
+    passes i h true b c d f ea eb ec ed ef = outside i h (outside-before i 3840 256 (ltb-true i 3840 ea))
+    passes i h false true c d f ea eb ec ed ef =
+        let x = ltb-false i 3840 ea in
+        let y = ltb-true i 3904 eb in
+        word 0 (i - 3840) i (lit< tt) (omega arith) (omega arith) (rw (closed-generator-this m s k r (i - 3840) (omega arith)) (lit< tt))
+    passes i h false false true d f ea eb ec ed ef =
+        let x = ltb-false i 3904 eb in
+        let y = ltb-true i 3968 ec in
+        word 1 (i - 3904) i (lit< tt) (omega arith) (omega arith)
+        (rw (closed-generator-last m s k r (i - 3904) (omega arith)) (low₀ (i - 3904) (omega arith)))
+    passes i h false false false true f ea eb ec ed ef =
+        let x = ltb-false i 3968 ec in
+        let y = ltb-true i 4032 ed in
+        word 2 (i - 3968) i (lit< tt) (omega arith) (omega arith) (rw (closed-modifier-this m s k r (i - 3968) (omega arith)) (lit< tt))
+    passes i h false false false false true ea eb ec ed ef =
+        let x = ltb-false i 4032 ed in
+        let y = ltb-true i 4096 ef in
+        word 3 (i - 4032) i (lit< tt) (omega arith) (omega arith)
+        (rw (closed-modifier-last m s k r (i - 4032) (omega arith)) (low₂ (i - 4032) (omega arith)))
+    passes i h false false false false false ea eb ec ed ef = outside i h (outside-after i 3840 256 (ltb-false i 4096 ef))
+
+-- F has 20 bits.
+pub f-low : (s : List (List ℕ)) (gfm : ℕ) → fAt s gfm < 2 ^ 20
+unfolding fAt
+f-low s gfm = word-low _ _
+
+-- GMODE stays good: run modes 1001 and 1101 are built, and the oscillator mode is kept.
+good-run : (r x : ℕ) → r < 16 → builtRun r ≡ true → goodGmode x ≡ true → goodGmode (withRunMode r x) ≡ true
+good-run r x h b good =
+    let y = withRunMode r x in
+    let low : y < 2 ^ 10 = omega arith in
+    let top : y / 2 ^ 6 ≡ r = omega arith in
+    let rest : y % 2 ^ 4 ≡ x % 2 ^ 4 = omega arith in
+    and-both (bits 10 y && builtRun (y / 2 ^ 6)) (builtOscillator (y % 2 ^ 4))
+    (and-both (bits 10 y) (builtRun (y / 2 ^ 6)) (lt-ltb y (2 ^ 10) low) (ap builtRun top ∙ b))
+    (ap builtOscillator rest ∙ and-second (bits 10 x && builtRun (x / 2 ^ 6)) (builtOscillator (x % 2 ^ 4)) good)
+
+pub good-after : (u : Generator) (told : Bool) → goodGmode (u .gmode) ≡ true → goodGmode (gmodeAfter u told) ≡ true
+unfolding gmodeAfter builtRun isOneOf
+good-after u told good =
+    of-cond (λ (x : ℕ). goodGmode x ≡ true) (eqb (runMode u) runningC && triggers u) (good-run wait (u .gmode) (lit< tt) refl good)
+    (of-cond (λ (x : ℕ). goodGmode x ≡ true) (eqb (runMode u) wait && told) (good-run runningC (u .gmode) (lit< tt) refl good) good)
+
+-- GMODE of a generator that is loaded from a sound machine is the word itself, and good.
+pub gmode-loaded : (m : List ℕ) → sound m ≡ true → (g : ℕ) → g < 256 → generatorOf m g .gmode ≡ getD m (generatorAt g + 10) 0
+unfolding generatorOf loaded
+gmode-loaded m e g h = rw (getD-drop (generatorAt g) m 10 0) (mod-eq-of-lt (sound-generator m e g h .gmode))
+
+pub gmode-good : (m : List ℕ) → sound m ≡ true → (g : ℕ) → g < 256 → goodGmode (generatorOf m g .gmode) ≡ true
+gmode-good m e g h =
+    let s = sound-generator m e g h in
+    let x = getD m (generatorAt g + 10) 0 in
+    rw (gmode-loaded m e g h)
+    (and-both (bits 10 x && builtRun (x / 2 ^ 6)) (builtOscillator (x % 2 ^ 4))
+    (and-both (bits 10 x) (builtRun (x / 2 ^ 6)) (lt-ltb x (2 ^ 10) (s .gmode)) (s .run))
+    (s .oscillator))

@@ -1,0 +1,73 @@
+use mathlib.Core.Path.{_≡_, refl, _∙_}
+use Prim.Native.Nat.{_≤_, _-_}
+use native.Mathlib.Omega.{arith}
+use lib.ListN.{length}
+use borrow.Author.Needs.{needs}
+use Rattle.pass_modifiers.specs.Loops.{lagging, lagged}
+use Rattle.pass_modifiers.proofs.Lags.{lagged-on, stage-end}
+use Rattle.pass_modifiers.proofs.modifiers.Statement.{statement}
+use Rattle.layout.proofs.Reach.{same-reach}
+use Rattle.pass_modifiers.proofs.modifiers.Tie as tie
+
+abbrev Inv-loop : tie.InvT-loop
+Inv-loop m₀ s₀ n early₀ first msums₀ lefts₀ k₀ m s early msums lefts k =
+    (k ≤ n) × (length m ≡ length m₀) × (lagging m s early msums lefts ≡ lagged m₀ s₀ k)
+
+abbrev μ-loop : tie.MeasureT-loop
+μ-loop m₀ s₀ n early₀ first msums₀ lefts₀ k₀ m s early msums lefts k = n - k
+
+element-copy-out-early : tie.Need-element-copy-out-early Inv-loop μ-loop
+element-copy-out-early c = search needs
+
+array-read-first : tie.Need-array-read-first Inv-loop μ-loop
+array-read-first c = search needs
+
+loop-holds : tie.Need-loop-holds Inv-loop μ-loop
+unfolding lagged
+loop-holds c = (omega arith, refl, refl)
+
+step-requires : tie.Need-step-requires Inv-loop μ-loop
+step-requires c κs =
+    let z = c .before .before .before .before .before .before in
+    (same-reach (z .loop .inv .1) (z .before .before .before .pre .0), omega arith)
+
+add-k : tie.Need-add-k Inv-loop μ-loop
+add-k c = search needs
+
+loop-less : tie.Need-loop-less Inv-loop μ-loop
+loop-less c = search needs
+
+loop-again : tie.Need-loop-again Inv-loop μ-loop
+loop-again c =
+    let p = c .before .before in
+    let z = p .before .before .before .before .before .before .before in
+    let a = z .before .before .before .args in (
+      omega arith,
+      p .step .kept .0 ∙ z .loop .inv .1,
+      lagged-on (a .m .now) (a .s .now) (z .loop .k) (p .step .ensures) (z .loop .inv .2),
+    )
+
+same-length : tie.Need-same-length Inv-loop μ-loop
+same-length c = search needs
+
+returns : tie.Need-returns Inv-loop μ-loop
+returns c =
+    let z = c .before in
+    let a = z .before .before .before .args in
+    stage-end (a .m .now) (a .s .now) (a .n) (z .loop .k) (omega arith) (z .loop .inv .2)
+
+pub modifiers-spec : {M : Type 1} → statement M
+modifiers-spec =
+    tie.close
+    (tie.spec
+    Inv-loop
+    μ-loop
+    element-copy-out-early
+    array-read-first
+    loop-holds
+    step-requires
+    add-k
+    loop-less
+    loop-again
+    same-length
+    returns)

@@ -1,0 +1,142 @@
+// The modifiers of a pass, taken by number.
+ghost use mathlib.Core.Path.{_≡_};
+ghost use mathlib.Core.List.{[]};
+ghost use Prim.Native.Nat.{_≤_, _<_, _^_};
+ghost use lib.ListN.{getD, set};
+ghost use Rattle.words.specs.Words.{Word};
+ghost use Rattle.layout.specs.Layout.{modifierAt, Reaches};
+ghost use Rattle.modifier.specs.Modifier.{Ranged};
+ghost use Rattle.pass_modifiers.specs.ModifierStage.{written, seen, turnSeen, modifierOf, putModifier, wordsAfter, modifierThisAfter};
+ghost use Rattle.pass_modifiers.specs.Loops.{wordLeft, caughtUp, lagging, lagStep};
+use modifier::Modifier;
+use modifier::Turned;
+
+// What a modifier writes into modifier-this: S, at MSUM.
+pub struct Write {
+    pub msum: u32,
+    pub s: u32,
+}
+
+// The word that MIN or MRM names, with a view of modifier-this.
+fn look(s: &[[u32; 64]; 4], view: &[u32; 64], address: u32) -> u32
+    ensures { λ r. ⌜ Word (seen (now (s .entry)) (now (view .entry)) address) r ⌝ }
+{
+    let i = (address % 64) as usize;
+    if address / 64 == 0 {
+        return sums::quadrant_word(s, 1, i);
+    }
+    if address / 64 == 1 {
+        return sums::quadrant_word(s, 3, i);
+    }
+    sums::word_at(view, i)
+}
+
+// Where the words of modifier k start.
+fn place(k: usize) -> usize
+    requires { ⌜ k < 128 ⌝ }
+    ensures { λ r. ⌜ r ≡ modifierAt k ⌝ }
+{
+    layout::MODIFIERS_AT + layout::MODIFIER_WORDS * k
+}
+
+// Modifier k of the machine.
+fn modifier_at(m: &[u32], k: usize) -> Modifier
+    requires { ⌜ Reaches (now m) ⌝ }
+    requires { ⌜ k < 128 ⌝ }
+    ensures { λ r. ⌜ r ≡ modifierOf (now (m .entry)) k ⌝ }
+{
+    let at = place(k);
+    Modifier::load(&m[at..])
+}
+
+// The registers of modifier k that a turn can change are written back.
+fn put_modifier_at(m: &mut [u32], k: usize, unit: Modifier)
+    requires { ⌜ Reaches (now m) ⌝ }
+    requires { ⌜ k < 128 ⌝ }
+    ensures { λ r. ⌜ now (m .exit) ≡ putModifier (now (m .entry)) k unit ⌝ }
+{
+    let at = place(k);
+    unit.store(&mut m[at..]);
+}
+
+// The turn of a modifier that reads B early, and A late or early by its function. The late view is modifier-this itself.
+fn turned(s: &[[u32; 64]; 4], early: &[u32; 64], u: Modifier) -> Turned
+    requires { ⌜ Ranged u ⌝ }
+    ensures { λ r. ⌜ r ≡ turnSeen (now (s .entry)) (now (early .entry)) (getD (now (s .entry)) 2 []) u ⌝ }
+{
+    let late = &s[2];
+    let b = look(s, early, u.mrm);
+    if modifier_turn::reads_late(u.function()) {
+        return modifier_turn::turn(u, look(s, late, u.min), b);
+    }
+    modifier_turn::turn(u, look(s, early, u.min), b)
+}
+
+// S is added into the word of modifier-this at MSUM, or replaces it; the answer is the word that this leaves.
+fn put(s: &mut [[u32; 64]; 4], w: Write) -> u32
+    requires { ⌜ w .s < 2 ^ 20 ⌝ }
+    ensures { λ r. ⌜ (r ≡ wordLeft (getD (now (s .entry)) 2 []) w) × (now (s .exit) ≡ set (now (s .entry)) 2 (written (getD (now (s .entry)) 2 []) w)) ⌝ }
+{
+    let i = (w.msum % 64) as usize;
+    if w.msum / 64 == 0 {
+        let v = words::add20(sums::quadrant_word(s, 2, i), w.s);
+        s[2][i] = v;
+        return v;
+    }
+    s[2][i] = w.s;
+    w.s
+}
+
+// The write in slot j goes into the early view, as the word that it left in modifier-this.
+fn catch_up(early: &mut [u32; 64], msums: &[u32; 4], lefts: &[u32; 4], j: usize)
+    requires { ⌜ j < 4 ⌝ }
+    ensures { λ r. ⌜ now (early .exit) ≡ caughtUp (now (early .entry)) (now (msums .entry)) (now (lefts .entry)) j ⌝ }
+{
+    let i = (msums[j] % 64) as usize;
+    early[i] = lefts[j];
+}
+
+// Modifier k is taken. Before its turn the early view catches up with the write of k-4, whose slot its own write then has.
+fn step(
+    m: &mut [u32],
+    s: &mut [[u32; 64]; 4],
+    early: &mut [u32; 64],
+    msums: &mut [u32; 4],
+    lefts: &mut [u32; 4],
+    k: usize,
+)
+    requires { ⌜ Reaches (now m) ⌝ }
+    requires { ⌜ k < 128 ⌝ }
+    ensures { λ r. ⌜ lagging (now (m .exit)) (now (s .exit)) (now (early .exit)) (now (msums .exit)) (now (lefts .exit)) ≡ lagStep (lagging (now (m .entry)) (now (s .entry)) (now (early .entry)) (now (msums .entry)) (now (lefts .entry))) k ⌝ }
+{
+    let j = k % 4;
+    catch_up(early, msums, lefts, j);
+    let u = modifier_at(m, k);
+    let t = turned(s, early, u);
+    let unit = t.unit;
+    put_modifier_at(m, k, unit);
+    let w = Write {
+        msum: u.msum,
+        s: t.s,
+    };
+    let left = put(s, w);
+    msums[j] = u.msum;
+    lefts[j] = left;
+}
+
+// Modifiers 0 to n-1 are taken, on the machine's words and on modifier-this in sum memory.
+pub fn modifiers(m: &mut [u32], s: &mut [[u32; 64]; 4], n: usize)
+    requires { ⌜ Reaches (now m) ⌝ }
+    requires { ⌜ n ≤ 128 ⌝ }
+    ensures { λ r. ⌜ (now (m .exit) ≡ wordsAfter (now (m .entry)) (now (s .entry)) n) × (now (s .exit) ≡ set (now (s .entry)) 2 (modifierThisAfter (now (m .entry)) (now (s .entry)) n)) ⌝ }
+{
+    let mut early = s[2];
+    let first = early[0];
+    let mut msums = [0u32; 4];
+    let mut lefts = [first, first, first, first];
+    let mut k: usize = 0;
+    while k < n {
+        step(m, s, &mut early, &mut msums, &mut lefts, k);
+        k += 1;
+    }
+}

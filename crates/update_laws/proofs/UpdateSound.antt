@@ -1,0 +1,38 @@
+-- An update keeps a machine sound.
+-- Assumes nothing.
+use mathlib.Core.Path.{_≡_, refl}
+use mathlib.Core.Bool.{true}
+use mathlib.Core.List.{List, [], _∷_}
+use Prim.Native.Nat.{ℕ, zero, suc}
+use borrow.Author.Tests.{eqb-true}
+use lib.Dec.{eqb, lit<}
+use lib.ListN.{set}
+use Rattle.layout.specs.Layout.{lingeringAt}
+use Rattle.machine.specs.Questions.{asked, question1, question2, regions, sound}
+use Rattle.command_control.specs.Built.{commandRefusal}
+use Rattle.command.specs.Command.{done, waits}
+use Rattle.update.specs.Update.{Outcome, mostCommands, stillLingering, takenBy, updateOf}
+use Rattle.update_laws.proofs.Choices.{of-cond, of-test}
+use Rattle.update_laws.proofs.SoundLoads.{Sound, control-put}
+use Rattle.update_laws.proofs.SoundCommands.{done-sound}
+
+-- An outcome that leaves a sound machine.
+abbrev SoundAfter : Outcome → Type 0
+SoundAfter o = sound (o .machine) ≡ true
+
+taken-sound : (k : ℕ) (m cs : List ℕ) → Sound m → SoundAfter (takenBy k m cs)
+unfolding takenBy
+taken-sound zero m cs e = e
+taken-sound (suc k) m [] e = e
+taken-sound (suc k) m (c ∷ cs) e =
+    of-test SoundAfter (eqb (commandRefusal c) 0)
+    (λ t. let next = done-sound m e c (eqb-true (commandRefusal c) 0 t) in
+    of-cond SoundAfter (waits m c) next (taken-sound k (done m c) cs next))
+    (λ q. e)
+
+pub update-sound : (m cs : List ℕ) → sound m ≡ true → sound (updateOf m cs .machine) ≡ true
+unfolding updateOf regions
+update-sound m cs e =
+    of-cond SoundAfter (eqb (asked (question1 m ∷ question2 m ∷ [])) 0)
+    (of-cond SoundAfter (stillLingering m) e (taken-sound (mostCommands m) (set m lingeringAt 0) cs (control-put m e 4 0 (lit< tt) refl)))
+    e
