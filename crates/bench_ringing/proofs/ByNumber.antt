@@ -12,12 +12,13 @@ use lib.ListN.{length, getD, set, take, length-set}
 use lib.Seq.{getD-set-same, getD-set-other, ext-getD}
 use Rattle.lists.specs.Lists.{tabulate}
 use Rattle.lists.proofs.Tables.{tabulate-at}
-use Rattle.machine.specs.Questions.{asked, question1, question2}
-use Rattle.order.specs.Order.{ticksOf}
+use Rattle.machine.specs.Questions.{question1, question2}
+use Rattle.questions.specs.Questions.{asked}
 use Rattle.pass.specs.Pass.{refused, passOf}
 use Rattle.pass.proofs.Asked.{refused-first, few-ticks}
 use Rattle.bench_ringing.specs.Ringing.{byNumber, passed}
 use Rattle.bench_ringing.specs.Loops.{fewTicks}
+use Rattle.layout.specs.Machine.{ticksOf}
 
 tabulate-length : (i n : ℕ) → length (tabulate (λ g. g) i n) ≡ n
 unfolding tabulate

@@ -12,9 +12,9 @@ use lib.Dec.{eqb, leb, lit<}
 use lib.ListN.{length, set, take, drop, length-drop, drop-of-length-le, List·getD-eq-default}
 use lib.Seq.{sets, take-all, drop-drop}
 use Rattle.layout.specs.Layout.{lingeringAt}
-use Rattle.machine.specs.Questions.{asked, question1, question2}
+use Rattle.machine.specs.Questions.{question1, question2}
 use Rattle.machine.proofs.SoundMachine.{reaches, sound-dac}
-use Rattle.order.specs.Order.{ticksOf}
+use Rattle.questions.specs.Questions.{asked}
 use Rattle.bench_text.specs.Text.{refusalLine}
 use Rattle.bench_text.proofs.Lines.{pass-line-length, refusal-line-length}
 use Rattle.pass.specs.Pass.{Outcome as PassOutcome, answered, passOf}
@@ -26,6 +26,7 @@ use Rattle.update_laws.proofs.UpdateSound.{update-sound}
 use Rattle.bench_ringing.specs.Ringing.{byNumber, passed, lineAfter, ringing, stepTo, stepOf}
 use Rattle.bench_ringing.specs.Loops.{fewTicks, Lined}
 use Rattle.bench_ringing.proofs.ByNumber.{by-number-length, first-entries, pass-by-few}
+use Rattle.layout.specs.Machine.{ticksOf}
 
 -- T as far as an order reaches.
 module _ (m : List ℕ) where

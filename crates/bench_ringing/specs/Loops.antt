@@ -5,8 +5,8 @@ use mathlib.Core.Bool.{cond}
 use mathlib.Core.List.{List}
 use lib.Dec.{leb}
 use lib.ListN.{getD}
-use Rattle.layout.specs.Layout.{dacAt, Reaches}
-use Rattle.order.specs.Order.{ticksOf}
+use Rattle.layout.specs.Layout.{dacAt}
+use Rattle.layout.specs.Machine.{Reaches, ticksOf}
 
 -- How many entries of the order by number are laid out: T of them, and none where T is more than 256, since such a machine is refused before its order is looked at.
 unfoldable pub fewTicks : List ℕ → ℕ

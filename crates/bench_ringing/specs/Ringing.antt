@@ -7,7 +7,7 @@ use lib.Dec.{eqb}
 use lib.ListN.{getD, take}
 use Rattle.lists.specs.Lists.{tabulate}
 use Rattle.layout.specs.Layout.{counterAt, dacAt}
-use Rattle.order.specs.Order.{ticksOf}
+use Rattle.layout.specs.Machine.{ticksOf}
 use Rattle.pass.specs.Pass.{Outcome, passOf}
 use Rattle.update.specs.Update.{updateOf}
 use Rattle.bench_text.specs.Text.{passLine, refusalLine}

@@ -1,6 +1,6 @@
 // One command in its turn: its questions, and what it does.
 ghost use mathlib.Core.Path.{_≡_};
-ghost use Rattle.layout.specs.Layout.{Reaches};
+ghost use Rattle.layout.specs.Machine.{Reaches};
 ghost use Rattle.command_control.specs.Built.{commandRefusal};
 ghost use Rattle.command.specs.Command.{done, waits, afterCommand, takenWaiting};
 

@@ -12,7 +12,8 @@ use borrow.Author.Tests.{eq-eqb, ne-eqb, le-leb, lt-leb}
 use Rattle.words.proofs.Residues.{minus-code}
 use Rattle.layout.specs.Layout.{counterAt, lingeringAt, lingerPassAt, overrunAt}
 use Rattle.command_load.specs.Fields.{field, dataOf}
-use Rattle.command_control.specs.Control.{lingerBits, behind, waitsFor, lingered, counterSet, timed, timerWaits}
+use Rattle.command_control.specs.Control.{behind, waitsFor, lingered, counterSet, timed, timerWaits}
+use Rattle.layout.specs.Widths.{lingerBits}
 
 -- The difference's code: a wrapping subtraction at 32 bits, r, and a remainder.
 pub behind-code : (m : List ℕ) (n r : ℕ) → (r + n) % 2 ^ 32 ≡ getD m counterAt 0 → r % 2 ^ 20 ≡ behind m n

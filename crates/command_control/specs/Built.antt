@@ -4,9 +4,10 @@ use Prim.Native.Nat.{ℕ, _/_}
 use mathlib.Core.Bool.{Bool, true, false, cond, not, _&&_, _||_}
 use mathlib.Core.List.{[], _∷_}
 use lib.Dec.{eqb, leb, ltb}
-use Rattle.machine.specs.Questions.{Question, asked, goodGmode, goodMmode, goodAddress}
+use Rattle.machine.specs.Questions.{goodGmode, goodMmode, goodAddress}
 use Rattle.command_load.specs.Fields.{field, flag, codeOf}
 use Rattle.command_control.specs.Control.{ticksData}
+use Rattle.questions.specs.Questions.{Question, asked}
 
 -- MISC with RR 10 or 11 or with S is not built.
 abbrev pub builtMisc : ℕ → Bool

@@ -7,10 +7,11 @@ use lib.Dec.{eqb, leb}
 use lib.IntN.{pos, _-ℤ_}
 use lib.ListN.{getD, set}
 use Rattle.words.specs.Words.{lowBits}
+use Rattle.layout.specs.Widths.{lingerBits}
 use Rattle.layout.specs.Layout.{generatorAt, dxAt, tAt, nAt, counterAt, lingeringAt, lingerPassAt, overrunAt}
 use Rattle.modes.specs.Modes.{pause, wait, runningA}
 use Rattle.generator.specs.Generator.{withRunMode}
-use Rattle.order.specs.Order.{runModeAt}
+use Rattle.layout.specs.Machine.{runModeAt}
 use Rattle.command_load.specs.Fields.{field, flag, dataOf}
 
 -- Generator g goes to 1111 if it is in run mode r, its other mode bits kept.
@@ -37,10 +38,6 @@ miscellany m c =
 -- The pass counter is set.
 unfoldable pub counterSet : List ℕ → ℕ → List ℕ
 counterSet m n = set m counterAt n
-
--- A Linger names a pass by 20 bits.
-abbrev pub lingerBits : ℕ
-lingerBits = 20
 
 -- How many passes the number n is behind the counter, modulo 2^20.
 unfoldable pub behind : List ℕ → ℕ → ℕ

@@ -4,10 +4,11 @@ ghost use mathlib.Core.Bool.{cond};
 ghost use Prim.Native.Nat.{_<_};
 ghost use lib.Dec.{eqb};
 ghost use lib.ListN.{set};
-ghost use Rattle.layout.specs.Layout.{Reaches, dxAt};
+ghost use Rattle.layout.specs.Layout.{dxAt};
 ghost use Rattle.command_load.specs.Fields.{field, dataOf};
 ghost use Rattle.command_control.specs.Control.{releasedOne, released, miscellany, waitsFor, lingered, timed, timerWaits, ticksSet};
 ghost use Rattle.command_control.specs.Built.{builtMisc, builtTicks, builtGMODE, builtMMODE, builtMRM, built, fits, commandRefusal};
+ghost use Rattle.layout.specs.Machine.{Reaches};
 
 // The run modes pause, 0001, wait, 1001, and running, 1111.
 const PAUSE: u32 = 1;

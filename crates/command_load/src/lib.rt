@@ -3,9 +3,10 @@ ghost use mathlib.Core.Path.{_≡_};
 ghost use mathlib.Core.Bool.{cond};
 ghost use Prim.Native.Nat.{_+_, _<_};
 ghost use lib.ListN.{length, set};
-ghost use Rattle.layout.specs.Layout.{Reaches, dxAt};
+ghost use Rattle.layout.specs.Layout.{dxAt};
 ghost use Rattle.command_load.specs.Fields.{flag};
 ghost use Rattle.command_load.specs.Loads.{generatorWord, modifierWord, loadedUnless, clearedIf, loadedGQ, loadedGJ, loadedGP, loadedGN, loadedGL, loadedGK, loadedGMODE, loadedGO, loadedMM, loadedML, mmodeBy, loadedMMODE, loadedMRM, loaded};
+ghost use Rattle.layout.specs.Machine.{Reaches};
 
 // The place of word j of the generator that a command addresses.
 fn generator_word(c: u32, j: usize) -> usize

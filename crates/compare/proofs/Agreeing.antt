@@ -7,7 +7,7 @@ use mathlib.Core.List.{List}
 use Prim.Native.Nat.{ℕ}
 use lib.Dec.{eqb}
 use borrow.Author.Tests.{ne-eqb}
-use Rattle.order.specs.Order.{ticksOf}
+use Rattle.layout.specs.Machine.{ticksOf}
 use Rattle.order_agreement.specs.Agreement.{settingsOf}
 use Rattle.order_agreement.specs.Points.{neighbourPoint, feederPoint, writerPoint, wordPoint, agrees, compareRefusal, compareOf}
 use Rattle.order_traces.specs.Traces.{Written}

@@ -5,14 +5,17 @@ use mathlib.Core.Logic.{_≢_}
 use mathlib.Core.List.{List, [], _∷_}
 use Prim.Native.Nat.{ℕ}
 use native.Mathlib.Omega.{arith}
-use Rattle.machine.specs.Questions.{asked, question1, question2}
+use Rattle.machine.specs.Questions.{question1, question2}
 use Rattle.machine.proofs.SoundMachine.{reaches, sound-generator, sound-controls}
-use Rattle.order.specs.Order.{ticksOf, question5, question6, IsOrder}
+use Rattle.order.specs.Order.{question5, question6, IsOrder}
 use Rattle.order.proofs.Entries.{order-passes}
 use Rattle.order_agreement.specs.Points.{compareRefusal}
 use Rattle.order_traces.specs.Traces.{Ready}
-use Rattle.machine.proofs.Asked.{asked-first, asked-later, machine-passes}
+use Rattle.machine.proofs.Asked.{machine-passes}
 use Rattle.order_agreement.proofs.Compared.{compare-passes}
+use Rattle.questions.specs.Questions.{asked}
+use Rattle.layout.specs.Machine.{ticksOf}
+use Rattle.questions.proofs.Asked.{asked-first, asked-later}
 
 -- A machine that passes questions 1 and 2.
 pub is-ready : (m : List ℕ) → asked (question1 m ∷ question2 m ∷ []) ≡ 0 → Ready m

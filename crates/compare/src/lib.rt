@@ -1,10 +1,11 @@
 // Whether two orders of the generators are equal.
 ghost use mathlib.Core.Path.{_≡_};
-ghost use Rattle.order.specs.Order.{ticksOf, IsOrder};
+ghost use Rattle.order.specs.Order.{IsOrder};
 ghost use Rattle.order_agreement.specs.Agreement.{settingsOf};
 ghost use Rattle.order_agreement.specs.Points.{agrees, compareRefusal, compareOf};
 ghost use Rattle.order_traces.specs.Traces.{Ready};
 ghost use Rattle.compare.specs.Compare.{compared};
+ghost use Rattle.layout.specs.Machine.{ticksOf};
 
 // What a compare answers: the number of the refusing question or 0, and whether the orders are equal.
 pub struct Compared {
@@ -20,7 +21,7 @@ fn refusal(m: &[u32], first: &[u32], second: &[u32]) -> u32
     if number != 0 {
         return number;
     }
-    let t = order_traces::ticks(m);
+    let t = layout::ticks(m);
     let number = order::order_refusal(first, t);
     if number != 0 {
         return number;
@@ -76,7 +77,7 @@ fn agrees(m: &[u32], first: &[u32], second: &[u32]) -> bool
         &place1,
         &place2,
     );
-    let t = order_traces::ticks(m);
+    let t = layout::ticks(m);
     (neighbour == t) & (feeder == layout::DACS) & (writer == n) & (word == layout::QUADRANT_WORDS)
 }
 

@@ -13,11 +13,11 @@ use lib.ListN.{length, getD, drop}
 use lib.Seq.{getD-set-other, take-at}
 use Rattle.lists.specs.Lists.{count}
 use Rattle.lists.proofs.Below.{and-second, below-from}
-use Rattle.layout.specs.Layout.{machineLength, generatorAt, dacAt, quadrantAt, counterAt, Reaches}
+use Rattle.layout.specs.Layout.{machineLength, generatorAt, dacAt, quadrantAt, counterAt, GMODE}
 use Rattle.modes.specs.Modes.{readData, writeData}
-use Rattle.machine.specs.Questions.{sound, asked}
+use Rattle.machine.specs.Questions.{sound}
 use Rattle.machine.proofs.SoundMachine.{reaches, sound-sum, sound-controls}
-use Rattle.order.specs.Order.{ticksOf, inMode, eachOnce, IsOrder}
+use Rattle.order.specs.Order.{inMode, eachOnce, IsOrder}
 use Rattle.sums.specs.Sums.{generatorThis, generatorLast, wordAt, sumAt, sumsOf, closed}
 use Rattle.sums.proofs.Blocks.{outside-before, outside-after}
 use Rattle.sums.proofs.Memory.{Quadrants, quadrant-word, sums-quadrant, sums-quadrants}
@@ -40,6 +40,8 @@ use Rattle.equal_endings.proofs.Taking.{Taking}
 use Rattle.equal_endings.proofs.Stage.{dac-left, places-left, writes-left, word-left}
 use Rattle.equal_endings.proofs.Told.{own-turned}
 use Rattle.layout.proofs.Reach.{same-reach}
+use Rattle.layout.specs.Machine.{Reaches, ticksOf}
+use Rattle.questions.specs.Questions.{asked}
 
 -- What holds where a test passes and where it fails holds of a choice by it.
 by-test : (b : Bool) {v x y : ℕ} → (b ≡ true → v ≡ x) → (b ≡ false → v ≡ y) → v ≡ cond b x y
@@ -170,8 +172,8 @@ module _ (m order items places : List ℕ) (whole : length m ≡ machineLength) 
           record {
             gmode = λ g h.
                 let low : g < 256 = omega (arith, sound-controls m e .tHigh) in
-                completed-word (t .words) (t .sums) n k (generatorAt g + 10) (record { not-at = λ a j b c z. omega arith })
-                (outside-before (generatorAt g + 10) 3840 256 (omega arith)) (λ z. omega arith)
+                completed-word (t .words) (t .sums) n k (generatorAt g + GMODE) (record { not-at = λ a j b c z. omega arith })
+                (outside-before (generatorAt g + GMODE) 3840 256 (omega arith)) (λ z. omega arith)
                 ∙ ends .own g h .gmode;
             dac = λ d h.
                 completed-word (t .words) (t .sums) n k (dacAt d) (record { not-at = λ a j b c z. omega (arith, few) })

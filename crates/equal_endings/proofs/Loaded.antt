@@ -7,27 +7,27 @@ use Prim.Native.Nat.{ℕ, _+_, _%_, _^_, _<_}
 use native.Mathlib.Nat.{mod-eq-of-lt, add-zero}
 use lib.ListN.{getD, drop}
 use lib.Seq.{getD-drop}
-use Rattle.layout.specs.Layout.{generatorAt}
+use Rattle.layout.specs.Layout.{generatorAt, GJ, GK, GQ}
 use Rattle.machine.specs.Questions.{sound}
 use Rattle.machine.proofs.SoundMachine.{sound-generator}
 use Rattle.generator.specs.Generator.{loaded}
 use Rattle.pass_generators.specs.GeneratorStage.{generatorOf}
-use Rattle.order_agreement.specs.Agreement.{gsumAt, gfmAt, dacNumberAt}
+use Rattle.layout.specs.Machine.{gsumAt, gfmAt, dacNumberAt}
 
 -- A word within its width, read at that width.
 at-width : (m : List ℕ) (n j w : ℕ) → getD m (n + j) 0 < 2 ^ w → getD (drop n m) j 0 % 2 ^ w ≡ getD m (n + j) 0
 at-width m n j w h = rw (getD-drop n m j 0) (mod-eq-of-lt h)
 
 module _ (m : List ℕ) (e : sound m ≡ true) (g : ℕ) (h : g < 256) where
-  pub gj-loaded : generatorOf m g .gj ≡ getD m (generatorAt g + 1) 0
+  pub gj-loaded : generatorOf m g .gj ≡ getD m (generatorAt g + GJ) 0
   unfolding generatorOf loaded
   gj-loaded = at-width m (generatorAt g) 1 28 (sound-generator m e g h .gj)
 
-  pub gk-loaded : generatorOf m g .gk ≡ getD m (generatorAt g + 2) 0
+  pub gk-loaded : generatorOf m g .gk ≡ getD m (generatorAt g + GK) 0
   unfolding generatorOf loaded
   gk-loaded = at-width m (generatorAt g) 2 20 (sound-generator m e g h .gk)
 
-  pub gq-loaded : generatorOf m g .gq ≡ getD m (generatorAt g + 6) 0
+  pub gq-loaded : generatorOf m g .gq ≡ getD m (generatorAt g + GQ) 0
   unfolding generatorOf loaded
   gq-loaded = at-width m (generatorAt g) 6 24 (sound-generator m e g h .gq)
 

@@ -10,7 +10,7 @@ use lib.ListN.{length, getD, length-replicate, getD-replicate}
 use Rattle.lists.specs.Lists.{count}
 use Rattle.layout.specs.Layout.{machineLength}
 use Rattle.machine.specs.Questions.{sound}
-use Rattle.order.specs.Order.{ticksOf, IsOrder}
+use Rattle.order.specs.Order.{IsOrder}
 use Rattle.machine.proofs.SoundMachine.{sound-controls}
 use Rattle.generator.specs.declared.Generator.{Generator}
 use Rattle.generator.specs.Generator.{triggers, after}
@@ -24,6 +24,7 @@ use Rattle.order_lists.proofs.Entries.{count-append}
 use Rattle.order_lists.proofs.Places.{before-cut, not-before-cut}
 use Rattle.equal_endings.specs.Ends.{fOf, triggersAt, toldIn, Turned}
 use Rattle.equal_endings.proofs.Loaded.{gj-loaded, gk-loaded, gq-loaded}
+use Rattle.layout.specs.Machine.{ticksOf}
 
 -- As a pass begins nothing has triggered.
 begun-triggered : (m places : List ℕ) (k : ℕ) → k < 256 → getD (begun m places .triggered) k 0 ≡ 0

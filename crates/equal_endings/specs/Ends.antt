@@ -5,12 +5,12 @@ use mathlib.Core.Bool.{Bool, false, cond, _&&_}
 use mathlib.Core.List.{List, [], _∷_, _++_, map}
 use mathlib.Core.Path.{_≡_}
 use lib.ListN.{length, getD, drop, take}
-use Rattle.layout.specs.Layout.{generatorAt, dacAt, quadrantAt}
+use Rattle.layout.specs.Layout.{generatorAt, dacAt, quadrantAt, GJ, GK, GQ, GMODE}
 use Rattle.sums.specs.Sums.{generatorThis, generatorLast, fAt, sumAt, sumsOf}
 use Rattle.generator.specs.declared.Generator.{Generator}
 use Rattle.generator.specs.Generator.{pOf, triggers, after, gmodeAfter}
 use Rattle.pass_generators.specs.GeneratorStage.{State, generatorOf}
-use Rattle.order.specs.Order.{ticksOf}
+use Rattle.layout.specs.Machine.{ticksOf}
 use Rattle.pass.specs.Pass.{Outcome}
 use Rattle.order_lists.specs.Sequences.{keep, some, lastOf, before, latest}
 use Rattle.order_agreement.specs.Agreement.{settingsOf, replacesWord, addsToWord, lastReplacing, placeReplacing, afterReplacing}
@@ -47,10 +47,10 @@ wordAfter m items order w =
 
 -- The registers of generator g that a turn can change, in a machine's words, are those of u.
 pub record Turned (words : List ℕ) (g : ℕ) (u : Generator) : Type 0 where
-  pub gj : getD words (generatorAt g + 1) 0 ≡ u .gj
-  pub gk : getD words (generatorAt g + 2) 0 ≡ u .gk
-  pub gq : getD words (generatorAt g + 6) 0 ≡ u .gq
-  pub gmode : getD words (generatorAt g + 10) 0 ≡ u .gmode
+  pub gj : getD words (generatorAt g + GJ) 0 ≡ u .gj
+  pub gk : getD words (generatorAt g + GK) 0 ≡ u .gk
+  pub gq : getD words (generatorAt g + GQ) 0 ≡ u .gq
+  pub gmode : getD words (generatorAt g + GMODE) 0 ≡ u .gmode
 
 -- What the generators' stage of a pass leaves where it changes something.
 pub record StageEnds (m order items places : List ℕ) (s : State) : Type 0 where
@@ -62,7 +62,7 @@ pub record StageEnds (m order items places : List ℕ) (s : State) : Type 0 wher
 
 -- What a pass leaves, as far as two orders can be told apart by it.
 pub record PassEnds (m order items : List ℕ) (r : Outcome) : Type 0 where
-  pub gmode : (g : ℕ) → g < ticksOf m → getD (r .machine) (generatorAt g + 10) 0 ≡ gmodeAfter (generatorOf m g) (toldIn m order g)
+  pub gmode : (g : ℕ) → g < ticksOf m → getD (r .machine) (generatorAt g + GMODE) 0 ≡ gmodeAfter (generatorOf m g) (toldIn m order g)
   pub dac : (d : ℕ) → d < 16 → getD (r .machine) (dacAt d) 0 ≡ latest (settingsOf m .feeds d) (fOf m) order (getD m (dacAt d) 0)
   pub word : (w : ℕ) → w < 64 → getD (r .machine) (quadrantAt generatorLast + w) 0 ≡ wordAfter m items order w
   pub written : take (r .written) (r .places) ≡ map (fOf m) (keep (settingsOf m .writes) order)

@@ -13,7 +13,7 @@ use lib.Seq.{ext-getD, getD-drop}
 use Rattle.layout.specs.Layout.{generatorAt, dacAt}
 use Rattle.modes.specs.Modes.{wait, free}
 use Rattle.machine.proofs.SoundMachine.{reaches, sound-controls}
-use Rattle.order.specs.Order.{ticksOf, runModeAt, IsOrder}
+use Rattle.order.specs.Order.{IsOrder}
 use Rattle.sums.specs.Sums.{fAt, sumAt, sumsOf}
 use Rattle.sums.proofs.Memory.{Quadrants, sums-quadrants}
 use Rattle.generator.specs.declared.Generator.{Generator}
@@ -26,10 +26,11 @@ use Rattle.order_lists.specs.Sequences.{keep, some, lastOf, before, latest}
 use Rattle.order_lists.proofs.Entries.{last-passes}
 use Rattle.order_lists.proofs.Orders.{last-below, some-orders}
 use Rattle.order_lists.proofs.Mapped.{map-same}
-use Rattle.order_agreement.specs.Agreement.{gfmAt, settingsOf, replacesWord, addsToWord, lastReplacing, placeReplacing, afterReplacing, SameWord, Agree}
+use Rattle.order_agreement.specs.Agreement.{settingsOf, replacesWord, addsToWord, lastReplacing, placeReplacing, afterReplacing, SameWord, Agree}
 use Rattle.equal_endings.specs.Ends.{fOf, outputAt, triggersAt, toldIn, total, wordAfter, Turned, StageEnds}
 use Rattle.equal_endings.proofs.Totals.{total-orders}
 use Rattle.equal_orders.specs.Equal.{Good}
+use Rattle.layout.specs.Machine.{ticksOf, runModeAt, gfmAt}
 
 -- F is a word that GFM alone names.
 pub f-by-gfm : (m : List ℕ) (g : ℕ) → fOf m g ≡ fAt (sumsOf m) (gfmAt m g % 2 ^ 7)

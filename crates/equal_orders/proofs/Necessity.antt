@@ -8,12 +8,12 @@ use native.Mathlib.Omega.{arith}
 use borrow.Author.Tests.{eqb-true, eq-eqb}
 use lib.Dec.{eqb}
 use lib.ListN.{length, getD}
-use Rattle.layout.specs.Layout.{generatorAt, quadrantAt, dacAt}
+use Rattle.layout.specs.Layout.{generatorAt, quadrantAt, dacAt, GMODE}
 use Rattle.modes.specs.Modes.{readData, writeData, wait, runningC}
-use Rattle.machine.specs.Questions.{zeros, sound}
-use Rattle.machine.proofs.FreshMachine.{zeros-length, zeros-at}
+use Rattle.machine.specs.Questions.{sound}
+use Rattle.lists.specs.Lists.{zeros}
 use Rattle.machine.proofs.SoundMachine.{sound-controls}
-use Rattle.order.specs.Order.{ticksOf, runModeAt, inMode, IsOrder}
+use Rattle.order.specs.Order.{inMode, IsOrder}
 use Rattle.sums.specs.Sums.{generatorLast}
 use Rattle.generator.specs.declared.Generator.{Generator}
 use Rattle.generator.specs.Generator.{runMode, withRunMode, gmodeAfter}
@@ -21,7 +21,7 @@ use Rattle.pass_generators.specs.GeneratorStage.{generatorOf}
 use Rattle.pass.specs.Pass.{passOf}
 use Rattle.pass_laws.proofs.PassCounts.{run-mode-loaded}
 use Rattle.order_lists.specs.Sequences.{keep, lastOf, before, latest}
-use Rattle.order_agreement.specs.Agreement.{settingsOf, gfmAt, replacesWord, addsToWord, lastReplacing, placeReplacing, afterReplacing, SameWord, Agree}
+use Rattle.order_agreement.specs.Agreement.{settingsOf, replacesWord, addsToWord, lastReplacing, placeReplacing, afterReplacing, SameWord, Agree}
 use Rattle.equal_endings.specs.Ends.{fOf, outputAt, toldIn, wordAfter, PassEnds}
 use Rattle.equal_endings.proofs.Ends.{pass-ends}
 use Rattle.equal_witnesses.specs.Witnesses.{triggersWitness, sourcesWitness, soundingWitness, silentWitness, silentItems, countingItems}
@@ -32,6 +32,8 @@ use Rattle.equal_witnesses.proofs.Sounding.{sounding-alike, silent-alike}
 use Rattle.equal_witnesses.proofs.Items.{silent-length, silent-low, counting-length, counting-low, few-in-mode}
 use Rattle.equal_witnesses.proofs.Readings.{told-is, fed-is, written-is, place-is, last-is, adder-is, last-low, last-replaces, heard}
 use Rattle.equal_orders.specs.Equal.{Good, Words, SameSettings, SameEnd, Equal}
+use Rattle.lists.proofs.Zeros.{zeros-length, zeros-at}
+use Rattle.layout.specs.Machine.{ticksOf, runModeAt, gfmAt}
 
 -- A machine alike is one that equality speaks of.
 alike-good : (m n : List ℕ) → Alike m n → Good n
@@ -98,7 +100,7 @@ module _ (m : List ℕ) (good : Good m) (o₁ o₂ : List ℕ) (is₁ : IsOrder 
 
     modes-same : (g : ℕ) → g < ticksOf m → gmodeAfter (generatorOf n g) (toldIn n o₁ g) ≡ gmodeAfter (generatorOf n g) (toldIn n o₂ g)
     modes-same g h =
-        sym (ends o₁ is₁ .gmode g (omega (arith, a .ticks))) ∙ ap (λ (x : List ℕ). getD x (generatorAt g + 10) 0) (same .machine)
+        sym (ends o₁ is₁ .gmode g (omega (arith, a .ticks))) ∙ ap (λ (x : List ℕ). getD x (generatorAt g + GMODE) 0) (same .machine)
         ∙ ends o₂ is₂ .gmode g (omega (arith, a .ticks))
 
     dacs-same : (d : ℕ) → d < 16

@@ -6,7 +6,7 @@ use Prim.Native.Nat.{ℕ, _/_, _≤_}
 use lib.ListN.{length, take}
 use Rattle.modes.specs.Modes.{readData, writeData}
 use Rattle.machine.proofs.SoundMachine.{sound-controls}
-use Rattle.order.specs.Order.{ticksOf, inMode, IsOrder}
+use Rattle.order.specs.Order.{inMode, IsOrder}
 use Rattle.pass_generators.specs.GeneratorStage.{steps, begun}
 use Rattle.pass.specs.Pass.{completed, ran, passOf}
 use Rattle.order_agreement.specs.Agreement.{Agree}
@@ -14,6 +14,7 @@ use Rattle.equal_endings.proofs.Ends.{stage-ends, pass-runs}
 use Rattle.equal_orders.specs.Equal.{Good, SameEnd, Equal}
 use Rattle.equal_orders.proofs.Transfer.{agree-to}
 use Rattle.equal_orders.proofs.Leaves.{same-words, same-sums, same-writes, same-places}
+use Rattle.layout.specs.Machine.{ticksOf}
 
 -- A pass is what its generators leave, so that passes whose generators leave the same end the same.
 same-end : (m items places o₁ o₂ : List ℕ)

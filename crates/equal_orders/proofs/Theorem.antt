@@ -5,8 +5,8 @@ use mathlib.Core.Logic.{_↔_, _≢_}
 use mathlib.Core.Bool.{true, false}
 use mathlib.Core.List.{List, [], _∷_}
 use Prim.Native.Nat.{ℕ}
-use Rattle.machine.specs.Questions.{asked}
-use Rattle.order.specs.Order.{ticksOf, question5, question6}
+use Rattle.questions.specs.Questions.{asked}
+use Rattle.order.specs.Order.{question5, question6}
 use Rattle.order.proofs.Entries.{order-passes}
 use Rattle.pass.proofs.Asked.{is-whole, is-sound}
 use Rattle.order_agreement.specs.Agreement.{settingsOf, Agree}
@@ -16,6 +16,7 @@ use Rattle.order_agreement.proofs.Compared.{ComparePassed, compare-passes, comp
 use Rattle.equal_orders.specs.Equal.{Good, Equal}
 use Rattle.equal_orders.proofs.Necessity.{needed}
 use Rattle.equal_orders.proofs.Sufficiency.{enough}
+use Rattle.layout.specs.Machine.{ticksOf}
 
 -- For orders that pass questions 5 and 6, on a machine that passes 1 and 2.
 pub demand-3 : (m : List ℕ) → Good m → (o₁ o₂ : List ℕ)

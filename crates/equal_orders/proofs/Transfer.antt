@@ -8,10 +8,11 @@ use native.Mathlib.Omega.{arith}
 use borrow.Author.Tests.{eqb-true}
 use lib.Dec.{eqb}
 use Rattle.modes.specs.Modes.{wait, writeData, writeDAC, free, adds, replaces}
-use Rattle.order.specs.Order.{ticksOf, runModeAt, IsOrder}
-use Rattle.order_agreement.specs.Agreement.{dacNumberAt, settingsOf, Agree}
+use Rattle.order.specs.Order.{IsOrder}
+use Rattle.order_agreement.specs.Agreement.{settingsOf, Agree}
 use Rattle.order_agreement.proofs.Alike.{Alike, agreeing-alike}
 use Rattle.equal_orders.specs.Equal.{SameSettings}
+use Rattle.layout.specs.Machine.{ticksOf, runModeAt, dacNumberAt}
 
 module _ (m n : List ℕ) (s : SameSettings m n) where
   pub run-same : (g : ℕ) → g < 256 → runModeAt m g ≡ runModeAt n g

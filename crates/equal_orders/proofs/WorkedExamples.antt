@@ -10,7 +10,7 @@ use borrow.Author.Tests.{eqb-true, eqb-false, eq-eqb, lt-ltb}
 use lib.Dec.{eqb, lit<}
 use lib.IntN.{pos, negℤ}
 use lib.ListN.{set, length-set}
-use Rattle.lists.specs.Lists.{isOneOf, count}
+use Rattle.lists.specs.Lists.{isOneOf, count, zeros}
 use Rattle.lists.proofs.Below.{and-first, and-second}
 use Rattle.words.specs.Words.{lowBits, signed, exactSum, outside}
 use Rattle.sine.specs.Sine.{angle, firstThree, polynomial, entry}
@@ -21,19 +21,21 @@ use Rattle.product.specs.Product.{scaled, product}
 use Rattle.layout.specs.Layout.{tAt}
 use Rattle.modes.specs.Modes.{runningA, runningB, wait, readData, writeDAC, free, adds, replaces, builtRun, builtOscillator}
 use Rattle.modes.proofs.RunModes.{replaces-alone}
-use Rattle.machine.specs.Questions.{regions, testAt, asked, goodGmode, zeros, freshMachine}
+use Rattle.machine.specs.Questions.{regions, testAt, goodGmode, freshMachine}
 use Rattle.machine.proofs.SoundMachine.{sound-set, sound-generator}
 use Rattle.machine.proofs.FreshMachine.{fresh-length, fresh-sound}
-use Rattle.order.specs.Order.{ticksOf, runModeAt, eachOnce, question5, question6, IsOrder}
+use Rattle.order.specs.Order.{eachOnce, question5, question6, IsOrder}
 use Rattle.order.proofs.Entries.{order-passes}
 use Rattle.order_lists.specs.Sequences.{keep, some, lastOf, placeOf, before}
 use Rattle.order_lists.proofs.Orders.{some-from, last-below}
-use Rattle.order_agreement.specs.Agreement.{gsumAt, gfmAt, dacNumberAt, settingsOf, replacesWord, addsToWord, lastReplacing, afterReplacing, SameWord, Agree}
+use Rattle.order_agreement.specs.Agreement.{settingsOf, replacesWord, addsToWord, lastReplacing, afterReplacing, SameWord, Agree}
 use Rattle.equal_orders.specs.Equal.{Good, Equal}
 use Rattle.equal_orders.specs.WorkedExamples.{word, AtTop, forth, back, TwoTicks, BothFeed, ofTwo, WorkedExamples}
 use Rattle.equal_orders.proofs.Theorem.{demand-3}
 use Rattle.generator.specs.declared.Generator.{Generator}
 use Rattle.generator.specs.Generator.{runMode, gqAfter, triggers}
+use Rattle.questions.specs.Questions.{asked}
+use Rattle.layout.specs.Machine.{ticksOf, runModeAt, gsumAt, gfmAt, dacNumberAt}
 
 -- Examples 1 to 9.
 sine-entries : (entry 0 ≡ 1) × (entry 1 ≡ 4) × (entry 1023 ≡ 2895) × (entry 2047 ≡ 4095)

@@ -5,12 +5,12 @@ use mathlib.Core.Bool.{true}
 use mathlib.Core.List.{List}
 use mathlib.Core.Path.{_≡_}
 use lib.ListN.{length, getD, take}
-use Rattle.layout.specs.Layout.{machineLength, generatorAt}
+use Rattle.layout.specs.Layout.{machineLength}
 use Rattle.modes.specs.Modes.{readData, writeData, writeDAC}
 use Rattle.machine.specs.Questions.{sound}
-use Rattle.order.specs.Order.{ticksOf, runModeAt, inMode}
+use Rattle.order.specs.Order.{inMode}
 use Rattle.pass.specs.Pass.{Outcome, passOf}
-use Rattle.order_agreement.specs.Agreement.{gsumAt, gfmAt, dacNumberAt}
+use Rattle.layout.specs.Machine.{ticksOf, runModeAt, gmodeAt, gsumAt, gfmAt, dacNumberAt}
 
 -- A machine that passes questions 1 and 2.
 pub record Good (m : List ℕ) : Type 0 where
@@ -20,10 +20,6 @@ pub record Good (m : List ℕ) : Type 0 where
 -- A run of 32-bit words.
 abbrev pub Words : List ℕ → Type 0
 Words xs = (i : ℕ) → i < length xs → getD xs i 0 < 2 ^ 32
-
--- GMODE of generator g of a machine.
-abbrev pub gmodeAt : List ℕ → ℕ → ℕ
-gmodeAt m g = getD m (generatorAt g + 10) 0
 
 -- Two machines have the same settings: T, every GMODE, GSUM and GFM, and the DAC number of each 0010.
 pub record SameSettings (m n : List ℕ) : Type 0 where

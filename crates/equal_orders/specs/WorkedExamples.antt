@@ -15,10 +15,9 @@ use Rattle.product.specs.Product.{product}
 use Rattle.layout.specs.Layout.{tAt}
 use Rattle.modes.specs.Modes.{runningA, runningB, wait, readData, writeDAC, envelopeOn, free}
 use Rattle.machine.specs.Questions.{freshMachine}
-use Rattle.order.specs.Order.{ticksOf, runModeAt}
+use Rattle.layout.specs.Machine.{ticksOf, runModeAt, gsumAt, gfmAt, dacNumberAt}
 use Rattle.generator.specs.declared.Generator.{Generator}
 use Rattle.generator.specs.Generator.{runMode, gqAfter, triggers}
-use Rattle.order_agreement.specs.Agreement.{gsumAt, gfmAt, dacNumberAt}
 use Rattle.equal_orders.specs.Equal.{Good, Equal}
 
 -- The word of 20 bits that stands for an integer.

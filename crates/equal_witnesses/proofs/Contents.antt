@@ -11,7 +11,7 @@ use lib.Dec.{eqb, ltb, lit<, lit≤}
 use lib.ListN.{length, getD}
 use Rattle.lists.specs.Lists.{tabulate}
 use Rattle.lists.proofs.Tables.{tabulate-at}
-use Rattle.layout.specs.Layout.{machineLength, generatorAt, quadrantAt, tAt}
+use Rattle.layout.specs.Layout.{machineLength, generatorAt, quadrantAt, tAt, GSUM, GFM, GMODE}
 use Rattle.machine.specs.Questions.{regions, testAt, sound}
 use Rattle.machine.proofs.Regions.{region, start, unit-test}
 use Rattle.machine.proofs.SoundMachine.{sound-at, sound-from}
@@ -131,9 +131,9 @@ pub record Alike (m n : List ℕ) : Type 0 where
   pub is-sound : sound n ≡ true
   pub ticks : getD n tAt 0 ≡ getD m tAt 0
   pub go : (g : ℕ) → g < 256 → getD n (generatorAt g) 0 ≡ getD m (generatorAt g) 0
-  pub gsum : (g : ℕ) → g < 256 → getD n (generatorAt g + 8) 0 ≡ getD m (generatorAt g + 8) 0
-  pub gfm : (g : ℕ) → g < 256 → getD n (generatorAt g + 9) 0 ≡ getD m (generatorAt g + 9) 0
-  pub gmode : (g : ℕ) → g < 256 → getD n (generatorAt g + 10) 0 ≡ getD m (generatorAt g + 10) 0
+  pub gsum : (g : ℕ) → g < 256 → getD n (generatorAt g + GSUM) 0 ≡ getD m (generatorAt g + GSUM) 0
+  pub gfm : (g : ℕ) → g < 256 → getD n (generatorAt g + GFM) 0 ≡ getD m (generatorAt g + GFM) 0
+  pub gmode : (g : ℕ) → g < 256 → getD n (generatorAt g + GMODE) 0 ≡ getD m (generatorAt g + GMODE) 0
 
 pub changed-alike : (register word : ℕ → ℕ → ℕ → ℕ) (m : List ℕ) → Fitting register word → Keeping register → sound m ≡ true
     → Alike m (withWords (byPlace register word) m)

@@ -12,11 +12,12 @@ use Rattle.lists.proofs.Counts.{count-below-le}
 use Rattle.lists.proofs.Tables.{tabulate-at}
 use Rattle.modes.specs.Modes.{readData}
 use Rattle.machine.specs.Questions.{sound}
-use Rattle.machine.proofs.FreshMachine.{zeros-length, zeros-at}
+use Rattle.lists.proofs.Zeros.{zeros-length, zeros-at}
 use Rattle.machine.proofs.SoundMachine.{sound-controls}
-use Rattle.order.specs.Order.{ticksOf, runModeAt, inMode, question7}
+use Rattle.order.specs.Order.{inMode, question7}
 use Rattle.equal_witnesses.specs.Witnesses.{silentItems, countingItems}
 use Rattle.equal_witnesses.proofs.Contents.{tabulate-length}
+use Rattle.layout.specs.Machine.{ticksOf, runModeAt}
 
 pub silent-length : length silentItems ≡ 256
 unfolding silentItems

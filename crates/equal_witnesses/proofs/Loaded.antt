@@ -9,27 +9,27 @@ use native.Mathlib.Nat.{mod-eq-of-lt}
 use lib.Dec.{eqb, lit<}
 use lib.ListN.{getD}
 use lib.Seq.{getD-drop}
-use Rattle.layout.specs.Layout.{generatorAt, quadrantAt}
+use Rattle.layout.specs.Layout.{generatorAt, quadrantAt, GM, GP, GL}
 use Rattle.machine.specs.Questions.{sound}
 use Rattle.machine.proofs.SoundMachine.{sound-generator, sound-sum}
 use Rattle.sums.specs.Sums.{wordAt, fAt, sumsOf}
 use Rattle.sums.proofs.Memory.{quadrant-word, sums-quadrant}
 use Rattle.generator.specs.Generator.{loaded}
 use Rattle.pass_generators.specs.GeneratorStage.{generatorOf}
-use Rattle.order_agreement.specs.Agreement.{gfmAt}
+use Rattle.layout.specs.Machine.{gfmAt}
 use Rattle.equal_endings.proofs.Loaded.{gfm-loaded}
 use Rattle.equal_endings.specs.Ends.{fOf}
 
 module _ (m : List ℕ) (e : sound m ≡ true) (g : ℕ) (h : g < 256) where
-  pub gm-loaded : generatorOf m g .gm ≡ getD m (generatorAt g + 4) 0
+  pub gm-loaded : generatorOf m g .gm ≡ getD m (generatorAt g + GM) 0
   unfolding generatorOf loaded
   gm-loaded = rw (getD-drop (generatorAt g) m 4 0) (mod-eq-of-lt (sound-generator m e g h .gm))
 
-  pub gp-loaded : generatorOf m g .gp ≡ getD m (generatorAt g + 5) 0
+  pub gp-loaded : generatorOf m g .gp ≡ getD m (generatorAt g + GP) 0
   unfolding generatorOf loaded
   gp-loaded = rw (getD-drop (generatorAt g) m 5 0) (mod-eq-of-lt (sound-generator m e g h .gp))
 
-  pub gl-loaded : generatorOf m g .gl ≡ getD m (generatorAt g + 7) 0
+  pub gl-loaded : generatorOf m g .gl ≡ getD m (generatorAt g + GL) 0
   unfolding generatorOf loaded
   gl-loaded = rw (getD-drop (generatorAt g) m 7 0) (mod-eq-of-lt (sound-generator m e g h .gl))
 

@@ -16,7 +16,7 @@ use Rattle.modes.specs.Modes.{free}
 use Rattle.modes.proofs.RunModes.{replaces-alone}
 use Rattle.machine.specs.Questions.{sound}
 use Rattle.machine.proofs.SoundMachine.{sound-controls}
-use Rattle.order.specs.Order.{ticksOf, runModeAt, IsOrder}
+use Rattle.order.specs.Order.{IsOrder}
 use Rattle.generator.proofs.Registers.{p-low}
 use Rattle.pass_generators.specs.GeneratorStage.{generatorOf}
 use Rattle.pass_laws.proofs.Orders.{sum-below-one}
@@ -24,7 +24,7 @@ use Rattle.order_lists.specs.Sequences.{keep, some, lastOf, before, latest}
 use Rattle.order_lists.proofs.Entries.{keep-count, last-passes, last-entry}
 use Rattle.order_lists.proofs.Places.{place-inside}
 use Rattle.order_lists.proofs.Orders.{some-from, last-below, length-keep}
-use Rattle.order_agreement.specs.Agreement.{settingsOf, gfmAt, replacesWord, addsToWord, lastReplacing, placeReplacing, afterReplacing}
+use Rattle.order_agreement.specs.Agreement.{settingsOf, replacesWord, addsToWord, lastReplacing, placeReplacing, afterReplacing}
 use Rattle.equal_endings.proofs.Totals.{total-none, total-order}
 use Rattle.equal_endings.specs.Ends.{fOf, outputAt, toldIn, wordAfter}
 use Rattle.equal_witnesses.specs.Witnesses.{triggersWitness, sourcesWitness, soundingWitness, silentWitness, silentItems, countingItems}
@@ -33,6 +33,7 @@ use Rattle.equal_witnesses.proofs.Sources.{sources-alike, sources-f}
 use Rattle.equal_witnesses.proofs.Sounding.{sounding-alike, silent-output, sounding-output, silent-alike, all-silent}
 use Rattle.equal_witnesses.proofs.Items.{silent-item, counting-item}
 use Rattle.equal_witnesses.proofs.Settings.{left-same, written-same, brought, word-same}
+use Rattle.layout.specs.Machine.{ticksOf, runModeAt, gfmAt}
 
 -- P has 20 bits.
 pub output-low : (m : List ℕ) (g : ℕ) → outputAt m g < 2 ^ 20

@@ -9,14 +9,14 @@ use native.Mathlib.Omega.{arith}
 use borrow.Author.Tests.{eq-eqb, ne-eqb, lt-ltb}
 use lib.Dec.{eqb, lit<}
 use lib.ListN.{getD}
-use Rattle.layout.specs.Layout.{generatorAt, quadrantAt}
+use Rattle.layout.specs.Layout.{generatorAt, quadrantAt, GMODE}
 use Rattle.machine.specs.Questions.{regions, sound}
 use Rattle.machine.proofs.SoundMachine.{sound-generator}
 use Rattle.generator.specs.Generator.{vOf}
 use Rattle.pass_generators.specs.GeneratorStage.{generatorOf}
 use Rattle.pass_laws.proofs.SoundPuts.{gmode-loaded}
 use Rattle.pass_laws.proofs.Frames.{of-cond}
-use Rattle.order_agreement.specs.Agreement.{gfmAt}
+use Rattle.layout.specs.Machine.{gfmAt}
 use Rattle.equal_endings.proofs.Loaded.{gj-loaded, gk-loaded, gq-loaded}
 use Rattle.equal_endings.specs.Ends.{fOf, outputAt}
 use Rattle.equal_witnesses.specs.Witnesses.{envelopeModeAt, soundingLevel, soundingGJ, soundingGK, sounding, ones, soundingWitness, silentWitness}
@@ -87,7 +87,7 @@ module _ (m : List ℕ) (e : sound m ≡ true) (s : ℕ) where
     unfolding soundingWitness sounding
     gl-is = gl-loaded (soundingWitness m s) (sounding-alike .is-sound) g h ∙ changed-register (sounding m s) ones m g 7 h (lit< tt)
 
-    gmode-is : generatorOf (soundingWitness m s) g .gmode ≡ getD m (generatorAt g + 10) 0
+    gmode-is : generatorOf (soundingWitness m s) g .gmode ≡ getD m (generatorAt g + GMODE) 0
     gmode-is = gmode-loaded (soundingWitness m s) (sounding-alike .is-sound) g h ∙ sounding-alike .gmode g h
 
     -- V is 64 at the sounding one and 0 at every other.

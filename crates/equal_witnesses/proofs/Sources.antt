@@ -12,7 +12,7 @@ use Rattle.layout.specs.Layout.{quadrantAt}
 use Rattle.machine.specs.Questions.{sound}
 use Rattle.machine.proofs.SoundMachine.{sound-generator}
 use Rattle.pass_laws.proofs.Frames.{of-cond}
-use Rattle.order_agreement.specs.Agreement.{gfmAt}
+use Rattle.layout.specs.Machine.{gfmAt}
 use Rattle.equal_endings.specs.Ends.{fOf}
 use Rattle.equal_witnesses.specs.Witnesses.{numbered, sourcesWitness}
 use Rattle.equal_witnesses.proofs.Contents.{Fitting, Keeping, Alike, changed-word, changed-alike}

@@ -6,10 +6,10 @@ use mathlib.Core.List.{List}
 use Prim.Native.Nat.{ℕ, _+_, _<_}
 use lib.Dec.{lit<}
 use lib.ListN.{getD}
-use Rattle.layout.specs.Layout.{generatorAt}
+use Rattle.layout.specs.Layout.{generatorAt, GP, GQ}
 use Rattle.modes.specs.Modes.{free}
 use Rattle.machine.specs.Questions.{regions, sound}
-use Rattle.order.specs.Order.{runModeAt}
+use Rattle.layout.specs.Machine.{runModeAt}
 use Rattle.words.specs.Words.{signed, exactSum, outside}
 use Rattle.envelope.specs.Envelope.{overflows}
 use Rattle.generator.specs.Generator.{triggers}
@@ -36,11 +36,11 @@ module _ (m : List ℕ) (e : sound m ≡ true) where
   unfolding triggersWitness
   triggers-alike = changed-alike overflowing (λ q w x. x) m fits keeps e
 
-  gp-is : (g : ℕ) → g < 256 → getD (triggersWitness m) (generatorAt g + 5) 0 ≡ overflowingGP
+  gp-is : (g : ℕ) → g < 256 → getD (triggersWitness m) (generatorAt g + GP) 0 ≡ overflowingGP
   unfolding triggersWitness overflowing
   gp-is g h = changed-register overflowing (λ q w x. x) m g 5 h (lit< tt)
 
-  gq-is : (g : ℕ) → g < 256 → getD (triggersWitness m) (generatorAt g + 6) 0 ≡ overflowingGQ
+  gq-is : (g : ℕ) → g < 256 → getD (triggersWitness m) (generatorAt g + GQ) 0 ≡ overflowingGQ
   unfolding triggersWitness overflowing
   gq-is g h = changed-register overflowing (λ q w x. x) m g 6 h (lit< tt)
 

@@ -5,9 +5,8 @@ use mathlib.Core.Bool.{cond, _||_}
 use mathlib.Core.List.{List, [], _∷_}
 use lib.Dec.{eqb, ltb}
 use lib.ListN.{getD}
-use Rattle.lists.specs.Lists.{tabulate}
-use Rattle.layout.specs.Layout.{machineLength, generatorAt, modifierAt, quadrantAt, dacAt}
-use Rattle.machine.specs.Questions.{zeros}
+use Rattle.lists.specs.Lists.{tabulate, zeros}
+use Rattle.layout.specs.Layout.{machineLength, generatorAt, modifierAt, quadrantAt, dacAt, GMODE}
 use Rattle.sums.specs.Sums.{generatorLast, modifierLast}
 
 -- A machine's words, each by a rule of its place and of what stands there.
@@ -49,7 +48,7 @@ silentLevel mode = getD (0 ∷ 0 ∷ 4093 ∷ 3 ∷ []) mode 0
 
 -- The envelope mode of generator g of a machine.
 abbrev pub envelopeModeAt : List ℕ → ℕ → ℕ
-envelopeModeAt m g = getD m (generatorAt g + 10) 0 / 2 ^ 4 % 2 ^ 2
+envelopeModeAt m g = getD m (generatorAt g + GMODE) 0 / 2 ^ 4 % 2 ^ 2
 
 -- GL of generator g where only generator s sounds: V is 64 at s and 0 at every other.
 unfoldable pub soundingLevel : List ℕ → ℕ → ℕ → ℕ

@@ -210,8 +210,8 @@ impl Generator {
     fn ended(self) -> Generator
         ensures { λ r. ⌜ r ≡ endedOf self ⌝ }
     {
-        if self.gmode / 64 == 13 {
-            return self.with_run_mode(9);
+        if self.gmode / 64 == modes::RUNNING_C {
+            return self.with_run_mode(modes::WAIT);
         }
         self
     }
@@ -260,7 +260,7 @@ impl Generator {
         let j = self.phase(f);
         let turned = self.oscillate(1, j);
         if told {
-            return turned.with_run_mode(13);
+            return turned.with_run_mode(modes::RUNNING_C);
         }
         turned
     }

@@ -11,13 +11,76 @@ machineLength = 4119
 abbrev pub filePlaces : ℕ
 filePlaces = 4119
 
--- Generator g has the eleven words from 11g (g 0..255), in this sequence: GO, GJ, GK, GN, GM, GP, GQ, GL, GSUM, GFM, GMODE.
+-- Generator g has the eleven words from 11g (g 0..255): register r is at generatorAt g + r.
+abbrev pub generatorWords : ℕ
+generatorWords = 11
+
 abbrev pub generatorAt : ℕ → ℕ
 generatorAt g = 11 * g
 
--- Modifier m has the eight words from 2,816+8m (m 0..127), in this sequence: M0, M1, L0, L1, MIN, MRM, MSUM, MMODE.
+abbrev pub GO : ℕ
+GO = 0
+
+abbrev pub GJ : ℕ
+GJ = 1
+
+abbrev pub GK : ℕ
+GK = 2
+
+abbrev pub GN : ℕ
+GN = 3
+
+abbrev pub GM : ℕ
+GM = 4
+
+abbrev pub GP : ℕ
+GP = 5
+
+abbrev pub GQ : ℕ
+GQ = 6
+
+abbrev pub GL : ℕ
+GL = 7
+
+abbrev pub GSUM : ℕ
+GSUM = 8
+
+abbrev pub GFM : ℕ
+GFM = 9
+
+abbrev pub GMODE : ℕ
+GMODE = 10
+
+-- Modifier m has the eight words from 2,816+8m (m 0..127): register r is at modifierAt m + r.
+abbrev pub modifierWords : ℕ
+modifierWords = 8
+
 abbrev pub modifierAt : ℕ → ℕ
 modifierAt m = 2816 + 8 * m
+
+abbrev pub M0 : ℕ
+M0 = 0
+
+abbrev pub M1 : ℕ
+M1 = 1
+
+abbrev pub L0 : ℕ
+L0 = 2
+
+abbrev pub L1 : ℕ
+L1 = 3
+
+abbrev pub MIN : ℕ
+MIN = 4
+
+abbrev pub MRM : ℕ
+MRM = 5
+
+abbrev pub MSUM : ℕ
+MSUM = 6
+
+abbrev pub MMODE : ℕ
+MMODE = 7
 
 -- Sum memory: quadrant q of 64 words, 0 generator-this-pass, 1 generator-last, 2 modifier-this, 3 modifier-last.
 abbrev pub quadrantAt : ℕ → ℕ
@@ -53,11 +116,3 @@ lingerPassAt = 4117
 -- Overrun, 0 or 1.
 abbrev pub overrunAt : ℕ
 overrunAt = 4118
-
--- A run that reaches past each group of words. What a function asks of a machine's length is this, never the length itself.
-pub record Reaches (m : List ℕ) : Type 0 where
-  pub generators : 2816 ≤ length m
-  pub modifiers : 3840 ≤ length m
-  pub sums : 4096 ≤ length m
-  pub dacs : 4112 ≤ length m
-  pub controls : 4119 ≤ length m

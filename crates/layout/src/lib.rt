@@ -1,4 +1,7 @@
-// Where each word of the machine stands: the layout's numbers, each with its one name.
+// Where each word of the machine stands: the layout's numbers, each with its one name; and what stands at the places that several calls look at.
+ghost use mathlib.Core.Path.{_≡_};
+ghost use Prim.Native.Nat.{_<_};
+ghost use Rattle.layout.specs.Machine.{Reaches, ticksOf, gsumAt, gfmAt, runModeAt, dacNumberAt};
 
 // The length of the machine's run of words.
 pub const MACHINE_LENGTH: usize = 4119;
@@ -65,6 +68,14 @@ pub const QUADRANT_WORDS: usize = 64;
 
 pub const SUM_WORDS: usize = 256;
 
+pub const GENERATOR_THIS_AT: usize = 3840;
+
+pub const GENERATOR_LAST_AT: usize = 3904;
+
+pub const MODIFIER_THIS_AT: usize = 3968;
+
+pub const MODIFIER_LAST_AT: usize = 4032;
+
 // The DAC words.
 pub const DACS_AT: usize = 4096;
 
@@ -84,3 +95,54 @@ pub const LINGERING_AT: usize = 4116;
 pub const LINGER_PASS_AT: usize = 4117;
 
 pub const OVERRUN_AT: usize = 4118;
+
+// A word as an index.
+pub fn wide(x: u32) -> usize
+    ensures { λ r. ⌜ r ≡ x ⌝ }
+{
+    x as usize
+}
+
+// T of the machine.
+pub fn ticks(m: &[u32]) -> usize
+    requires { ⌜ Reaches (now m) ⌝ }
+    ensures { λ r. ⌜ r ≡ ticksOf (now (m .entry)) ⌝ }
+{
+    wide(m[T_AT])
+}
+
+// The run mode of generator g.
+pub fn run_mode(m: &[u32], g: usize) -> u32
+    requires { ⌜ Reaches (now m) ⌝ }
+    requires { ⌜ g < 256 ⌝ }
+    ensures { λ r. ⌜ r ≡ runModeAt (now (m .entry)) g ⌝ }
+{
+    m[GENERATOR_WORDS * g + GMODE] / 64
+}
+
+// GFM of generator g.
+pub fn gfm(m: &[u32], g: usize) -> u32
+    requires { ⌜ Reaches (now m) ⌝ }
+    requires { ⌜ g < 256 ⌝ }
+    ensures { λ r. ⌜ r ≡ gfmAt (now (m .entry)) g ⌝ }
+{
+    m[GENERATOR_WORDS * g + GFM]
+}
+
+// GSUM of generator g.
+pub fn gsum(m: &[u32], g: usize) -> usize
+    requires { ⌜ Reaches (now m) ⌝ }
+    requires { ⌜ g < 256 ⌝ }
+    ensures { λ r. ⌜ r ≡ gsumAt (now (m .entry)) g ⌝ }
+{
+    wide(m[GENERATOR_WORDS * g + GSUM])
+}
+
+// The DAC number of generator g.
+pub fn dac_number(m: &[u32], g: usize) -> usize
+    requires { ⌜ Reaches (now m) ⌝ }
+    requires { ⌜ g < 256 ⌝ }
+    ensures { λ r. ⌜ (r ≡ dacNumberAt (now (m .entry)) g) × (r < 16) ⌝ }
+{
+    wide(m[GENERATOR_WORDS * g + GO] % 16)
+}

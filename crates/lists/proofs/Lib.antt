@@ -4,3 +4,4 @@ pub mod Counts
 pub mod Tables
 pub mod Masks
 pub mod Members
+pub mod Zeros

@@ -4,6 +4,7 @@ use Prim.Native.Nat.{ℕ, zero, suc, _+_}
 use mathlib.Core.Bool.{Bool, true, false, cond, _&&_, _||_}
 use mathlib.Core.List.{List, [], _∷_}
 use lib.Dec.{eqb}
+use lib.ListN.{replicate}
 
 -- Whether a number is one of a list's.
 unfoldable pub isOneOf : ℕ → List ℕ → Bool
@@ -29,3 +30,7 @@ count n (x ∷ xs) = cond (eqb x n) 1 0 + count n xs
 unfoldable pub countBelow : (ℕ → Bool) → ℕ → ℕ
 countBelow p zero = 0
 countBelow p (suc n) = cond (p n) 1 0 + countBelow p n
+
+-- A run of n words that are zero.
+unfoldable pub zeros : ℕ → List ℕ
+zeros n = replicate n 0

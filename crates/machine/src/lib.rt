@@ -3,9 +3,11 @@ ghost use mathlib.Core.Path.{_≡_};
 ghost use mathlib.Core.List.{[], _∷_};
 ghost use Prim.Native.Nat.{_+_, _<_, _≤_};
 ghost use lib.ListN.{length};
-ghost use Rattle.layout.specs.Layout.{Reaches};
-ghost use Rattle.machine.specs.Questions.{asked, question1, question2, sound, goodAddress, zeros, freshAnswer, freshRun};
+ghost use Rattle.layout.specs.Machine.{Reaches};
+ghost use Rattle.machine.specs.Questions.{question1, question2, sound, goodAddress, freshAnswer, freshRun};
 ghost use Rattle.machine.specs.Loops.{column, builtModes, builtMmode, noGenerators, generatorColumns, withGenerator, generatorsWithin, noModifiers, modifierColumns, withModifier, modifiersWithin, controlsWithin};
+ghost use Rattle.questions.specs.Questions.{asked};
+ghost use Rattle.lists.specs.Lists.{zeros};
 
 // Each register's words or-ed over the generators, and whether all their modes are built.
 pub struct GeneratorColumns {

@@ -6,41 +6,38 @@ use mathlib.Core.List.{List, [], _∷_}
 use Rattle.lists.specs.Lists.{isOneOf, tabulate}
 use Rattle.modes.specs.declared.Switches.{Switches}
 
--- 0000.
+-- Inactive, and paused.
 abbrev pub inactive : ℕ
-inactive = 0
+inactive = 0b0000
 
--- 0001.
 abbrev pub pause : ℕ
-pause = 1
+pause = 0b0001
 
--- 1111.
+-- Running.
 abbrev pub runningA : ℕ
-runningA = 15
+runningA = 0b1111
 
--- 1110.
 abbrev pub runningB : ℕ
-runningB = 14
+runningB = 0b1110
 
--- 1101.
 abbrev pub runningC : ℕ
-runningC = 13
+runningC = 0b1101
 
--- 1001.
+-- Waiting to be triggered.
 abbrev pub wait : ℕ
-wait = 9
+wait = 0b1001
 
--- 0111, read data from the computer.
+-- Read data from the computer.
 abbrev pub readData : ℕ
-readData = 7
+readData = 0b0111
 
--- 0011, write data to the computer.
+-- Write data to the computer.
 abbrev pub writeData : ℕ
-writeData = 3
+writeData = 0b0011
 
--- 0010, write data to a DAC.
+-- Write data to a DAC.
 abbrev pub writeDAC : ℕ
-writeDAC = 2
+writeDAC = 0b0010
 
 -- The built run modes.
 abbrev pub builtRuns : List ℕ
@@ -50,9 +47,9 @@ builtRuns = inactive ∷ pause ∷ runningA ∷ runningB ∷ runningC ∷ wait �
 unfoldable pub builtRun : ℕ → Bool
 builtRun r = isOneOf r builtRuns
 
--- The built oscillator modes: 0000, 0001, 0010, 0011, 1000.
+-- The built oscillator modes.
 abbrev pub builtOscillators : List ℕ
-builtOscillators = 0 ∷ 1 ∷ 2 ∷ 3 ∷ 8 ∷ []
+builtOscillators = 0b0000 ∷ 0b0001 ∷ 0b0010 ∷ 0b0011 ∷ 0b1000 ∷ []
 
 -- Whether an oscillator mode is built.
 unfoldable pub builtOscillator : ℕ → Bool

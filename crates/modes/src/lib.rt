@@ -3,6 +3,25 @@ ghost use mathlib.Core.Path.{_≡_};
 ghost use Prim.Native.Nat.{_<_};
 ghost use Rattle.modes.specs.Modes.{rows, switchesOf, builtRun, builtOscillator};
 
+// The run modes, by the 1978 text's names.
+pub const INACTIVE: u32 = 0b0000;
+
+pub const PAUSE: u32 = 0b0001;
+
+pub const RUNNING_A: u32 = 0b1111;
+
+pub const RUNNING_B: u32 = 0b1110;
+
+pub const RUNNING_C: u32 = 0b1101;
+
+pub const WAIT: u32 = 0b1001;
+
+pub const READ_DATA: u32 = 0b0111;
+
+pub const WRITE_DATA: u32 = 0b0011;
+
+pub const WRITE_DAC: u32 = 0b0010;
+
 // A run mode's switches, 1 or 0: oscillator on, envelope on, envelope free. The output is 1 where it adds, 2 where it replaces, else 0.
 pub struct Switches {
     pub oscillator: u8,

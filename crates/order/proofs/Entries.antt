@@ -11,7 +11,7 @@ use lib.ListN.{length}
 use Rattle.lists.specs.Lists.{count}
 use Rattle.lists.proofs.Below.{below-at}
 use Rattle.lists.proofs.Counts.{once-below}
-use Rattle.machine.specs.Questions.{asked}
+use Rattle.questions.specs.Questions.{asked}
 use Rattle.order.specs.Order.{question5, question6, eachOnce, IsOrder}
 
 -- Question 6 answered yes: each number below t is there once.

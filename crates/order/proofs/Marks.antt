@@ -12,11 +12,10 @@ use borrow.Author.Tests.{ltb-true, lt-ltb, eqb-true, eqb-false, eq-eqb, ne-eqb}
 use lib.Dec.{eqb, ltb}
 use lib.ListN.{length, getD, set, drop, length-set, drop-of-length-le}
 use lib.Seq.{drop-cons, getD-set-same, getD-set-other}
-use Rattle.lists.specs.Lists.{count}
+use Rattle.lists.specs.Lists.{count, zeros}
 use Rattle.lists.proofs.Below.{both-ways, and-first, and-second, and-both, below-from}
 use Rattle.lists.proofs.Counts.{once-below, below-once}
-use Rattle.machine.specs.Questions.{zeros}
-use Rattle.machine.proofs.FreshMachine.{zeros-length, zeros-at}
+use Rattle.lists.proofs.Zeros.{zeros-length, zeros-at}
 use Rattle.order.specs.Order.{eachOnce}
 use Rattle.order.specs.Loops.{unmarked, marked, eachUnmarked}
 use Rattle.order.proofs.Entries.{once-each}

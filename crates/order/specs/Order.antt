@@ -6,17 +6,10 @@ use mathlib.Core.List.{List}
 use lib.Dec.{eqb, leb}
 use lib.ListN.{length, getD}
 use Rattle.lists.specs.Lists.{allBelow, count, countBelow}
-use Rattle.layout.specs.Layout.{generatorAt, tAt}
-use Rattle.machine.specs.Questions.{Question}
+use Rattle.layout.specs.Machine.{Machine, ticksOf, runModeAt}
+use Rattle.modes.specs.Modes.{readData, writeData}
+use Rattle.questions.specs.Questions.{Question}
 use mathlib.Core.Path.{_≡_}
-
--- T of a machine.
-abbrev pub ticksOf : List ℕ → ℕ
-ticksOf m = getD m tAt 0
-
--- The run mode of generator g of a machine.
-abbrev pub runModeAt : List ℕ → ℕ → ℕ
-runModeAt m g = getD m (generatorAt g + 10) 0 / 2 ^ 6
 
 -- Question 5: there are T entries.
 abbrev pub question5 : ℕ → List ℕ → Question
@@ -41,8 +34,8 @@ inMode m r = countBelow (λ g. eqb (runModeAt m g) r) (ticksOf m)
 
 -- Question 7: there are read items for all 0111s below T.
 abbrev pub question7 : List ℕ → List ℕ → Question
-question7 m items = record { number = 7; yes = leb (inMode m 7) (length items) }
+question7 m items = record { number = 7; yes = leb (inMode m readData) (length items) }
 
 -- Question 8: there are written places for all 0011s below T.
 abbrev pub question8 : List ℕ → List ℕ → Question
-question8 m places = record { number = 8; yes = leb (inMode m 3) (length places) }
+question8 m places = record { number = 8; yes = leb (inMode m writeData) (length places) }

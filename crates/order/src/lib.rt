@@ -5,15 +5,11 @@ ghost use mathlib.Core.List.{[], _∷_};
 ghost use Prim.Native.Nat.{_≤_};
 ghost use lib.Dec.{eqb};
 ghost use lib.ListN.{length};
-ghost use Rattle.layout.specs.Layout.{Reaches};
-ghost use Rattle.machine.specs.Questions.{asked};
-ghost use Rattle.order.specs.Order.{ticksOf, question5, question6, eachOnce, inMode};
+ghost use Rattle.layout.specs.Machine.{Reaches, ticksOf};
+ghost use Rattle.questions.specs.Questions.{asked};
+ghost use Rattle.modes.specs.Modes.{readData, writeData};
+ghost use Rattle.order.specs.Order.{question5, question6, eachOnce, inMode};
 ghost use Rattle.order.specs.Loops.{unmarked, marked};
-
-// The run modes read data, 0111, and write data, 0011.
-const READ_DATA: u32 = 7;
-
-const WRITE_DATA: u32 = 3;
 
 // How many generators below T read data, and how many write data.
 pub struct Counts {
@@ -78,16 +74,16 @@ fn is_mode(run: u32, mode: u32) -> usize
 // How many generators below T are in 0111, and how many in 0011.
 pub fn in_modes(m: &[u32]) -> Counts
     requires { ⌜ Reaches (now m) × (ticksOf (now m) ≤ 256) ⌝ }
-    ensures { λ r. ⌜ (r .reads ≡ inMode (now (m .entry)) 7) × (r .writes ≡ inMode (now (m .entry)) 3) ⌝ }
+    ensures { λ r. ⌜ (r .reads ≡ inMode (now (m .entry)) readData) × (r .writes ≡ inMode (now (m .entry)) writeData) ⌝ }
 {
-    let t = m[layout::T_AT] as usize;
+    let t = layout::ticks(m);
     let mut reads: usize = 0;
     let mut writes: usize = 0;
     let mut g: usize = 0;
     while g < t {
-        let run = m[layout::GENERATOR_WORDS * g + layout::GMODE] / 64;
-        reads += is_mode(run, READ_DATA);
-        writes += is_mode(run, WRITE_DATA);
+        let run = layout::run_mode(m, g);
+        reads += is_mode(run, modes::READ_DATA);
+        writes += is_mode(run, modes::WRITE_DATA);
         g += 1;
     }
     Counts { reads, writes }

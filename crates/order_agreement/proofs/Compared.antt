@@ -7,10 +7,12 @@ use mathlib.Core.List.{List, [], _∷_}
 use Prim.Native.Nat.{ℕ}
 use native.Mathlib.Omega.{arith}
 use borrow.Author.Tests.{ne-eqb}
-use Rattle.machine.specs.Questions.{asked, question1, question2}
-use Rattle.order.specs.Order.{ticksOf, question5, question6}
+use Rattle.machine.specs.Questions.{question1, question2}
+use Rattle.order.specs.Order.{question5, question6}
 use Rattle.order_agreement.specs.Agreement.{settingsOf}
 use Rattle.order_agreement.specs.Points.{agrees, compareRefusal, compareOf}
+use Rattle.questions.specs.Questions.{asked}
+use Rattle.layout.specs.Machine.{ticksOf}
 
 module _ (m o₁ o₂ : List ℕ) where
   -- A compare that is not refused has passed the questions of the machine and of each order.

@@ -1,14 +1,12 @@
 -- When two orders of the generators agree (document 01, "Two orders agree when").
 -- Assumes nothing.
-use Prim.Native.Nat.{ℕ, _+_, _%_, _^_, _<_}
+use Prim.Native.Nat.{ℕ, _+_, _<_}
 use mathlib.Core.Bool.{Bool, true, _&&_}
 use mathlib.Core.List.{List, map}
 use mathlib.Core.Path.{_≡_}
 use lib.Dec.{eqb}
-use lib.ListN.{getD}
-use Rattle.layout.specs.Layout.{generatorAt}
 use Rattle.modes.specs.Modes.{wait, writeData, writeDAC, free, adds, replaces}
-use Rattle.order.specs.Order.{ticksOf, runModeAt}
+use Rattle.layout.specs.Machine.{ticksOf, runModeAt, gsumAt, gfmAt, dacNumberAt}
 use Rattle.order_lists.specs.Sequences.{keep, lastOf, placeOf, before}
 
 -- What the four points look at: how many generators there are, how far below its lower neighbour stands, and of each generator
@@ -25,16 +23,6 @@ pub record Settings : Type 0 where
   pub onWord : ℕ → ℕ → Bool
   pub replacing : ℕ → Bool
   pub adding : ℕ → Bool
-
--- GSUM and GFM of generator g of a machine, and its DAC number: the low 4 bits of GO.
-abbrev pub gsumAt : List ℕ → ℕ → ℕ
-gsumAt m g = getD m (generatorAt g + 8) 0
-
-abbrev pub gfmAt : List ℕ → ℕ → ℕ
-gfmAt m g = getD m (generatorAt g + 9) 0
-
-abbrev pub dacNumberAt : List ℕ → ℕ → ℕ
-dacNumberAt m g = getD m (generatorAt g) 0 % 2 ^ 4
 
 -- A machine's: the lower neighbour of g is g-1; 1001 waits; 1110 and 1101 can trigger; a DAC is fed by the 0010 generators with its number;
 -- 0011 writes data; GFM tells apart what is sent; a word's generators are those with its GSUM; 0111 replaces; adding ones are those whose run mode has adding on.

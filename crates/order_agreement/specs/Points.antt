@@ -7,9 +7,11 @@ use lib.Dec.{eqb, leb}
 use lib.ListN.{getD}
 use Rattle.lists.specs.Lists.{allBelow, countBelow}
 use Rattle.order_lists.specs.Sequences.{keep, some, lastOf, before, firstFailing}
-use Rattle.machine.specs.Questions.{asked, question1, question2}
-use Rattle.order.specs.Order.{ticksOf, question5, question6}
+use Rattle.machine.specs.Questions.{question1, question2}
+use Rattle.order.specs.Order.{question5, question6}
 use Rattle.order_agreement.specs.Agreement.{Settings, settingsOf, replacesWord, addsToWord, lastReplacing, placeReplacing, afterReplacing}
+use Rattle.questions.specs.Questions.{asked}
+use Rattle.layout.specs.Machine.{ticksOf}
 
 -- Two truth values are the same.
 abbrev pub same : Bool → Bool → Bool

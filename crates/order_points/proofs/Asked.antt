@@ -11,8 +11,8 @@ use lib.ListN.{getD, set}
 use borrow.Author.Tests.{eq-eqb, ne-eqb, le-leb, lt-leb}
 use Rattle.lists.specs.Lists.{isOneOf}
 use Rattle.modes.specs.Modes.{free, adds, wait}
-use Rattle.order.specs.Order.{runModeAt}
-use Rattle.order_agreement.specs.Agreement.{settingsOf, gsumAt}
+use Rattle.layout.specs.Machine.{runModeAt, gsumAt}
+use Rattle.order_agreement.specs.Agreement.{settingsOf}
 use Rattle.order_agreement.specs.Points.{same}
 use Rattle.order_points.specs.Loops.{sideBy, neighbourBy, adderBy}
 

@@ -8,11 +8,12 @@ use lib.Dec.{eqb}
 use Rattle.order_lists.specs.Sequences.{some, lastOf, firstFailing, latest}
 use Rattle.order_lists.proofs.Orders.{some-orders}
 use Rattle.order_lists.proofs.Loops.{failing-same}
-use Rattle.order.specs.Order.{ticksOf, IsOrder}
+use Rattle.order.specs.Order.{IsOrder}
 use Rattle.order_agreement.specs.Agreement.{settingsOf}
 use Rattle.order_agreement.specs.Points.{feederSame, feederPoint, writerSame, writerPoint}
 use Rattle.order_traces.specs.Traces.{Fed, Written}
 use Rattle.order_points.specs.Loops.{sameAt}
+use Rattle.layout.specs.Machine.{ticksOf}
 
 -- What two orders hold of their last entries that pass.
 pub latest-same : (t : ℕ) (o₁ o₂ : List ℕ) → IsOrder t o₁ × IsOrder t o₂ → (p : ℕ → Bool) (f : ℕ → ℕ)

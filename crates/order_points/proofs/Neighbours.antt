@@ -12,11 +12,12 @@ use Rattle.lists.proofs.Below.{and-first}
 use Rattle.order_lists.specs.Sequences.{firstFailing, placeOf, before}
 use Rattle.order_lists.proofs.Places.{place-inside}
 use Rattle.order_lists.proofs.Loops.{failing-same}
-use Rattle.order.specs.Order.{ticksOf, IsOrder}
+use Rattle.order.specs.Order.{IsOrder}
 use Rattle.order_agreement.specs.Agreement.{settingsOf}
 use Rattle.order_agreement.specs.Points.{same, neighbourSame, neighbourPoint}
 use Rattle.order_traces.specs.Traces.{Placed}
 use Rattle.order_points.specs.Loops.{sideBy, neighbourBy}
+use Rattle.layout.specs.Machine.{ticksOf}
 
 -- The place that is held of a generator below t.
 place-held : (t : ℕ) (order at : List ℕ) → IsOrder t order → Placed order at → (g : ℕ) → g < t → getD at g 0 ≡ placeOf g order

@@ -10,15 +10,15 @@ use borrow.Author.Tests.{eqb-true, eqb-false}
 use lib.Dec.{eqb, eqb·suc-zero, eqb·suc-suc}
 use lib.ListN.{length, getD, set, length-set}
 use lib.Seq.{getD-set-same, getD-set-other}
-use Rattle.lists.specs.Lists.{allBelow}
+use Rattle.lists.specs.Lists.{allBelow, zeros}
 use Rattle.lists.proofs.Below.{below-same, below-from}
 use Rattle.order_lists.specs.Sequences.{some, lastOf, before, firstFailing, latest}
 use Rattle.order_lists.proofs.Orders.{some-orders, last-below}
 use Rattle.order_lists.proofs.Loops.{failing-same}
-use Rattle.machine.specs.Questions.{zeros}
-use Rattle.machine.proofs.FreshMachine.{zeros-length, zeros-at}
-use Rattle.order.specs.Order.{ticksOf, IsOrder}
-use Rattle.order_agreement.specs.Agreement.{settingsOf, gsumAt, replacesWord, addsToWord, lastReplacing, placeReplacing, afterReplacing}
+use Rattle.lists.proofs.Zeros.{zeros-length, zeros-at}
+use Rattle.layout.specs.Machine.{ticksOf, gsumAt}
+use Rattle.order.specs.Order.{IsOrder}
+use Rattle.order_agreement.specs.Agreement.{settingsOf, replacesWord, addsToWord, lastReplacing, placeReplacing, afterReplacing}
 use Rattle.order_agreement.specs.Points.{same, wordSame, wordPoint}
 use Rattle.order_traces.specs.Traces.{Ready, Placed, Replaced}
 use Rattle.order_points.specs.Loops.{sideBy, sameAt, adderBy, Low, Marked, wordBy}

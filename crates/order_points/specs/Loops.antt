@@ -7,7 +7,7 @@ use mathlib.Core.Path.{_≡_}
 use lib.Dec.{eqb, ltb, leb}
 use lib.ListN.{getD}
 use Rattle.lists.specs.Lists.{allBelow}
-use Rattle.order.specs.Order.{ticksOf}
+use Rattle.layout.specs.Machine.{ticksOf}
 use Rattle.order_agreement.specs.Agreement.{settingsOf, addsToWord}
 use Rattle.order_agreement.specs.Points.{same}
 

@@ -4,37 +4,28 @@ ghost use mathlib.Core.Path.{_≡_};
 ghost use mathlib.Core.Bool.{cond};
 ghost use Prim.Native.Nat.{_<_, _≤_};
 ghost use lib.ListN.{length, set};
-ghost use Rattle.layout.specs.Layout.{Reaches};
+ghost use Rattle.layout.specs.Machine.{Reaches, ticksOf, gsumAt};
 ghost use Rattle.modes.specs.Modes.{free, adds};
-ghost use Rattle.machine.specs.Questions.{zeros};
+ghost use Rattle.lists.specs.Lists.{zeros};
 ghost use Rattle.order_lists.specs.Sequences.{firstFailing};
-ghost use Rattle.order.specs.Order.{ticksOf, IsOrder};
-ghost use Rattle.order_agreement.specs.Agreement.{settingsOf, gsumAt};
+ghost use Rattle.order.specs.Order.{IsOrder};
+ghost use Rattle.order_agreement.specs.Agreement.{settingsOf};
 ghost use Rattle.order_agreement.specs.Points.{neighbourPoint, feederPoint, writerPoint, wordPoint};
 ghost use Rattle.order_traces.specs.Traces.{Ready, Placed, Fed, Written, Replaced};
 ghost use Rattle.order_points.specs.Loops.{sideBy, neighbourBy, sameAt, adderBy, Low, Marked, wordBy};
-
-// The run modes wait, 1001, and running, 1111, 1110 and 1101.
-const WAIT: u32 = 9;
-
-const RUNNING_A: u32 = 15;
-
-const RUNNING_B: u32 = 14;
-
-const RUNNING_C: u32 = 13;
 
 // Whether a run mode can trigger.
 fn triggering(run: u32) -> bool
     ensures { λ r. ⌜ r ≡ free run ⌝ }
 {
-    (run == RUNNING_B) | (run == RUNNING_C)
+    (run == modes::RUNNING_B) | (run == modes::RUNNING_C)
 }
 
 // Whether a run mode has adding on.
 fn adding(run: u32) -> bool
     ensures { λ r. ⌜ r ≡ adds run ⌝ }
 {
-    (run == RUNNING_A) | triggering(run)
+    (run == modes::RUNNING_A) | triggering(run)
 }
 
 // Whether g and h stand in the same sequence in two orders, by their places.
@@ -54,10 +45,10 @@ fn neighbour_same(m: &[u32], at1: &[u8; 256], at2: &[u8; 256], g: usize) -> bool
     if g == 0 {
         return true;
     }
-    if order_traces::run_mode(m, g) != WAIT {
+    if layout::run_mode(m, g) != modes::WAIT {
         return true;
     }
-    if !triggering(order_traces::run_mode(m, g - 1)) {
+    if !triggering(layout::run_mode(m, g - 1)) {
         return true;
     }
     same_side(at1, at2, g - 1, g)
@@ -76,7 +67,7 @@ pub fn neighbour_point(
     requires { ⌜ Placed (now first) (now at1) × Placed (now second) (now at2) ⌝ }
     ensures { λ r. ⌜ r ≡ neighbourPoint (settingsOf (now (m .entry))) (now (first .entry)) (now (second .entry)) ⌝ }
 {
-    let t = order_traces::ticks(m);
+    let t = layout::ticks(m);
     let mut g: usize = 0;
     while g < t {
         if !neighbour_same(m, at1, at2, g) {
@@ -146,11 +137,11 @@ fn adder(
     requires { ⌜ Low (now last) × (g < 256) ⌝ }
     ensures { λ r. ⌜ now (marks .exit) ≡ cond (adderBy (now (m .entry)) (now (at1 .entry)) (now (at2 .entry)) (now (last .entry)) (gsumAt (now (m .entry)) g) g) (now (marks .entry)) (set (now (marks .entry)) (gsumAt (now (m .entry)) g) 1) ⌝ }
 {
-    if !adding(order_traces::run_mode(m, g)) {
+    if !adding(layout::run_mode(m, g)) {
         return;
     }
-    let w = order_traces::gsum(m, g);
-    let l = order_traces::wide(last[w]);
+    let w = layout::gsum(m, g);
+    let l = layout::wide(last[w]);
     if l == 0 {
         return;
     }
@@ -167,7 +158,7 @@ fn adders(m: &[u32], at1: &[u8; 256], at2: &[u8; 256], last: &[u32; 64], marks: 
     requires { ⌜ now marks ≡ zeros 64 ⌝ }
     ensures { λ r. ⌜ Marked (now (m .entry)) (now (at1 .entry)) (now (at2 .entry)) (now (last .entry)) (now (marks .exit)) ⌝ }
 {
-    let t = order_traces::ticks(m);
+    let t = layout::ticks(m);
     let mut g: usize = 0;
     while g < t {
         adder(m, at1, at2, last, marks, g);

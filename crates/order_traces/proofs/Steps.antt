@@ -7,9 +7,8 @@ use Prim.Native.Nat.{ℕ, _+_}
 use lib.Dec.{eqb}
 use lib.ListN.{set}
 use borrow.Author.Tests.{ne-eqb}
-use Rattle.order.specs.Order.{runModeAt}
+use Rattle.layout.specs.Machine.{runModeAt, gsumAt, gfmAt, dacNumberAt}
 use Rattle.order.specs.declared.Counts.{Counts}
-use Rattle.order_agreement.specs.Agreement.{gsumAt, gfmAt, dacNumberAt}
 use Rattle.order_traces.specs.Traces.{Step}
 
 module _ (m : List ℕ) (i g : ℕ) (at fed written last place : List ℕ) (done : Counts) {run : ℕ} (is : run ≡ runModeAt m g) where

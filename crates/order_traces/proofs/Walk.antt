@@ -11,18 +11,18 @@ use borrow.Author.Tests.{eqb-true, eqb-false}
 use lib.Dec.{eqb}
 use lib.ListN.{length, getD, set, drop, length-set}
 use lib.Seq.{getD-set-same, getD-set-other}
-use Rattle.lists.specs.Lists.{countBelow}
+use Rattle.lists.specs.Lists.{countBelow, zeros}
 use Rattle.layout.specs.Layout.{generatorAt}
 use Rattle.modes.specs.Modes.{readData, writeData, writeDAC}
 use Rattle.modes.proofs.RunModes.{replaces-is}
 use Rattle.order_lists.specs.Sequences.{keep, placeOf, latest}
 use Rattle.order_lists.proofs.Orders.{length-keep}
 use Rattle.order_lists.proofs.Loops.{kept-next, kept-past, kept-end}
-use Rattle.machine.specs.Questions.{zeros}
-use Rattle.machine.proofs.FreshMachine.{zeros-length, zeros-at}
-use Rattle.order.specs.Order.{ticksOf, runModeAt, IsOrder}
+use Rattle.lists.proofs.Zeros.{zeros-length, zeros-at}
+use Rattle.layout.specs.Machine.{ticksOf, runModeAt, gsumAt, gfmAt, dacNumberAt}
+use Rattle.order.specs.Order.{IsOrder}
 use Rattle.order.specs.declared.Counts.{Counts}
-use Rattle.order_agreement.specs.Agreement.{settingsOf, gsumAt, gfmAt, dacNumberAt, replacesWord}
+use Rattle.order_agreement.specs.Agreement.{settingsOf, replacesWord}
 use Rattle.order_traces.specs.Traces.{Ready, Step, Trace}
 use Rattle.order_traces.proofs.Arrays.{set-where, length-set-where, map-inside, latest-next, latest-end, kept-place, placed-next}
 

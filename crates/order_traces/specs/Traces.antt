@@ -7,12 +7,12 @@ use mathlib.Core.Path.{_≡_}
 use lib.Dec.{eqb}
 use lib.ListN.{length, getD, set}
 use Rattle.lists.specs.Lists.{count, countBelow}
-use Rattle.layout.specs.Layout.{Reaches}
+use Rattle.layout.specs.Machine.{Reaches, ticksOf, runModeAt, gsumAt, gfmAt, dacNumberAt}
 use Rattle.modes.specs.Modes.{readData, writeData, writeDAC}
 use Rattle.order_lists.specs.Sequences.{keep, some, lastOf, placeOf, latest}
-use Rattle.order.specs.Order.{ticksOf, runModeAt, IsOrder}
+use Rattle.order.specs.Order.{IsOrder}
 use Rattle.order.specs.declared.Counts.{Counts}
-use Rattle.order_agreement.specs.Agreement.{settingsOf, gsumAt, gfmAt, dacNumberAt, replacesWord}
+use Rattle.order_agreement.specs.Agreement.{settingsOf, replacesWord}
 
 -- A machine that has passed questions 1 and 2, as far as the points look at it.
 pub record Ready (m : List ℕ) : Type 0 where

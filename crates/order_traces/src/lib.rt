@@ -1,73 +1,12 @@
 // What an order of the generators leaves for the four points to look at.
 ghost use mathlib.Core.Path.{_≡_};
-ghost use mathlib.Core.Bool.{cond};
 ghost use Prim.Native.Nat.{_+_, _<_, _≤_};
-ghost use lib.Dec.{eqb};
 ghost use lib.ListN.{set};
-ghost use Rattle.layout.specs.Layout.{Reaches};
-ghost use Rattle.machine.specs.Questions.{zeros};
-ghost use Rattle.order.specs.Order.{ticksOf, runModeAt, IsOrder};
-ghost use Rattle.order_agreement.specs.Agreement.{gsumAt, gfmAt, dacNumberAt};
+ghost use Rattle.layout.specs.Machine.{ticksOf, gsumAt};
+ghost use Rattle.lists.specs.Lists.{zeros};
+ghost use Rattle.order.specs.Order.{IsOrder};
 ghost use Rattle.order_traces.specs.Traces.{Ready, Step, Trace};
 use order::Counts;
-
-// The run modes DAC, 0010, write data, 0011, and read data, 0111.
-const WRITE_DAC: u32 = 2;
-
-const WRITE_DATA: u32 = 3;
-
-const READ_DATA: u32 = 7;
-
-// A word as an index.
-pub fn wide(x: u32) -> usize
-    ensures { λ r. ⌜ r ≡ x ⌝ }
-{
-    x as usize
-}
-
-// T of the machine.
-pub fn ticks(m: &[u32]) -> usize
-    requires { ⌜ Reaches (now m) ⌝ }
-    ensures { λ r. ⌜ r ≡ ticksOf (now (m .entry)) ⌝ }
-{
-    wide(m[layout::T_AT])
-}
-
-// The run mode of generator g.
-pub fn run_mode(m: &[u32], g: usize) -> u32
-    requires { ⌜ Reaches (now m) ⌝ }
-    requires { ⌜ g < 256 ⌝ }
-    ensures { λ r. ⌜ r ≡ runModeAt (now (m .entry)) g ⌝ }
-{
-    m[layout::GENERATOR_WORDS * g + layout::GMODE] / 64
-}
-
-// GFM of generator g.
-fn gfm(m: &[u32], g: usize) -> u32
-    requires { ⌜ Reaches (now m) ⌝ }
-    requires { ⌜ g < 256 ⌝ }
-    ensures { λ r. ⌜ r ≡ gfmAt (now (m .entry)) g ⌝ }
-{
-    m[layout::GENERATOR_WORDS * g + layout::GFM]
-}
-
-// GSUM of generator g.
-pub fn gsum(m: &[u32], g: usize) -> usize
-    requires { ⌜ Reaches (now m) ⌝ }
-    requires { ⌜ g < 256 ⌝ }
-    ensures { λ r. ⌜ r ≡ gsumAt (now (m .entry)) g ⌝ }
-{
-    wide(m[layout::GENERATOR_WORDS * g + layout::GSUM])
-}
-
-// The DAC number of generator g.
-fn dac_number(m: &[u32], g: usize) -> usize
-    requires { ⌜ Reaches (now m) ⌝ }
-    requires { ⌜ g < 256 ⌝ }
-    ensures { λ r. ⌜ (r ≡ dacNumberAt (now (m .entry)) g) × (r < 16) ⌝ }
-{
-    wide(m[layout::GENERATOR_WORDS * g + layout::GO] % 16)
-}
 
 // A 0111 is its word's last yet, and n 0111s stand before it.
 fn replace(m: &[u32], last: &mut [u32; 64], place: &mut [u32; 64], n: usize, g: usize)
@@ -75,7 +14,7 @@ fn replace(m: &[u32], last: &mut [u32; 64], place: &mut [u32; 64], n: usize, g: 
     requires { ⌜ (g < 256) × (n < 256) ⌝ }
     ensures { λ r. ⌜ (now (last .exit) ≡ set (now (last .entry)) (gsumAt (now (m .entry)) g) (g + 1)) × (now (place .exit) ≡ set (now (place .entry)) (gsumAt (now (m .entry)) g) n) ⌝ }
 {
-    let w = gsum(m, g);
+    let w = layout::gsum(m, g);
     last[w] = (g + 1) as u32;
     place[w] = n as u32;
 }
@@ -97,21 +36,21 @@ fn step(
     ensures { λ r. ⌜ Step (now (m .entry)) i g (now (at .entry)) (now (at .exit)) (now (fed .entry)) (now (fed .exit)) (now (written .entry)) (now (written .exit)) (now (last .entry)) (now (last .exit)) (now (place .entry)) (now (place .exit)) done r ⌝ }
 {
     at[g] = i as u8;
-    let run = run_mode(m, g);
-    if run == WRITE_DAC {
-        let d = dac_number(m, g);
-        fed[d] = gfm(m, g);
+    let run = layout::run_mode(m, g);
+    if run == modes::WRITE_DAC {
+        let d = layout::dac_number(m, g);
+        fed[d] = layout::gfm(m, g);
         return done;
     }
-    if run == WRITE_DATA {
+    if run == modes::WRITE_DATA {
         let n = done.writes;
-        written[n] = gfm(m, g);
+        written[n] = layout::gfm(m, g);
         return Counts {
             reads: done.reads,
             writes: n + 1,
         };
     }
-    if run == READ_DATA {
+    if run == modes::READ_DATA {
         let n = done.reads;
         replace(m, last, place, n, g);
         return Counts {
@@ -144,7 +83,7 @@ pub fn trace(
     };
     let mut i: usize = 0;
     while i < order.len() {
-        let g = wide(order[i]);
+        let g = layout::wide(order[i]);
         let next = step(m, at, fed, written, last, place, done, i, g);
         done = next;
         i += 1;

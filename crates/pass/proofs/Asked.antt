@@ -9,13 +9,16 @@ use native.Mathlib.Omega.{arith}
 use lib.ListN.{length}
 use borrow.Author.Tests.{le-leb, lt-leb}
 use Rattle.layout.specs.Layout.{machineLength}
-use Rattle.machine.specs.Questions.{asked, question1, question2, sound}
+use Rattle.machine.specs.Questions.{question1, question2, sound}
 use Rattle.machine.proofs.SoundMachine.{reaches, sound-generator, sound-controls}
-use Rattle.order.specs.Order.{ticksOf, question5, question6, question7, question8, inMode}
+use Rattle.order.specs.Order.{question5, question6, question7, question8, inMode}
 use Rattle.order.proofs.Entries.{order-passes}
 use Rattle.pass_generators.specs.Loops.{Ready, Numbers}
 use Rattle.pass.specs.Pass.{passRefusal}
-use Rattle.machine.proofs.Asked.{asked-first, asked-later, machine-passes}
+use Rattle.machine.proofs.Asked.{machine-passes}
+use Rattle.questions.specs.Questions.{asked}
+use Rattle.layout.specs.Machine.{ticksOf}
+use Rattle.questions.proofs.Asked.{asked-first, asked-later}
 
 -- What a pass may rely on once its questions are answered yes.
 module _ (m order : List ℕ) (whole : asked (question1 m ∷ question2 m ∷ []) ≡ 0) where

@@ -7,12 +7,13 @@ use lib.Dec.{lit≤}
 use lib.ListN.{set}
 use Rattle.words.proofs.Residues.{wrapped}
 use Rattle.sums.specs.Sums.{sumsOf, closed}
-use Rattle.order.specs.Order.{ticksOf}
+use Rattle.layout.specs.Machine.{ticksOf}
 use Rattle.pass_generators.specs.declared.Items.{Items}
 use Rattle.pass_generators.specs.GeneratorStage.{steps, begun}
 use Rattle.pass_generators.specs.Loops.{held, Taken}
 use Rattle.pass_modifiers.specs.ModifierStage.{wordsAfter, modifierThisAfter}
-use Rattle.pass.specs.Pass.{answered, counterBits, counted, completed, ran}
+use Rattle.pass.specs.Pass.{answered, counted, completed, ran}
+use Rattle.layout.specs.Widths.{counterBits}
 
 module _ (m order items places words : List ℕ) (s₀ s : List (List ℕ)) (n : ℕ) (places' : List ℕ) (items' : Items) where
   pub ran-by : {after last done : List ℕ} {t : List (List ℕ)} →

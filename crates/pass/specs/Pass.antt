@@ -6,11 +6,14 @@ use mathlib.Core.List.{List, [], _∷_}
 use lib.Dec.{eqb}
 use lib.ListN.{getD, set}
 use Rattle.layout.specs.Layout.{counterAt}
-use Rattle.machine.specs.Questions.{asked, question1, question2}
-use Rattle.order.specs.Order.{ticksOf, question5, question6, question7, question8}
+use Rattle.layout.specs.Widths.{counterBits}
+use Rattle.machine.specs.Questions.{question1, question2}
+use Rattle.order.specs.Order.{question5, question6, question7, question8}
 use Rattle.sums.specs.Sums.{modifierThis, closed}
 use Rattle.pass_generators.specs.GeneratorStage.{State, steps, begun}
 use Rattle.pass_modifiers.specs.ModifierStage.{wordsAfter, modifierThisAfter}
+use Rattle.questions.specs.Questions.{asked}
+use Rattle.layout.specs.Machine.{ticksOf}
 
 -- What a pass answers and leaves: the number of the refusing question or 0, the items read and written, the machine and the written places.
 pub record Outcome : Type 0 where
@@ -24,10 +27,6 @@ pub record Outcome : Type 0 where
 abbrev pub answered : ℕ → ℕ → ℕ → List ℕ → List ℕ → Outcome
 answered number read written machine places =
     record { number = number; read = read; written = written; machine = machine; places = places }
-
--- The pass counter has 20 bits.
-abbrev pub counterBits : ℕ
-counterBits = 20
 
 -- 1 is added to the counter.
 unfoldable pub counted : List ℕ → List ℕ

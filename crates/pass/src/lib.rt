@@ -2,9 +2,8 @@
 ghost use mathlib.Core.Path.{_≡_};
 ghost use Prim.Native.Nat.{_≤_};
 ghost use lib.ListN.{length, getD};
-ghost use Rattle.layout.specs.Layout.{Reaches};
+ghost use Rattle.layout.specs.Machine.{Reaches, ticksOf};
 ghost use Rattle.pass_generators.specs.Loops.{Ready, Numbers};
-ghost use Rattle.order.specs.Order.{ticksOf};
 ghost use Rattle.pass.specs.Pass.{counted, ran, passRefusal, passOf, answered};
 use pass_generators::Items;
 
@@ -24,15 +23,6 @@ fn count(m: &mut [u32])
     m[at] = std::num::wrapping_add_u32(m[at], 1) % 1048576;
 }
 
-// T of the machine.
-fn ticks(m: &[u32]) -> usize
-    requires { ⌜ Reaches (now m) ⌝ }
-    ensures { λ r. ⌜ r ≡ ticksOf (now (m .entry)) ⌝ }
-{
-    let at = layout::T_AT;
-    m[at] as usize
-}
-
 // The pass itself: generators in the order, modifiers by number, the end of sum memory, the counter.
 fn run(m: &mut [u32], order: &[u32], items: &[u32], places: &mut [u32]) -> Items
     requires { ⌜ Ready (now m) ⌝ }
@@ -40,7 +30,7 @@ fn run(m: &mut [u32], order: &[u32], items: &[u32], places: &mut [u32]) -> Items
     requires { ⌜ ticksOf (now m) ≤ 256 ⌝ }
     ensures { λ r. ⌜ answered 0 (r .reads) (r .writes) (now (m .exit)) (now (places .exit)) ≡ ran (now (m .entry)) (now (order .entry)) (now (items .entry)) (now (places .entry)) ⌝ }
 {
-    let t = ticks(m);
+    let t = layout::ticks(m);
     let mut s = sums::load(m);
     let done = pass_generators::generators(m, &mut s, order, items, places);
     pass_modifiers::modifiers(m, &mut s, t / 2);
@@ -57,7 +47,7 @@ fn refusal(m: &[u32], order: &[u32], items: &[u32], places: &[u32]) -> u32
     if first != 0 {
         return first;
     }
-    let second = order::order_refusal(order, ticks(m));
+    let second = order::order_refusal(order, layout::ticks(m));
     if second != 0 {
         return second;
     }

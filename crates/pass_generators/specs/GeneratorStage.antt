@@ -9,7 +9,7 @@ use Rattle.words.specs.Words.{sum}
 use Rattle.modes.specs.Modes.{adds, replaces, writeData, writeDAC}
 use Rattle.generator.specs.declared.Generator.{Generator}
 use Rattle.generator.specs.Generator.{loaded, runMode, pOf, triggers, after}
-use Rattle.layout.specs.Layout.{generatorAt, dacAt}
+use Rattle.layout.specs.Layout.{generatorAt, dacAt, GJ, GK, GQ, GMODE}
 use Rattle.sums.specs.Sums.{sumAt, putSum, fAt, sumsOf}
 
 -- A pass under way: the machine's words, sum memory, a 1 for each generator that was taken and triggered, the places for written items, and how many items were read and written.
@@ -31,10 +31,10 @@ putGenerator words g u =
     set
     (set
     (set
-    (set words (generatorAt g + 1) (u .gj))
-    (generatorAt g + 2) (u .gk))
-    (generatorAt g + 6) (u .gq))
-    (generatorAt g + 10) (u .gmode)
+    (set words (generatorAt g + GJ) (u .gj))
+    (generatorAt g + GK) (u .gk))
+    (generatorAt g + GQ) (u .gq))
+    (generatorAt g + GMODE) (u .gmode)
 
 -- Step 5: 0010 puts F in the DAC named by the low 4 bits of GO.
 unfoldable pub putDAC : List ℕ → Generator → ℕ → List ℕ

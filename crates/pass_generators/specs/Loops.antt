@@ -7,18 +7,19 @@ use mathlib.Core.Path.{_≡_}
 use lib.ListN.{length, getD, replicate}
 use Rattle.words.specs.Words.{sum}
 use Rattle.sums.specs.Sums.{sumAt, putSum}
-use Rattle.layout.specs.Layout.{Reaches, generatorAt}
+use Rattle.layout.specs.Layout.{generatorAt, GJ, GK, GQ, GMODE}
 use Rattle.generator.specs.declared.Generator.{Generator}
 use Rattle.generator.specs.Generator.{pOf, after}
 use Rattle.pass_generators.specs.declared.Items.{Items}
 use Rattle.pass_generators.specs.GeneratorStage.{State, putGenerator, putDAC, sent, writtenBy, summed, readBy, fired, steps}
+use Rattle.layout.specs.Machine.{Reaches}
 
 -- The registers of generator g that a turn can change are within their widths.
 pub record Low (words : List ℕ) (g : ℕ) : Type 0 where
-  pub gj-low : getD words (generatorAt g + 1) 0 < 2 ^ 28
-  pub gk-low : getD words (generatorAt g + 2) 0 < 2 ^ 20
-  pub gq-low : getD words (generatorAt g + 6) 0 < 2 ^ 24
-  pub gmode-low : getD words (generatorAt g + 10) 0 < 2 ^ 10
+  pub gj-low : getD words (generatorAt g + GJ) 0 < 2 ^ 28
+  pub gk-low : getD words (generatorAt g + GK) 0 < 2 ^ 20
+  pub gq-low : getD words (generatorAt g + GQ) 0 < 2 ^ 24
+  pub gmode-low : getD words (generatorAt g + GMODE) 0 < 2 ^ 10
 
 -- A machine whose generators can be taken.
 pub record Ready (words : List ℕ) : Type 0 where

@@ -4,7 +4,7 @@ ghost use mathlib.Core.Bool.{true, cond};
 ghost use lib.Dec.{eqb};
 ghost use Prim.Native.Nat.{_+_, _<_, _^_};
 ghost use lib.ListN.{getD, set};
-ghost use Rattle.layout.specs.Layout.{Reaches};
+ghost use Rattle.layout.specs.Machine.{Reaches};
 ghost use Rattle.sine.specs.Sine.{quarter};
 ghost use Rattle.exponential.specs.Exponential.{entries};
 ghost use Rattle.modes.specs.Modes.{rows, switchesOf, envelopeOn, wait};
@@ -26,7 +26,7 @@ fn generator_at(m: &[u32], g: usize) -> Generator
     requires { ⌜ g < 256 ⌝ }
     ensures { λ r. ⌜ r ≡ generatorOf (now (m .entry)) g ⌝ }
 {
-    let at = 11 * g;
+    let at = layout::GENERATOR_WORDS * g;
     Generator::load(&m[at..])
 }
 
@@ -36,7 +36,7 @@ fn put_generator_at(m: &mut [u32], g: usize, unit: Generator)
     requires { ⌜ g < 256 ⌝ }
     ensures { λ r. ⌜ now (m .exit) ≡ putGenerator (now (m .entry)) g unit ⌝ }
 {
-    let at = 11 * g;
+    let at = layout::GENERATOR_WORDS * g;
     unit.store(&mut m[at..]);
 }
 
@@ -134,12 +134,12 @@ fn send(m: &mut [u32], places: &mut [u32], writes: usize, unit: Generator, f: u3
     ensures { λ r. ⌜ Sends (now (m .entry)) (now (m .exit)) (now (places .entry)) (now (places .exit)) writes r unit f ⌝ }
 {
     let run = unit.gmode / 64;
-    if run == 2 {
-        let at = (4096 + unit.go % 16) as usize;
+    if run == modes::WRITE_DAC {
+        let at = layout::DACS_AT + (unit.go % 16) as usize;
         m[at] = f;
         return writes;
     }
-    if run == 3 {
+    if run == modes::WRITE_DATA {
         put_item(places, writes, f);
         return writes + 1;
     }

@@ -10,7 +10,7 @@ use borrow.Author.Tests.{eqb-true, eqb-false}
 use lib.Dec.{eqb, lit≤}
 use lib.ListN.{length, getD, set, length-set}
 use lib.Seq.{getD-set-same, getD-set-other}
-use Rattle.layout.specs.Layout.{counterAt, Reaches}
+use Rattle.layout.specs.Layout.{counterAt}
 use Rattle.machine.specs.Questions.{sound}
 use Rattle.sums.specs.Sums.{generatorThis, modifierThis, closed}
 use Rattle.sums.proofs.Blocks.{Outside, outside-after}
@@ -21,6 +21,7 @@ use Rattle.pass_modifiers.proofs.Stage.{Elsewhere, turn-seen-low, words-length,
 use Rattle.pass.specs.Pass.{counted, completed}
 use Rattle.pass_laws.proofs.SoundPuts.{sound-modifier-put, sound-counted, sound-closed}
 use Rattle.layout.proofs.Reach.{same-reach}
+use Rattle.layout.specs.Machine.{Reaches}
 
 -- The modifiers keep a machine sound.
 pub modified-sound : (words : List ℕ) (s : List (List ℕ)) (n : ℕ) → n ≤ 128 → sound words ≡ true → sound (wordsAfter words s n) ≡ true

@@ -14,7 +14,7 @@ use Rattle.modes.proofs.RunModes.{replaces-is}
 use Rattle.machine.specs.Questions.{sound}
 use Rattle.machine.proofs.SoundMachine.{reaches}
 use Rattle.sums.proofs.Memory.{sums-quadrants}
-use Rattle.order.specs.Order.{ticksOf, runModeAt, inMode}
+use Rattle.order.specs.Order.{inMode}
 use Rattle.generator.specs.declared.Generator.{Generator}
 use Rattle.generator.specs.Generator.{runMode}
 use Rattle.pass_generators.specs.GeneratorStage.{State, generatorOf, readBy, writtenBy, step, steps, begun}
@@ -24,6 +24,7 @@ use Rattle.pass_laws.proofs.SoundPuts.{gmode-loaded}
 use Rattle.pass_laws.proofs.Passing.{Passed, passed, let-through, ran-machine, ran-read, ran-written}
 use Rattle.pass_laws.proofs.Completing.{completed-counter}
 use Rattle.pass_laws.proofs.Orders.{sumOver, sum-over-same, count-order, count-below-same, Distinct, distinct-order, distinct-first, distinct-rest}
+use Rattle.layout.specs.Machine.{ticksOf, runModeAt}
 
 -- What grows by one with each generator that passes a test grows by as many as pass it in the order, by the machine as it was at the start.
 pub steps-count : (items : List ℕ) (c : Generator → Bool) (n : State → ℕ)

@@ -11,11 +11,11 @@ use borrow.Author.Tests.{eqb-true, eqb-false, ltb-true}
 use lib.Dec.{eqb, ltb, lit<, lit≤}
 use lib.ListN.{length, getD}
 use Rattle.lists.proofs.Below.{and-first}
-use Rattle.layout.specs.Layout.{generatorAt, modifierAt, dxAt, tAt, nAt, counterAt, lingeringAt, lingerPassAt, overrunAt}
+use Rattle.layout.specs.Layout.{generatorAt, modifierAt, dxAt, tAt, nAt, counterAt, lingeringAt, lingerPassAt, overrunAt, GN, GM, GP, GL, GSUM, GFM, GMODE, MIN, MRM, MSUM, MMODE}
 use Rattle.modes.specs.Modes.{wait, runningC}
 use Rattle.machine.specs.Questions.{sound}
 use Rattle.machine.proofs.SoundMachine.{reaches}
-use Rattle.order.specs.Order.{ticksOf, runModeAt}
+use Rattle.layout.specs.Machine.{ticksOf, runModeAt}
 use Rattle.sums.proofs.Blocks.{Outside, outside-before, outside-after}
 use Rattle.sums.proofs.Memory.{sums-quadrants}
 use Rattle.generator.specs.declared.Generator.{Generator}
@@ -70,37 +70,37 @@ mode-after u told = go (eqb (runMode u) runningC && triggers u) (eqb (runMode u)
 record Modes (x k : ℕ) (words : List ℕ) : Type 0 where
   is-sound : sound words ≡ true
   reach : 2816 ≤ length words
-  kept : ModeKept x (getD words (generatorAt k + 10) 0)
+  kept : ModeKept x (getD words (generatorAt k + GMODE) 0)
 
 turned-gmode : (s : State) (g : ℕ) → turned s g .gmode ≡ gmodeAfter (takenAt s g) (told (s .triggered) g)
 unfolding after
 turned-gmode s g = refl
 
 step-mode : (items : List ℕ) (s : State) (g k : ℕ) → g < 256 → k < 256 → sound (s .words) ≡ true → 2816 ≤ length (s .words)
-    → ModeKept (getD (s .words) (generatorAt k + 10) 0) (getD (step items s g .words) (generatorAt k + 10) 0)
+    → ModeKept (getD (s .words) (generatorAt k + GMODE) 0) (getD (step items s g .words) (generatorAt k + GMODE) 0)
 step-mode items s g k h l e r = go (eqb k g) refl
   where
-    own : getD (step items s g .words) (generatorAt g + 10) 0 ≡ gmodeAfter (takenAt s g) (told (s .triggered) g)
+    own : getD (step items s g .words) (generatorAt g + GMODE) 0 ≡ gmodeAfter (takenAt s g) (told (s .triggered) g)
     own =
-        step-own items s g (generatorAt g + 10) (omega arith)
+        step-own items s g (generatorAt g + GMODE) (omega arith)
         ∙ put-gmode (s .words) g (turned s g) (omega arith)
         ∙ turned-gmode s g
 
-    go : (b : Bool) → eqb k g ≡ b → ModeKept (getD (s .words) (generatorAt k + 10) 0) (getD (step items s g .words) (generatorAt k + 10) 0)
+    go : (b : Bool) → eqb k g ≡ b → ModeKept (getD (s .words) (generatorAt k + GMODE) 0) (getD (step items s g .words) (generatorAt k + GMODE) 0)
     go true q = rw (eqb-true k g q, own, ← (gmode-loaded (s .words) e g h)) (mode-after (takenAt s g) (told (s .triggered) g))
     go false q =
-        rw (step-below items s g (generatorAt k + 10) (omega arith) (apart-other g k 10 (lit< tt) (eqb-false k g q)))
-        (kept-same (getD (s .words) (generatorAt k + 10) 0))
+        rw (step-below items s g (generatorAt k + GMODE) (omega arith) (apart-other g k 10 (lit< tt) (eqb-false k g q)))
+        (kept-same (getD (s .words) (generatorAt k + GMODE) 0))
 
 pub steps-mode : (items order : List ℕ) (s : State) (k : ℕ) → k < 256 → ((i : ℕ) → i < length order → getD order i 0 < 256)
     → sound (s .words) ≡ true → 2816 ≤ length (s .words)
-    → ModeKept (getD (s .words) (generatorAt k + 10) 0) (getD (steps items s order .words) (generatorAt k + 10) 0)
+    → ModeKept (getD (s .words) (generatorAt k + GMODE) 0) (getD (steps items s order .words) (generatorAt k + GMODE) 0)
 steps-mode items order s k l below e r =
-    steps-keep items (λ g. g < 256) (λ t. Modes (getD (s .words) (generatorAt k + 10) 0) k (t .words)) next order below s
-    (record { is-sound = e; reach = r; kept = kept-same (getD (s .words) (generatorAt k + 10) 0) }) .kept
+    steps-keep items (λ g. g < 256) (λ t. Modes (getD (s .words) (generatorAt k + GMODE) 0) k (t .words)) next order below s
+    (record { is-sound = e; reach = r; kept = kept-same (getD (s .words) (generatorAt k + GMODE) 0) }) .kept
   where
-    next : (t : State) (g : ℕ) → g < 256 → Modes (getD (s .words) (generatorAt k + 10) 0) k (t .words)
-        → Modes (getD (s .words) (generatorAt k + 10) 0) k (step items t g .words)
+    next : (t : State) (g : ℕ) → g < 256 → Modes (getD (s .words) (generatorAt k + GMODE) 0) k (t .words)
+        → Modes (getD (s .words) (generatorAt k + GMODE) 0) k (step items t g .words)
     next t g h p =
         record {
           is-sound = step-sound items t g h (p .is-sound);
@@ -111,20 +111,20 @@ steps-mode items order s k l below e r =
 -- The settings of generator g and of modifier k of a machine r, as they are in m.
 pub record GeneratorKept (m r : List ℕ) (g : ℕ) : Type 0 where
   pub go : getD r (generatorAt g) 0 ≡ getD m (generatorAt g) 0
-  pub gn : getD r (generatorAt g + 3) 0 ≡ getD m (generatorAt g + 3) 0
-  pub gm : getD r (generatorAt g + 4) 0 ≡ getD m (generatorAt g + 4) 0
-  pub gp : getD r (generatorAt g + 5) 0 ≡ getD m (generatorAt g + 5) 0
-  pub gl : getD r (generatorAt g + 7) 0 ≡ getD m (generatorAt g + 7) 0
-  pub gsum : getD r (generatorAt g + 8) 0 ≡ getD m (generatorAt g + 8) 0
-  pub gfm : getD r (generatorAt g + 9) 0 ≡ getD m (generatorAt g + 9) 0
-  pub gmode : runModeAt m g ≢ wait → runModeAt m g ≢ runningC → getD r (generatorAt g + 10) 0 ≡ getD m (generatorAt g + 10) 0
-  pub gmodeRest : getD r (generatorAt g + 10) 0 % 2 ^ 6 ≡ getD m (generatorAt g + 10) 0 % 2 ^ 6
+  pub gn : getD r (generatorAt g + GN) 0 ≡ getD m (generatorAt g + GN) 0
+  pub gm : getD r (generatorAt g + GM) 0 ≡ getD m (generatorAt g + GM) 0
+  pub gp : getD r (generatorAt g + GP) 0 ≡ getD m (generatorAt g + GP) 0
+  pub gl : getD r (generatorAt g + GL) 0 ≡ getD m (generatorAt g + GL) 0
+  pub gsum : getD r (generatorAt g + GSUM) 0 ≡ getD m (generatorAt g + GSUM) 0
+  pub gfm : getD r (generatorAt g + GFM) 0 ≡ getD m (generatorAt g + GFM) 0
+  pub gmode : runModeAt m g ≢ wait → runModeAt m g ≢ runningC → getD r (generatorAt g + GMODE) 0 ≡ getD m (generatorAt g + GMODE) 0
+  pub gmodeRest : getD r (generatorAt g + GMODE) 0 % 2 ^ 6 ≡ getD m (generatorAt g + GMODE) 0 % 2 ^ 6
 
 pub record ModifierKept (m r : List ℕ) (k : ℕ) : Type 0 where
-  pub min : getD r (modifierAt k + 4) 0 ≡ getD m (modifierAt k + 4) 0
-  pub mrm : getD r (modifierAt k + 5) 0 ≡ getD m (modifierAt k + 5) 0
-  pub msum : getD r (modifierAt k + 6) 0 ≡ getD m (modifierAt k + 6) 0
-  pub mmode : getD r (modifierAt k + 7) 0 ≡ getD m (modifierAt k + 7) 0
+  pub min : getD r (modifierAt k + MIN) 0 ≡ getD m (modifierAt k + MIN) 0
+  pub mrm : getD r (modifierAt k + MRM) 0 ≡ getD m (modifierAt k + MRM) 0
+  pub msum : getD r (modifierAt k + MSUM) 0 ≡ getD m (modifierAt k + MSUM) 0
+  pub mmode : getD r (modifierAt k + MMODE) 0 ≡ getD m (modifierAt k + MMODE) 0
 
 -- All settings of a machine.
 pub record SettingsKept (m r : List ℕ) : Type 0 where
@@ -187,11 +187,11 @@ module _ (m order items places : List ℕ) (p : Passed m order) where
       ∙ steps-beyond items order (begun m places) (p .below) i h
       ∙ rw (begun-words m places)
 
-  mode-word : (g : ℕ) → g < 256 → ModeKept (getD m (generatorAt g + 10) 0) (getD last (generatorAt g + 10) 0)
+  mode-word : (g : ℕ) → g < 256 → ModeKept (getD m (generatorAt g + GMODE) 0) (getD last (generatorAt g + GMODE) 0)
   unfolding begun
   mode-word g h =
-      rw (generator-word (generatorAt g + 10) (omega arith))
-      (steps-mode items order (begun m places) g h (p .below) (p .is-sound) (reaches m (p .whole) .generators))
+      rw (generator-word (generatorAt g + GMODE) (omega arith))
+      (steps-mode items order (begun m places) g h (p .below) (p .is-sound) (omega (arith, reaches m (p .whole) .all)))
 
   ran-settings : SettingsKept m last
   ran-settings =

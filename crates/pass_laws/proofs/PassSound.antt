@@ -9,7 +9,7 @@ use lib.ListN.{length, getD, set}
 use Rattle.layout.specs.Layout.{machineLength}
 use Rattle.machine.specs.Questions.{goodGmode, sound}
 use Rattle.machine.proofs.SoundMachine.{reaches, sound-sum}
-use Rattle.order.specs.Order.{ticksOf}
+use Rattle.layout.specs.Machine.{ticksOf}
 use Rattle.sums.specs.Sums.{putSum, sumsOf}
 use Rattle.sums.proofs.Memory.{quadrant-word, sums-quadrant, sums-quadrants, put-this, put-other}
 use Rattle.generator.proofs.Registers.{after-ranged}

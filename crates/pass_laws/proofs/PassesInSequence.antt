@@ -9,13 +9,14 @@ use borrow.Author.Tests.{eqb-true, ne-eqb}
 use lib.Dec.{eqb}
 use lib.ListN.{length, getD}
 use Rattle.layout.specs.Layout.{machineLength, counterAt}
-use Rattle.machine.specs.Questions.{asked, sound}
+use Rattle.machine.specs.Questions.{sound}
 use Rattle.pass.specs.Pass.{Outcome, passRefusal, refused, passOf}
 use Rattle.pass_laws.specs.Passes.{Call, outcomeOf, passesOf}
 use Rattle.pass_laws.proofs.Frames.{of-cond}
 use Rattle.pass_laws.proofs.Passing.{pass-number}
 use Rattle.pass_laws.proofs.PassSound.{pass-sound}
 use Rattle.pass_laws.proofs.PassCounts.{pass-counter}
+use Rattle.questions.specs.Questions.{asked}
 
 -- A run of no words is refused, and nothing is called after that.
 pub refused-last : (a b : Call) → length (passesOf [] (a ∷ b ∷ [])) ≡ 1

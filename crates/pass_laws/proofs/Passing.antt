@@ -9,12 +9,13 @@ use lib.Dec.{eqb}
 use lib.ListN.{length, getD}
 use Rattle.layout.specs.Layout.{machineLength}
 use Rattle.machine.specs.Questions.{sound}
-use Rattle.order.specs.Order.{ticksOf, IsOrder}
+use Rattle.order.specs.Order.{IsOrder}
 use Rattle.order.proofs.Entries.{order-passes}
 use Rattle.sums.specs.Sums.{sumsOf}
 use Rattle.pass_generators.specs.GeneratorStage.{State, steps, begun}
 use Rattle.pass.specs.Pass.{Outcome, completed, ran, refused, passRefusal, passOf}
 use Rattle.pass.proofs.Asked.{passes, is-sound, is-whole, few-ticks, are-numbers}
+use Rattle.layout.specs.Machine.{ticksOf}
 
 -- What a machine and an order that are let through are.
 pub record Passed (m order : List ℕ) : Type 0 where

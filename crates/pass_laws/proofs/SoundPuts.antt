@@ -13,7 +13,7 @@ use lib.Seq.{getD-drop}
 use Rattle.lists.specs.Lists.{isOneOf}
 use Rattle.lists.proofs.Below.{and-second, and-both}
 use Rattle.modes.specs.Modes.{builtRun, builtOscillator, wait, runningC}
-use Rattle.layout.specs.Layout.{machineLength, generatorAt, modifierAt, quadrantAt, dacAt, counterAt, Reaches}
+use Rattle.layout.specs.Layout.{machineLength, generatorAt, modifierAt, quadrantAt, dacAt, counterAt, GJ, GK, GQ, GMODE, M1, L0, L1}
 use Rattle.machine.specs.Questions.{bits, goodGmode, regions, testAt, sound}
 use Rattle.machine.proofs.Regions.{region, start, unit-test}
 use Rattle.machine.proofs.SoundMachine.{sound-at, sound-from, sound-set, sound-generator}
@@ -29,6 +29,7 @@ use Rattle.modifier.specs.Modifier.{Ranged as RangedModifier}
 use Rattle.pass_modifiers.specs.ModifierStage.{putModifier}
 use Rattle.pass.specs.Pass.{counted}
 use Rattle.pass_laws.proofs.Frames.{of-cond}
+use Rattle.layout.specs.Machine.{Reaches}
 
 -- A word that passes the test of its register is put there.
 pub sound-put : (m : List ℕ) → sound m ≡ true → (k u j i v : ℕ) → u < region regions k .units → j < length (region regions k .tests)
@@ -41,13 +42,13 @@ pub sound-generator-put : (m : List ℕ) → sound m ≡ true → (g : ℕ) → 
     → u .gj < 2 ^ 28 → u .gk < 2 ^ 20 → u .gq < 2 ^ 24 → goodGmode (u .gmode) ≡ true → sound (putGenerator m g u) ≡ true
 unfolding putGenerator regions
 sound-generator-put m e g h u gj gk gq mode =
-    let m1 = set m (generatorAt g + 1) (u .gj) in
-    let e1 = sound-put m e 0 g 1 (generatorAt g + 1) (u .gj) h (lit< tt) (omega arith) (omega arith) (lt-ltb (u .gj) (2 ^ 28) gj) in
-    let m2 = set m1 (generatorAt g + 2) (u .gk) in
-    let e2 = sound-put m1 e1 0 g 2 (generatorAt g + 2) (u .gk) h (lit< tt) (omega arith) (omega arith) (lt-ltb (u .gk) (2 ^ 20) gk) in
-    let m3 = set m2 (generatorAt g + 6) (u .gq) in
-    let e3 = sound-put m2 e2 0 g 6 (generatorAt g + 6) (u .gq) h (lit< tt) (omega arith) (omega arith) (lt-ltb (u .gq) (2 ^ 24) gq) in
-    sound-put m3 e3 0 g 10 (generatorAt g + 10) (u .gmode) h (lit< tt) (omega arith) (omega arith) mode
+    let m1 = set m (generatorAt g + GJ) (u .gj) in
+    let e1 = sound-put m e 0 g 1 (generatorAt g + GJ) (u .gj) h (lit< tt) (omega arith) (omega arith) (lt-ltb (u .gj) (2 ^ 28) gj) in
+    let m2 = set m1 (generatorAt g + GK) (u .gk) in
+    let e2 = sound-put m1 e1 0 g 2 (generatorAt g + GK) (u .gk) h (lit< tt) (omega arith) (omega arith) (lt-ltb (u .gk) (2 ^ 20) gk) in
+    let m3 = set m2 (generatorAt g + GQ) (u .gq) in
+    let e3 = sound-put m2 e2 0 g 6 (generatorAt g + GQ) (u .gq) h (lit< tt) (omega arith) (omega arith) (lt-ltb (u .gq) (2 ^ 24) gq) in
+    sound-put m3 e3 0 g 10 (generatorAt g + GMODE) (u .gmode) h (lit< tt) (omega arith) (omega arith) mode
 
 -- A DAC word.
 pub sound-dac-put : (m : List ℕ) → sound m ≡ true → (d v : ℕ) → d < 16 → v < 2 ^ 20 → sound (set m (dacAt d) v) ≡ true
@@ -60,11 +61,11 @@ unfolding putModifier regions
 sound-modifier-put m e k h u r =
     let m1 = set m (modifierAt k) (u .m0) in
     let e1 = sound-put m e 1 k 0 (modifierAt k) (u .m0) h (lit< tt) (omega arith) (omega arith) (lt-ltb (u .m0) (2 ^ 30) (r .m0-low)) in
-    let m2 = set m1 (modifierAt k + 1) (u .m1) in
-    let e2 = sound-put m1 e1 1 k 1 (modifierAt k + 1) (u .m1) h (lit< tt) (omega arith) (omega arith) (lt-ltb (u .m1) (2 ^ 30) (r .m1-low)) in
-    let m3 = set m2 (modifierAt k + 2) (u .l0) in
-    let e3 = sound-put m2 e2 1 k 2 (modifierAt k + 2) (u .l0) h (lit< tt) (omega arith) (omega arith) (lt-ltb (u .l0) (2 ^ 20) (r .l0-low)) in
-    sound-put m3 e3 1 k 3 (modifierAt k + 3) (u .l1) h (lit< tt) (omega arith) (omega arith) (lt-ltb (u .l1) (2 ^ 20) (r .l1-low))
+    let m2 = set m1 (modifierAt k + M1) (u .m1) in
+    let e2 = sound-put m1 e1 1 k 1 (modifierAt k + M1) (u .m1) h (lit< tt) (omega arith) (omega arith) (lt-ltb (u .m1) (2 ^ 30) (r .m1-low)) in
+    let m3 = set m2 (modifierAt k + L0) (u .l0) in
+    let e3 = sound-put m2 e2 1 k 2 (modifierAt k + L0) (u .l0) h (lit< tt) (omega arith) (omega arith) (lt-ltb (u .l0) (2 ^ 20) (r .l0-low)) in
+    sound-put m3 e3 1 k 3 (modifierAt k + L1) (u .l1) h (lit< tt) (omega arith) (omega arith) (lt-ltb (u .l1) (2 ^ 20) (r .l1-low))
 
 -- The counter.
 pub sound-counted : (m : List ℕ) → sound m ≡ true → sound (counted m) ≡ true
@@ -140,14 +141,14 @@ good-after u told good =
     (of-cond (λ (x : ℕ). goodGmode x ≡ true) (eqb (runMode u) wait && told) (good-run runningC (u .gmode) (lit< tt) refl good) good)
 
 -- GMODE of a generator that is loaded from a sound machine is the word itself, and good.
-pub gmode-loaded : (m : List ℕ) → sound m ≡ true → (g : ℕ) → g < 256 → generatorOf m g .gmode ≡ getD m (generatorAt g + 10) 0
+pub gmode-loaded : (m : List ℕ) → sound m ≡ true → (g : ℕ) → g < 256 → generatorOf m g .gmode ≡ getD m (generatorAt g + GMODE) 0
 unfolding generatorOf loaded
 gmode-loaded m e g h = rw (getD-drop (generatorAt g) m 10 0) (mod-eq-of-lt (sound-generator m e g h .gmode))
 
 pub gmode-good : (m : List ℕ) → sound m ≡ true → (g : ℕ) → g < 256 → goodGmode (generatorOf m g .gmode) ≡ true
 gmode-good m e g h =
     let s = sound-generator m e g h in
-    let x = getD m (generatorAt g + 10) 0 in
+    let x = getD m (generatorAt g + GMODE) 0 in
     rw (gmode-loaded m e g h)
     (and-both (bits 10 x && builtRun (x / 2 ^ 6)) (builtOscillator (x % 2 ^ 4))
     (and-both (bits 10 x) (builtRun (x / 2 ^ 6)) (lt-ltb x (2 ^ 10) (s .gmode)) (s .run))

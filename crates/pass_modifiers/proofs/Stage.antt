@@ -8,7 +8,7 @@ use native.Mathlib.Omega.{arith}
 use native.Mathlib.Nat.{add-zero, le-of-suc-le-suc, not-suc-le-zero, eq-or-lt-of-le}
 use lib.ListN.{length, getD, drop}
 use lib.Seq.{sets, length-sets, getD-drop}
-use Rattle.layout.specs.Layout.{modifierAt, Reaches}
+use Rattle.layout.specs.Layout.{modifierAt, M1, L0, L1}
 use Rattle.modifier.specs.declared.Modifier.{Modifier}
 use Rattle.modifier.specs.Modifier.{loaded, Ranged}
 use Rattle.modifier.proofs.Low.{loaded-ranged}
@@ -19,6 +19,7 @@ use Rattle.pass_modifiers.specs.ModifierStage.{left, earlyView, lateView
 use Rattle.pass_modifiers.proofs.Registers.{registers, four, put-is, sets-low}
 use Rattle.pass_modifiers.proofs.Views.{left-snoc, left-length, written-low, seen-low}
 use Rattle.layout.proofs.Reach.{same-reach}
+use Rattle.layout.specs.Machine.{Reaches}
 
 -- What a turn gives is within its widths, whatever stands in the machine.
 pub turn-seen-low : (s : List (List ℕ)) (early late words : List ℕ) (m : ℕ) → Low (turnSeen s early late (modifierOf words m))
@@ -91,9 +92,9 @@ modifier-kept words s n k h =
 -- M0, M1, L0 and L1 of modifier k are within their widths.
 pub record Narrow (words : List ℕ) (k : ℕ) : Type 0 where
   pub m0-low : getD words (modifierAt k) 0 < 2 ^ 30
-  pub m1-low : getD words (modifierAt k + 1) 0 < 2 ^ 30
-  pub l0-low : getD words (modifierAt k + 2) 0 < 2 ^ 20
-  pub l1-low : getD words (modifierAt k + 3) 0 < 2 ^ 20
+  pub m1-low : getD words (modifierAt k + M1) 0 < 2 ^ 30
+  pub l0-low : getD words (modifierAt k + L0) 0 < 2 ^ 20
+  pub l1-low : getD words (modifierAt k + L1) 0 < 2 ^ 20
 
 narrow-now : (words : List ℕ) (n : ℕ) (u : Modifier) → Ranged u → Narrow (sets words (2816 + 8 * n) (registers u)) n
 unfolding registers
@@ -107,9 +108,9 @@ narrow-now words n u r = record {
 narrow-still : (words : List ℕ) (s : List (List ℕ)) (n k : ℕ) → k < n → Narrow (wordsAfter words s n) k → Narrow (wordsAfter words s (suc n)) k
 narrow-still words s n k h r = record {
   m0-low = rw (outside-kept words s n (modifierAt k) (record { out = λ j b e. omega arith })) (r .m0-low);
-  m1-low = rw (outside-kept words s n (modifierAt k + 1) (record { out = λ j b e. omega arith })) (r .m1-low);
-  l0-low = rw (outside-kept words s n (modifierAt k + 2) (record { out = λ j b e. omega arith })) (r .l0-low);
-  l1-low = rw (outside-kept words s n (modifierAt k + 3) (record { out = λ j b e. omega arith })) (r .l1-low);
+  m1-low = rw (outside-kept words s n (modifierAt k + M1) (record { out = λ j b e. omega arith })) (r .m1-low);
+  l0-low = rw (outside-kept words s n (modifierAt k + L0) (record { out = λ j b e. omega arith })) (r .l0-low);
+  l1-low = rw (outside-kept words s n (modifierAt k + L1) (record { out = λ j b e. omega arith })) (r .l1-low);
 }
 
 -- Those of each modifier that was taken are, whatever stood in the machine.

@@ -10,7 +10,7 @@ use Rattle.modifier.specs.declared.Modifier.{Modifier}
 use Rattle.modifier.specs.declared.Turned.{Turned}
 use Rattle.modifier.specs.Modifier.{loaded, functionOf}
 use Rattle.modifier_turn.specs.Turn.{turnOf, readsLate}
-use Rattle.layout.specs.Layout.{modifierAt}
+use Rattle.layout.specs.Layout.{modifierAt, M1, L0, L1}
 use Rattle.sums.specs.Sums.{generatorLast, modifierThis, modifierLast, wordAt}
 use Rattle.pass_modifiers.specs.declared.Write.{Write}
 
@@ -55,7 +55,7 @@ modifierOf words m = loaded (drop (modifierAt m) words)
 -- The machine's words with the registers of modifier m that a turn can change: M0, M1, L0 and L1.
 unfoldable pub putModifier : List ℕ → ℕ → Modifier → List ℕ
 putModifier words m u =
-    set (set (set (set words (modifierAt m) (u .m0)) (modifierAt m + 1) (u .m1)) (modifierAt m + 2) (u .l0)) (modifierAt m + 3) (u .l1)
+    set (set (set (set words (modifierAt m) (u .m0)) (modifierAt m + M1) (u .m1)) (modifierAt m + L0) (u .l0)) (modifierAt m + L1) (u .l1)
 
 -- Modifier m is taken.
 unfoldable pub modify : List (List ℕ) → Stage → ℕ → Stage

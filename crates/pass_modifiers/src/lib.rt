@@ -4,12 +4,13 @@ ghost use mathlib.Core.List.{[]};
 ghost use Prim.Native.Nat.{_≤_, _<_, _^_};
 ghost use lib.ListN.{getD, set};
 ghost use Rattle.words.specs.Words.{Word};
-ghost use Rattle.layout.specs.Layout.{modifierAt, Reaches};
+ghost use Rattle.layout.specs.Layout.{modifierAt};
 ghost use Rattle.modifier.specs.Modifier.{Ranged};
 ghost use Rattle.pass_modifiers.specs.ModifierStage.{written, seen, turnSeen, modifierOf, putModifier, wordsAfter, modifierThisAfter};
 ghost use Rattle.pass_modifiers.specs.Loops.{wordLeft, caughtUp, lagging, lagStep};
 use modifier::Modifier;
 use modifier::Turned;
+ghost use Rattle.layout.specs.Machine.{Reaches};
 
 // What a modifier writes into modifier-this: S, at MSUM.
 pub struct Write {

@@ -6,10 +6,11 @@ use Prim.Native.Nat.{ℕ, _+_, _<_}
 use native.Mathlib.Omega.{arith}
 use lib.ListN.{length, getD, replicate, length-replicate, getD-replicate}
 use lib.Seq.{sets, length-sets}
-use Rattle.layout.specs.Layout.{quadrantAt, Reaches}
+use Rattle.layout.specs.Layout.{quadrantAt}
 use Rattle.sums.specs.Sums.{generatorThis, generatorLast, modifierThis, modifierLast, closed}
 use Rattle.sums.proofs.Blocks.{Outside, outside-before, getD-outside, getD-inside}
 use Rattle.sums.proofs.Memory.{Quadrants}
+use Rattle.layout.specs.Machine.{Reaches}
 
 -- The code's four writes.
 pub close-code : (m₀ m₁ m₂ m₃ m₄ : List ℕ) (s : List (List ℕ)) → m₁ ≡ sets m₀ 3840 (replicate 64 0) → m₂ ≡ sets m₁ 3904 (getD s 0 [])
@@ -63,14 +64,14 @@ module _ (words : List ℕ) (s : List (List ℕ)) (k : Quadrants s) where
         (getD-outside (getD s 2 []) _ 4032 (3840 + i) 0 (outside-before (3840 + i) 4032 _ (omega arith))
         ∙ getD-outside zeros _ 3968 (3840 + i) 0 (outside-before (3840 + i) 3968 _ (omega arith))
         ∙ getD-outside (getD s 0 []) _ 3904 (3840 + i) 0 (outside-before (3840 + i) 3904 _ (omega arith))
-        ∙ getD-inside zeros words 3840 i 0 (omega (arith, r .sums, zeros-length)) (omega (arith, zeros-length))
+        ∙ getD-inside zeros words 3840 i 0 (omega (arith, r .all, zeros-length)) (omega (arith, zeros-length))
         ∙ zeros-word i h)
 
     pub closed-modifier-this : getD (closed words s) (quadrantAt modifierThis + i) 0 ≡ 0
     closed-modifier-this =
         rw (closed-is words s)
         (getD-outside (getD s 2 []) _ 4032 (3968 + i) 0 (outside-before (3968 + i) 4032 _ (omega arith))
-        ∙ getD-inside zeros _ 3968 i 0 (simp length-sets (omega (arith, r .sums, zeros-length))) (omega (arith, zeros-length))
+        ∙ getD-inside zeros _ 3968 i 0 (simp length-sets (omega (arith, r .all, zeros-length))) (omega (arith, zeros-length))
         ∙ zeros-word i h)
 
     -- Both last quadrants are what this pass has left.
@@ -79,9 +80,9 @@ module _ (words : List ℕ) (s : List (List ℕ)) (k : Quadrants s) where
         rw (closed-is words s)
         (getD-outside (getD s 2 []) _ 4032 (3904 + i) 0 (outside-before (3904 + i) 4032 _ (omega arith))
         ∙ getD-outside zeros _ 3968 (3904 + i) 0 (outside-before (3904 + i) 3968 _ (omega arith))
-        ∙ getD-inside (getD s 0 []) _ 3904 i 0 (simp length-sets (omega (arith, r .sums, generators))) (omega (arith, generators)))
+        ∙ getD-inside (getD s 0 []) _ 3904 i 0 (simp length-sets (omega (arith, r .all, generators))) (omega (arith, generators)))
 
     pub closed-modifier-last : getD (closed words s) (quadrantAt modifierLast + i) 0 ≡ getD (getD s modifierThis []) i 0
     closed-modifier-last =
         rw (closed-is words s)
-        (getD-inside (getD s 2 []) _ 4032 i 0 (simp length-sets (omega (arith, r .sums, modifiers))) (omega (arith, modifiers)))
+        (getD-inside (getD s 2 []) _ 4032 i 0 (simp length-sets (omega (arith, r .all, modifiers))) (omega (arith, modifiers)))

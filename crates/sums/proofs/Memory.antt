@@ -11,9 +11,10 @@ use lib.Dec.{eqb}
 use lib.Pow.{pow-pos}
 use lib.ListN.{length, getD, set, take, drop, length-set, length-drop}
 use lib.Seq.{length-take-le, getD-take, getD-drop, getD-set-same, getD-set-other}
-use Rattle.layout.specs.Layout.{quadrantAt, Reaches}
+use Rattle.layout.specs.Layout.{quadrantAt}
 use Rattle.words.specs.Words.{sum, Word}
 use Rattle.sums.specs.Sums.{quadrantOf, sumsOf, wordAt, sumAt, putSum, fAt}
+use Rattle.layout.specs.Machine.{Reaches}
 
 -- Four quadrants, each of 64 words.
 pub record Quadrants (s : List (List ℕ)) : Type 0 where
@@ -45,7 +46,7 @@ sums-quadrant words (suc (suc (suc (suc q)))) h = absurd (omega arith)
 pub sums-quadrants : (words : List ℕ) → Reaches words → Quadrants (sumsOf words)
 sums-quadrants words r = record {
   four = sums-length words;
-  each = λ q h. ap length (sums-quadrant words q h) ∙ quadrant-length words q (omega (arith, r .sums));
+  each = λ q h. ap length (sums-quadrant words q h) ∙ quadrant-length words q (omega (arith, r .all));
 }
 
 -- The code's four quadrants.

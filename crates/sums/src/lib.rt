@@ -4,7 +4,7 @@ ghost use mathlib.Core.List.{[]};
 ghost use Prim.Native.Nat.{_+_, _≤_, _<_, _^_};
 ghost use lib.ListN.{length, getD, take, drop};
 ghost use lib.Seq.{sets};
-ghost use Rattle.layout.specs.Layout.{Reaches};
+ghost use Rattle.layout.specs.Machine.{Reaches};
 ghost use Rattle.words.specs.Words.{sum, Word};
 ghost use Rattle.sums.specs.Sums.{sumsOf, wordAt, sumAt, putSum, fAt, closed};
 
@@ -82,10 +82,10 @@ pub fn load(m: &[u32]) -> [[u32; 64]; 4]
     requires { ⌜ Reaches (now m) ⌝ }
     ensures { λ r. ⌜ r ≡ sumsOf (now (m .entry)) ⌝ }
 {
-    let generator_this = quadrant_at(m, 3840);
-    let generator_last = quadrant_at(m, 3904);
-    let modifier_this = quadrant_at(m, 3968);
-    let modifier_last = quadrant_at(m, 4032);
+    let generator_this = quadrant_at(m, layout::GENERATOR_THIS_AT);
+    let generator_last = quadrant_at(m, layout::GENERATOR_LAST_AT);
+    let modifier_this = quadrant_at(m, layout::MODIFIER_THIS_AT);
+    let modifier_last = quadrant_at(m, layout::MODIFIER_LAST_AT);
     [generator_this, generator_last, modifier_this, modifier_last]
 }
 
@@ -115,8 +115,8 @@ pub fn close(m: &mut [u32], s: &[[u32; 64]; 4])
     ensures { λ r. ⌜ now (m .exit) ≡ closed (now (m .entry)) (now (s .entry)) ⌝ }
 {
     let zeros = [0u32; 64];
-    put_quadrant_at(m, 3840, &zeros);
-    put_quadrant_at(m, 3904, &s[0]);
-    put_quadrant_at(m, 3968, &zeros);
-    put_quadrant_at(m, 4032, &s[2]);
+    put_quadrant_at(m, layout::GENERATOR_THIS_AT, &zeros);
+    put_quadrant_at(m, layout::GENERATOR_LAST_AT, &s[0]);
+    put_quadrant_at(m, layout::MODIFIER_THIS_AT, &zeros);
+    put_quadrant_at(m, layout::MODIFIER_LAST_AT, &s[2]);
 }

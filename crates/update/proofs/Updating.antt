@@ -10,13 +10,15 @@ use borrow.Author.Tests.{eq-eqb, ne-eqb}
 use lib.Dec.{eqb}
 use lib.ListN.{length, drop, take, set, length-drop}
 use lib.Seq.{take-all}
-use Rattle.layout.specs.Layout.{lingeringAt, Reaches}
-use Rattle.machine.specs.Questions.{asked, question1, question2}
+use Rattle.layout.specs.Layout.{lingeringAt}
+use Rattle.machine.specs.Questions.{question1, question2}
 use Rattle.machine.proofs.SoundMachine.{reaches}
 use Rattle.command_control.specs.Built.{commandRefusal}
 use Rattle.command.specs.Command.{done, waits}
 use Rattle.update.specs.Update.{Outcome, outcome, mostCommands, stillLingering, takenBy, updateOf, takenCount, tailAt}
 use Rattle.machine.proofs.Asked.{machine-passes}
+use Rattle.layout.specs.Machine.{Reaches}
+use Rattle.questions.specs.Questions.{asked}
 
 -- A machine that passes question 1 reaches past each group of words.
 pub passes-reach : (m : List ℕ) → asked (question1 m ∷ question2 m ∷ []) ≡ 0 → Reaches m

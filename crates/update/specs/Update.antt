@@ -6,9 +6,10 @@ use mathlib.Core.List.{List, [], _∷_}
 use lib.Dec.{eqb}
 use lib.ListN.{length, getD, set}
 use Rattle.layout.specs.Layout.{tAt, nAt, counterAt, lingeringAt, lingerPassAt}
-use Rattle.machine.specs.Questions.{asked, question1, question2}
+use Rattle.machine.specs.Questions.{question1, question2}
 use Rattle.command_control.specs.Built.{commandRefusal}
 use Rattle.command.specs.Command.{done, waits}
+use Rattle.questions.specs.Questions.{asked}
 
 -- What an update answers and leaves: the number of the refusing question or 0, the machine, and the part of the commands not taken.
 pub record Outcome : Type 0 where

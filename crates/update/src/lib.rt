@@ -2,7 +2,7 @@
 ghost use mathlib.Core.Path.{_≡_};
 ghost use Prim.Native.Nat.{_≤_};
 ghost use lib.ListN.{length, drop};
-ghost use Rattle.layout.specs.Layout.{Reaches};
+ghost use Rattle.layout.specs.Machine.{Reaches};
 ghost use Rattle.update.specs.Update.{outcome, mostCommands, stillLingering, takenBy, updateOf, takenCount, tailAt};
 
 // Whether it is lingering and the counter isn't the Linger pass.

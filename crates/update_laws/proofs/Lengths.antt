@@ -7,16 +7,17 @@ use Prim.Native.Nat.{ℕ, zero, suc, _/_}
 use lib.Dec.{eqb}
 use lib.ListN.{length, set, length-set}
 use Rattle.layout.specs.Layout.{lingeringAt}
-use Rattle.machine.specs.Questions.{asked, question1, question2}
+use Rattle.machine.specs.Questions.{question1, question2}
 use Rattle.command_load.specs.Fields.{field, flag, dataOf, codeOf}
 use Rattle.command_load.specs.Loads.{loadedUnless, clearedIf, loadedRight, loadedLeft, loadedAdjusted, loadedGQ, loadedGJ, loadedGP, loadedGN, loadedGL, loadedGK, loadedGMODE, loadedGO, loadedMM, loadedML, loadedMMODE, loadedMRM, loaded}
-use Rattle.order.specs.Order.{runModeAt}
+use Rattle.questions.specs.Questions.{asked}
 use Rattle.modes.specs.Modes.{pause, wait}
 use Rattle.command_control.specs.Control.{releasedOne, releasedBelow, released, miscellany, counterSet, behind, waitsFor, lingered, timed, ticksSet}
 use Rattle.command_control.specs.Built.{commandRefusal}
 use Rattle.command.specs.Command.{done, waits, afterCommand}
 use Rattle.update.specs.Update.{Outcome, mostCommands, stillLingering, takenBy, updateOf}
 use Rattle.update_laws.proofs.Choices.{of-cond}
+use Rattle.layout.specs.Machine.{runModeAt}
 
 -- A run of n words.
 record Long (n : ℕ) (m : List ℕ) : Type 0 where

@@ -6,11 +6,12 @@ use Prim.Native.Nat.{ℕ, _/_, _≤_}
 use native.Mathlib.Omega.{arith}
 use borrow.Author.Tests.{eqb-true, leb-true, ne-eqb}
 use lib.Dec.{eqb, leb}
-use Rattle.machine.specs.Questions.{asked, goodGmode, goodMmode, goodAddress}
+use Rattle.machine.specs.Questions.{goodGmode, goodMmode, goodAddress}
 use Rattle.lists.proofs.Below.{and-first, and-second}
 use Rattle.command_load.specs.Fields.{field, flag, codeOf}
 use Rattle.command_control.specs.Control.{ticksData}
 use Rattle.command_control.specs.Built.{built, fits, builtMRM, commandRefusal}
+use Rattle.questions.specs.Questions.{asked}
 
 -- A command that is not refused passes both.
 pub record Passed (c : ℕ) : Type 0 where

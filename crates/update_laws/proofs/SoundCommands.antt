@@ -15,7 +15,7 @@ use Rattle.modes.specs.Modes.{builtRun, builtOscillator, pause, wait, runningA}
 use Rattle.machine.specs.Questions.{bits, between, goodGmode, regions, sound}
 use Rattle.machine.proofs.SoundMachine.{sound-generator}
 use Rattle.generator.specs.Generator.{withRunMode}
-use Rattle.order.specs.Order.{runModeAt}
+use Rattle.layout.specs.Machine.{runModeAt}
 use Rattle.command_load.specs.Fields.{field, flag, dataOf, codeOf}
 use Rattle.command_control.specs.Control.{releasedOne, releasedBelow, released, miscellany, counterSet, behind, waitsFor, lingered, timed, ticksData, ticksSet}
 use Rattle.command_control.specs.Built.{commandRefusal}

@@ -8,13 +8,14 @@ use borrow.Author.Tests.{eqb-true}
 use lib.Dec.{eqb, lit<}
 use lib.ListN.{set}
 use Rattle.layout.specs.Layout.{lingeringAt}
-use Rattle.machine.specs.Questions.{asked, question1, question2, regions, sound}
+use Rattle.machine.specs.Questions.{question1, question2, regions, sound}
 use Rattle.command_control.specs.Built.{commandRefusal}
 use Rattle.command.specs.Command.{done, waits}
 use Rattle.update.specs.Update.{Outcome, mostCommands, stillLingering, takenBy, updateOf}
 use Rattle.update_laws.proofs.Choices.{of-cond, of-test}
 use Rattle.update_laws.proofs.SoundLoads.{Sound, control-put}
 use Rattle.update_laws.proofs.SoundCommands.{done-sound}
+use Rattle.questions.specs.Questions.{asked}
 
 -- An outcome that leaves a sound machine.
 abbrev SoundAfter : Outcome → Type 0

@@ -3,7 +3,7 @@
 use mathlib.Core.Path.{_≡_, refl, sym, _∙_}
 use mathlib.Core.Bool.{true, false}
 use borrow.Author.Tests.{not-true, not-false}
-use Rattle.machine.specs.Questions.{asked}
+use Rattle.questions.specs.Questions.{asked}
 use Rattle.command_control.specs.Built.{built, fits, commandRefusal}
 use borrow.Author.Needs.{needs}
 use Rattle.command_control.proofs.refusal.Statement.{statement}

@@ -12,7 +12,7 @@ slice-write-m : tie.Need-slice-write-m
 slice-write-m c = search needs
 
 slice-write-m-2 : tie.Need-slice-write-m-2
-slice-write-m-2 c = rw (length-set (c .args .m .now) (c .args .at) (c .args .v)) (omega (arith, c .pre .0 .controls))
+slice-write-m-2 c = rw (length-set (c .args .m .now) (c .args .at) (c .args .v)) (omega (arith, c .pre .0 .all))
 
 same-length : tie.Need-same-length
 same-length c = search needs

@@ -35,13 +35,13 @@ slice-write-m c = search needs
 load-unless-requires : tie.Need-load-unless-requires
 load-unless-requires c κs =
     lt-length-set (c .before .before .before .before .before .before .before .args .m .now) (c .before .before .before .before .before .modifier-word .result) (c .before .mmode-by .result) {i = c .before .before .before .before .modifier-word2 .result}
-    (omega (arith, c .before .before .before .before .before .before .before .pre .modifiers, c .before .before .before .before .modifier-word2 .ensures .1))
+    (omega (arith, c .before .before .before .before .before .before .before .pre .all, c .before .before .before .before .modifier-word2 .ensures .1))
 
 clear-if-requires : tie.Need-clear-if-requires
 clear-if-requires c κs =
     rw (c .before .before .before .load-unless .kept .0)
     (lt-length-set (c .before .before .before .before .before .before .before .before .before .before .before .args .m .now) (c .before .before .before .before .before .before .before .before .before .modifier-word .result) (c .before .before .before .before .before .mmode-by .result) {i = c .before .before .before .before .before .before .before .modifier-word3 .result}
-    (omega (arith, c .before .before .before .before .before .before .before .before .before .before .before .pre .modifiers, c .before .before .before .before .before .before .before .modifier-word3 .ensures .1)))
+    (omega (arith, c .before .before .before .before .before .before .before .before .before .before .before .pre .all, c .before .before .before .before .before .before .before .modifier-word3 .ensures .1)))
 
 same-length : tie.Need-same-length
 same-length c =

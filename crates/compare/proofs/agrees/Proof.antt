@@ -2,7 +2,7 @@
 -- Assumes nothing.
 use borrow.Author.Needs.{needs}
 use mathlib.Core.Path.{refl}
-use Rattle.machine.specs.Questions.{zeros}
+use Rattle.lists.specs.Lists.{zeros}
 use Rattle.compare.proofs.Agreeing.{as-many, agrees-by}
 use Rattle.compare.proofs.agrees.Statement.{statement}
 use Rattle.compare.proofs.agrees.Tie as tie

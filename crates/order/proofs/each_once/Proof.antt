@@ -5,7 +5,7 @@ use Prim.Native.Nat.{_≤_, _-_}
 use native.Mathlib.Omega.{arith}
 use borrow.Author.Tests.{not-true, not-false}
 use lib.ListN.{length, drop}
-use Rattle.machine.specs.Questions.{zeros}
+use Rattle.lists.specs.Lists.{zeros}
 use Rattle.order.specs.Order.{eachOnce}
 use Rattle.order.specs.Loops.{eachUnmarked}
 use Rattle.order.proofs.Marks.{unmarked-next, unmarked-stop, unmarked-end, marks-once}

@@ -1,17 +1,18 @@
 -- `order::in_modes` meets its contract: the counts so far are those of the generators passed.
 -- Assumes nothing.
-use mathlib.Core.Path.{_≡_, refl}
+use mathlib.Core.Path.{_≡_, refl, sym, ap, _∙_}
 use mathlib.Core.Bool.{cond}
 use mathlib.Core.List.{List}
 use Prim.Native.Nat.{ℕ, _+_, _-_, _≤_}
 use native.Mathlib.Omega.{arith}
 use lib.Dec.{eqb}
-use lib.ListN.{getD}
 use Rattle.lists.specs.Lists.{countBelow}
 use Rattle.lists.proofs.Counts.{count-below-next, count-below-le}
-use Rattle.order.specs.Order.{runModeAt, inMode}
+use Rattle.order.specs.Order.{inMode}
 use Rattle.order.proofs.in_modes.Statement.{statement}
 use Rattle.order.proofs.in_modes.Tie as tie
+use Rattle.layout.specs.Machine.{ticksOf, runModeAt}
+use Rattle.modes.specs.Modes.{readData, writeData}
 
 -- How many of the first g generators are in a run mode, and one generator more.
 abbrev among : List ℕ → ℕ → ℕ → ℕ
@@ -23,33 +24,27 @@ next m r g n b p q = rw (p, q) (count-below-next (λ k. eqb (runModeAt m k) r) g
 fits : (m : List ℕ) (r g n : ℕ) → n ≡ among m r g → n ≤ g
 fits m r g n p = rw p (count-below-le (λ k. eqb (runModeAt m k) r) g)
 
+-- A mode that is read, as a count of 0 or 1.
+one : (m : List ℕ) (g r : ℕ) {run n : ℕ} → run ≡ runModeAt m g → n ≡ cond (eqb run r) 1 0 → n ≡ cond (eqb (runModeAt m g) r) 1 0
+one m g r e f = f ∙ ap (λ (x : ℕ). cond (eqb x r) 1 0) e
+
 abbrev Inv-loop : tie.InvT-loop
-Inv-loop m t reads₀ writes₀ g₀ reads writes g = (g ≤ t) × (reads ≡ among m 7 g) × (writes ≡ among m 3 g)
+Inv-loop m t reads₀ writes₀ g₀ reads writes g = (g ≤ t) × (reads ≡ among m readData g) × (writes ≡ among m writeData g)
 
 abbrev μ-loop : tie.MeasureT-loop
 μ-loop m t reads₀ writes₀ g₀ reads writes g = t - g
 
-shared-slice-read-t : tie.Need-shared-slice-read-t Inv-loop μ-loop
-shared-slice-read-t c = omega arith
-
-cast-t : tie.Need-cast-t Inv-loop μ-loop
-cast-t c = omega arith
+ticks-requires : tie.Need-ticks-requires Inv-loop μ-loop
+ticks-requires c κs = c .before .pre .0
 
 loop-holds : tie.Need-loop-holds Inv-loop μ-loop
 unfolding countBelow
 loop-holds c = (omega arith, refl, refl)
 
-mul-run : tie.Need-mul-run Inv-loop μ-loop
-mul-run c = omega arith
-
-add-run : tie.Need-add-run Inv-loop μ-loop
-add-run c = omega arith
-
-mul-run-2 : tie.Need-mul-run-2 Inv-loop μ-loop
-mul-run-2 c = omega arith
-
-shared-slice-read-run : tie.Need-shared-slice-read-run Inv-loop μ-loop
-shared-slice-read-run c = omega arith
+run-mode-requires : tie.Need-run-mode-requires Inv-loop μ-loop
+run-mode-requires c κs =
+    let begun = c .before .before in
+    (begun .before .before .pre .0, omega (arith, begun .ticks .ensures, begun .before .before .pre .1))
 
 is-mode-requires : tie.Need-is-mode-requires Inv-loop μ-loop
 is-mode-requires c κs = tt
@@ -58,7 +53,8 @@ add-reads : tie.Need-add-reads Inv-loop μ-loop
 add-reads c =
     let z = c .before .before .before in
     let m = z .before .before .before .args .m .now in
-    omega (arith, fits m 7 (z .loop .g + 1) _ (next m 7 (z .loop .g) _ _ (z .loop .inv .1) (c .is-mode .ensures)))
+    let counted = one m (z .loop .g) readData (c .before .run-mode .ensures) (c .is-mode .ensures) in
+    omega (arith, fits m readData (z .loop .g + 1) _ (next m readData (z .loop .g) _ _ (z .loop .inv .1) counted))
 
 is-mode-requires-2 : tie.Need-is-mode-requires-2 Inv-loop μ-loop
 is-mode-requires-2 c κs = tt
@@ -67,7 +63,8 @@ add-writes : tie.Need-add-writes Inv-loop μ-loop
 add-writes c =
     let z = c .before .before .before .before in
     let m = z .before .before .before .args .m .now in
-    omega (arith, fits m 3 (z .loop .g + 1) _ (next m 3 (z .loop .g) _ _ (z .loop .inv .2) (c .is-mode2 .ensures)))
+    let counted = one m (z .loop .g) writeData (c .before .before .run-mode .ensures) (c .is-mode2 .ensures) in
+    omega (arith, fits m writeData (z .loop .g + 1) _ (next m writeData (z .loop .g) _ _ (z .loop .inv .2) counted))
 
 add-g : tie.Need-add-g Inv-loop μ-loop
 add-g c = omega arith
@@ -78,17 +75,19 @@ loop-less c = omega arith
 loop-again : tie.Need-loop-again Inv-loop μ-loop
 loop-again c =
     let z = c .before .before .before .before in
-    let m = z .before .before .before .args .m .now in (
+    let m = z .before .before .before .args .m .now in
+    let run = c .before .before .run-mode .ensures in (
       omega arith,
-      next m 7 (z .loop .g) _ _ (z .loop .inv .1) (c .before .is-mode .ensures),
-      next m 3 (z .loop .g) _ _ (z .loop .inv .2) (c .is-mode2 .ensures),
+      next m readData (z .loop .g) _ _ (z .loop .inv .1) (one m (z .loop .g) readData run (c .before .is-mode .ensures)),
+      next m writeData (z .loop .g) _ _ (z .loop .inv .2) (one m (z .loop .g) writeData run (c .is-mode2 .ensures)),
     )
 
 returns : tie.Need-returns Inv-loop μ-loop
 unfolding inMode
 returns c =
     let z = c .before in
-    let e : z .loop .g ≡ getD (z .before .before .before .args .m .now) 4113 0 = omega arith in
+    let begun = z .before in
+    let e : z .loop .g ≡ ticksOf (begun .before .before .args .m .now) = omega (arith, begun .ticks .ensures) in
     (rw (← e) (z .loop .inv .1), rw (← e) (z .loop .inv .2))
 
 pub in-modes-spec : {M : Type 1} → statement M
@@ -97,13 +96,9 @@ in-modes-spec =
     (tie.spec
     Inv-loop
     μ-loop
-    shared-slice-read-t
-    cast-t
+    ticks-requires
     loop-holds
-    mul-run
-    add-run
-    mul-run-2
-    shared-slice-read-run
+    run-mode-requires
     is-mode-requires
     add-reads
     is-mode-requires-2

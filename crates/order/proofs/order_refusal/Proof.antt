@@ -4,7 +4,7 @@ use mathlib.Core.Path.{_≡_, refl, sym, _∙_}
 use mathlib.Core.Bool.{true, false}
 use borrow.Author.Needs.{needs}
 use borrow.Author.Tests.{eq-eqb, ne-eqb, not-true, not-false}
-use Rattle.machine.specs.Questions.{asked}
+use Rattle.questions.specs.Questions.{asked}
 use Rattle.order.specs.Order.{eachOnce}
 use Rattle.order.proofs.order_refusal.Statement.{statement}
 use Rattle.order.proofs.order_refusal.Tie as tie

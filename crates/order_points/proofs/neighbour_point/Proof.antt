@@ -6,7 +6,7 @@ use native.Mathlib.Omega.{arith}
 use borrow.Author.Tests.{not-true, not-false}
 use Rattle.order_lists.specs.Sequences.{firstFailing}
 use Rattle.order_lists.proofs.Loops.{failing-zero, failing-next, failing-here}
-use Rattle.order.specs.Order.{ticksOf}
+use Rattle.layout.specs.Machine.{ticksOf}
 use Rattle.order_points.specs.Loops.{neighbourBy}
 use Rattle.order_points.proofs.Neighbours.{neighbours-held}
 use Rattle.order_points.proofs.neighbour_point.Statement.{statement}

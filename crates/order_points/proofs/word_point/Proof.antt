@@ -2,7 +2,7 @@
 -- Assumes nothing.
 use borrow.Author.Needs.{needs}
 use mathlib.Core.Path.{refl, _∙_}
-use Rattle.machine.specs.Questions.{zeros}
+use Rattle.lists.specs.Lists.{zeros}
 use Rattle.order_points.proofs.ReplacedWords.{lasts-low, words-held}
 use Rattle.order_points.proofs.word_point.Statement.{statement}
 use Rattle.order_points.proofs.word_point.Tie as tie

@@ -4,7 +4,7 @@ use mathlib.Core.Path.{_∙_}
 use Prim.Native.Nat.{_≤_}
 use native.Mathlib.Omega.{arith}
 use Rattle.lists.proofs.Counts.{count-below-le}
-use Rattle.order.specs.Order.{ticksOf}
+use Rattle.layout.specs.Machine.{ticksOf}
 use Rattle.order_agreement.specs.Agreement.{settingsOf}
 use Rattle.order_points.proofs.Differences.{writers-held}
 use Rattle.order_points.proofs.writer_point.Statement.{statement}

@@ -45,8 +45,8 @@ pub send-spec : {M : Type 1} → statement M
 send-spec =
     tie.close
     (tie.spec
-    add-at
     cast-at
+    add-at
     mul-m
     slice-write-m
     same-length

@@ -40,7 +40,7 @@ most-commands-requires c κs = passes-reach _ (sym (c .before .before .before .b
 slice-write-m : tie.Need-slice-write-m
 slice-write-m c =
     let r = passes-reach (c .before .before .before .before .before .before .before .before .before .before .args .m .now) (sym (c .before .before .before .before .before .before .refusal .ensures) ∙ c .before .before .before .before .before .if1 .left) in
-    omega (arith, r .controls)
+    omega (arith, r .all)
 
 run-requires : tie.Need-run-requires
 run-requires c κs =

@@ -6,8 +6,8 @@ use native.Mathlib.Nat.{mod-lt, add-zero}
 use native.Mathlib.Omega.{arith}
 use borrow.Author.Needs.{needs}
 use lib.ListN.{getD}
-use Rattle.order_traces.proofs.dac_number.Statement.{statement}
-use Rattle.order_traces.proofs.dac_number.Tie as tie
+use Rattle.layout.proofs.dac_number.Statement.{statement}
+use Rattle.layout.proofs.dac_number.Tie as tie
 
 mul-wide : tie.Need-mul-wide
 mul-wide c = search needs

@@ -1,0 +1,50 @@
+-- A machine is a run of words; what stands at its places, by name.
+-- Assumes nothing.
+use Prim.Native.Nat.{ℕ, _+_, _/_, _%_, _^_, _≤_}
+use mathlib.Core.List.{List}
+use lib.ListN.{length, getD}
+use Rattle.layout.specs.Layout.{machineLength, generatorAt, tAt, GSUM, GFM, GMODE}
+
+-- The words of a machine; an order of the generators, by number; read items; places for written items; commands.
+abbrev pub Machine : Type 0
+Machine = List ℕ
+
+abbrev pub Order : Type 0
+Order = List ℕ
+
+abbrev pub Items : Type 0
+Items = List ℕ
+
+abbrev pub Places : Type 0
+Places = List ℕ
+
+abbrev pub Commands : Type 0
+Commands = List ℕ
+
+-- Sum memory: four quadrants of words.
+abbrev pub Sums : Type 0
+Sums = List (List ℕ)
+
+-- A run that has all of a machine's words. What a function asks of a machine's length is this, never the length itself.
+pub record Reaches (m : Machine) : Type 0 where
+  pub all : machineLength ≤ length m
+
+-- T.
+abbrev pub ticksOf : Machine → ℕ
+ticksOf m = getD m tAt 0
+
+-- GMODE, GSUM and GFM of generator g; its run mode, the left 4 of GMODE's 10 bits; its DAC number, the low 4 bits of GO, its first word.
+abbrev pub gmodeAt : Machine → ℕ → ℕ
+gmodeAt m g = getD m (generatorAt g + GMODE) 0
+
+abbrev pub gsumAt : Machine → ℕ → ℕ
+gsumAt m g = getD m (generatorAt g + GSUM) 0
+
+abbrev pub gfmAt : Machine → ℕ → ℕ
+gfmAt m g = getD m (generatorAt g + GFM) 0
+
+abbrev pub runModeAt : Machine → ℕ → ℕ
+runModeAt m g = gmodeAt m g / 2 ^ 6
+
+abbrev pub dacNumberAt : Machine → ℕ → ℕ
+dacNumberAt m g = getD m (generatorAt g) 0 % 2 ^ 4
