@@ -16,31 +16,31 @@ use Rattle.modifier_filters.specs.Filters.{onePole, oneZero, twoPoles, twoPoles
 unfoldable pub turnOf : Modifier → ℕ → ℕ → Turned
 turnOf u a b =
     let f = functionOf u in
-    cond (eqb f 2) (uniformNoise u)  -- 00010: uniform noise
-    (cond (eqb f 3) (triggeredNoise u b)  -- 00011: triggered uniform noise
-    (cond (eqb f 4) (latch u a b)  -- 00100: latch
-    (cond (eqb f 6) (threshold u a b)  -- 00110: threshold
-    (cond (eqb f 8) (twoPoles u a)  -- 01000: two poles
-    (cond (eqb f 9) (twoPolesM0Variable u a b)  -- 01001: two poles, M0 variable
-    (cond (eqb f 11) (twoPolesM1Variable u a b)  -- 01011: two poles, M1 variable
-    (cond (eqb f 12) (twoZeros u a)  -- 01100: two zeros
-    (cond (eqb f 13) (twoZerosM0Variable u a b)  -- 01101: two zeros, M0 variable
-    (cond (eqb f 15) (twoZerosM1Variable u a b)  -- 01111: two zeros, M1 variable
-    (cond (eqb f 16) (integerMixing u a b)  -- 10000: integer mixing
-    (cond (eqb f 17) (onePole u b)  -- 10001: one pole
-    (cond (eqb f 20) (mixing u a b)  -- 10100: mixing
-    (cond (eqb f 22) (oneZero u a)  -- 10110: one zero
-    (cond (eqb f 24) (fourQuadrant u a b)  -- 11000: four-quadrant multiplication
-    (cond (eqb f 25) (amplitudeModulation u a b)  -- 11001: amplitude modulation
-    (cond (eqb f 26) (maximum u a b)  -- 11010: maximum
-    (cond (eqb f 27) (minimum u a b)  -- 11011: minimum
-    (cond (eqb f 28) (signum u a b)  -- 11100: signum
-    (cond (eqb f 29) (pulser u b)  -- 11101: zero-crossing pulser
-    (inactive u))))))))))))))))))))  -- 00000: inactive
+    cond (eqb f 0b00010) (uniformNoise u)  -- uniform noise
+    (cond (eqb f 0b00011) (triggeredNoise u b)  -- triggered uniform noise
+    (cond (eqb f 0b00100) (latch u a b)  -- latch
+    (cond (eqb f 0b00110) (threshold u a b)  -- threshold
+    (cond (eqb f 0b01000) (twoPoles u a)  -- two poles
+    (cond (eqb f 0b01001) (twoPolesM0Variable u a b)  -- two poles, M0 variable
+    (cond (eqb f 0b01011) (twoPolesM1Variable u a b)  -- two poles, M1 variable
+    (cond (eqb f 0b01100) (twoZeros u a)  -- two zeros
+    (cond (eqb f 0b01101) (twoZerosM0Variable u a b)  -- two zeros, M0 variable
+    (cond (eqb f 0b01111) (twoZerosM1Variable u a b)  -- two zeros, M1 variable
+    (cond (eqb f 0b10000) (integerMixing u a b)  -- integer mixing
+    (cond (eqb f 0b10001) (onePole u b)  -- one pole
+    (cond (eqb f 0b10100) (mixing u a b)  -- mixing
+    (cond (eqb f 0b10110) (oneZero u a)  -- one zero
+    (cond (eqb f 0b11000) (fourQuadrant u a b)  -- four-quadrant multiplication
+    (cond (eqb f 0b11001) (amplitudeModulation u a b)  -- amplitude modulation
+    (cond (eqb f 0b11010) (maximum u a b)  -- maximum
+    (cond (eqb f 0b11011) (minimum u a b)  -- minimum
+    (cond (eqb f 0b11100) (signum u a b)  -- signum
+    (cond (eqb f 0b11101) (pulser u b)  -- zero-crossing pulser
+    (inactive u))))))))))))))))))))  -- inactive (00000)
 
 -- The functions whose A, in modifier-this, sees the writes up to m-1: latch, the two-pole and the two-zero modes, one zero.
 unfoldable pub lateFunctions : List ℕ
-lateFunctions = 4 ∷ 8 ∷ 9 ∷ 11 ∷ 12 ∷ 13 ∷ 15 ∷ 22 ∷ []
+lateFunctions = 0b00100 ∷ 0b01000 ∷ 0b01001 ∷ 0b01011 ∷ 0b01100 ∷ 0b01101 ∷ 0b01111 ∷ 0b10110 ∷ []
 
 -- Whether a function is one of those.
 unfoldable pub readsLate : ℕ → Bool
@@ -48,7 +48,7 @@ readsLate f = isOneOf f lateFunctions
 
 -- The functions that are built: those of the 1978 text's list, all but 00111.
 unfoldable pub builtFunctions : List ℕ
-builtFunctions = 0 ∷ 2 ∷ 3 ∷ 4 ∷ 6 ∷ 8 ∷ 9 ∷ 11 ∷ 12 ∷ 13 ∷ 15 ∷ 16 ∷ 17 ∷ 20 ∷ 22 ∷ 24 ∷ 25 ∷ 26 ∷ 27 ∷ 28 ∷ 29 ∷ []
+builtFunctions = 0b00000 ∷ 0b00010 ∷ 0b00011 ∷ 0b00100 ∷ 0b00110 ∷ 0b01000 ∷ 0b01001 ∷ 0b01011 ∷ 0b01100 ∷ 0b01101 ∷ 0b01111 ∷ 0b10000 ∷ 0b10001 ∷ 0b10100 ∷ 0b10110 ∷ 0b11000 ∷ 0b11001 ∷ 0b11010 ∷ 0b11011 ∷ 0b11100 ∷ 0b11101 ∷ []
 
 -- Whether a function is built.
 unfoldable pub builtFunction : ℕ → Bool

@@ -7,10 +7,10 @@ use modifier::Modifier;
 use modifier::Turned;
 
 // Bit f is 1 where function f reads A late.
-const LATE: u32 = 4242192;
+const LATE: u32 = 0b0000_0000_0100_0000_1011_1011_0001_0000;
 
 // Bit f is 1 where function f is built.
-const BUILT: u32 = 1062452061;
+const BUILT: u32 = 0b0011_1111_0101_0011_1011_1011_0101_1101;
 
 // The turn by the function's code: the registers afterwards, and S.
 pub fn turn(u: Modifier, a: u32, b: u32) -> Turned
@@ -20,26 +20,26 @@ pub fn turn(u: Modifier, a: u32, b: u32) -> Turned
 {
     let f = u.function();
     match f {
-        2 => modifier_modulators::uniform_noise(u),
-        3 => modifier_modulators::triggered_noise(u, b),
-        4 => modifier_modulators::latch(u, a, b),
-        6 => modifier_mixers::threshold(u, a, b),
-        8 => modifier_filters::two_poles(u, a),
-        9 => modifier_filters::two_poles_m0_variable(u, a, b),
-        11 => modifier_filters::two_poles_m1_variable(u, a, b),
-        12 => modifier_filters::two_zeros(u, a),
-        13 => modifier_filters::two_zeros_m0_variable(u, a, b),
-        15 => modifier_filters::two_zeros_m1_variable(u, a, b),
-        16 => modifier_mixers::integer_mixing(u, a, b),
-        17 => modifier_filters::one_pole(u, b),
-        20 => modifier_mixers::mixing(u, a, b),
-        22 => modifier_filters::one_zero(u, a),
-        24 => modifier_modulators::four_quadrant(u, a, b),
-        25 => modifier_modulators::amplitude_modulation(u, a, b),
-        26 => modifier_mixers::maximum(u, a, b),
-        27 => modifier_mixers::minimum(u, a, b),
-        28 => modifier_mixers::signum(u, a, b),
-        29 => modifier_modulators::pulser(u, b),
+        0b00010 => modifier_modulators::uniform_noise(u),
+        0b00011 => modifier_modulators::triggered_noise(u, b),
+        0b00100 => modifier_modulators::latch(u, a, b),
+        0b00110 => modifier_mixers::threshold(u, a, b),
+        0b01000 => modifier_filters::two_poles(u, a),
+        0b01001 => modifier_filters::two_poles_m0_variable(u, a, b),
+        0b01011 => modifier_filters::two_poles_m1_variable(u, a, b),
+        0b01100 => modifier_filters::two_zeros(u, a),
+        0b01101 => modifier_filters::two_zeros_m0_variable(u, a, b),
+        0b01111 => modifier_filters::two_zeros_m1_variable(u, a, b),
+        0b10000 => modifier_mixers::integer_mixing(u, a, b),
+        0b10001 => modifier_filters::one_pole(u, b),
+        0b10100 => modifier_mixers::mixing(u, a, b),
+        0b10110 => modifier_filters::one_zero(u, a),
+        0b11000 => modifier_modulators::four_quadrant(u, a, b),
+        0b11001 => modifier_modulators::amplitude_modulation(u, a, b),
+        0b11010 => modifier_mixers::maximum(u, a, b),
+        0b11011 => modifier_mixers::minimum(u, a, b),
+        0b11100 => modifier_mixers::signum(u, a, b),
+        0b11101 => modifier_modulators::pulser(u, b),
         _ => modifier_mixers::inactive(u),
     }
 }

@@ -30,9 +30,9 @@ sineWave k gm = cond (negative k) (negℤ (pos (magnitude k / 2 ^ gm))) (pos (ma
 -- W by the oscillator mode, of K as a word of 13 bits, GM, and whether a signed sum of the generator left its range.
 unfoldable pub waveOf : ℕ → ℕ → ℕ → Bool → ℤ
 waveOf mode k gm left =
-    cond (eqb mode 1) (sawtooth (signed 13 k))
-    (cond (eqb mode 2) (square (signed 13 k))
-    (cond (eqb mode 3) (pulse left)
+    cond (eqb mode 0b0001) (sawtooth (signed 13 k))
+    (cond (eqb mode 0b0010) (square (signed 13 k))
+    (cond (eqb mode 0b0011) (pulse left)
     (sineWave k gm)))
 
 -- A sign and magnitude r stands for the wave w, and its magnitude has 12 bits.
