@@ -1,8 +1,8 @@
 /* karvelorn.h: a 1978 synthesizer in whole numbers, for a host in C99 or C++.
  *
- * The library is target/staticlib/libhost.a (made by `rt staticlib host`). It needs only memcpy and memset of the C
- * library, keeps nothing between calls, allocates nothing and prints nothing. Calls on different machines may run at
- * the same time. examples/ring_host.c is a whole host to start from.
+ * The library is target/staticlib/libhost.a (made by `rt staticlib host`), for x86-64. It needs only memcpy, memset and
+ * memcmp of the C library, keeps nothing between calls, allocates nothing and prints nothing. Calls on different
+ * machines may run at the same time. examples/ring_host.c is a whole host to start from.
  *
  * A run of words is a pointer to its first uint32_t and then how many words it has. A machine is a run that the host
  * owns; between calls the host may read and write any of its words.
@@ -50,7 +50,8 @@
  *   GMODE   run mode (4 bits): 0000 inactive, 0001 pause, 0010 to a DAC (the one that GO's low 4 bits name), 0011 write
  *           data, 0111 read data, 1001 wait, 1101, 1110 and 1111 running; envelope mode (2): 00 and 10 take Q from GL,
  *           01 and 11 add it, 10 and 11 by the exponential; oscillator mode (4): 0000 sine of GK, 0001 sawtooth, 0010
- *           square, 0011 pulse train, 1000 sine of GJ. Other run and oscillator modes are not built
+ *           square, 0011 pulse train, 1000 sine of J, the high 20 bits of GJ plus the word at GFM. Other run and
+ *           oscillator modes are not built
  *   GFM     0 generator-last or 1 modifier-last, then the word (6)
  *   MMODE   function (5): 00000 inactive, 00010 noise, 00011 triggered noise, 00100 latch, 00110 threshold, 01000 two
  *           poles, 01001 with M0 variable, 01011 with M1 variable, 01100 two zeros, 01101 with M0 variable, 01111 with

@@ -1,4 +1,4 @@
-"""Compares the example host in C with the reference, and tries the header from C and C++.
+"""Compares the example host in C with the reference, tries the header from C and C++, and links the library alone.
 
     python3 tests/host.py [COUNT] [SEED]
 
@@ -23,6 +23,7 @@ INCLUDE = os.path.join(ROOT, "include")
 HEADER = os.path.join(INCLUDE, "karvelorn.h")
 SOURCE = os.path.join(ROOT, "examples", "ring_host.c")
 GUARD = os.path.join(ROOT, "tests", "host_guard.c")
+ALONE = os.path.join(ROOT, "tests", "alone.c")
 GUARDED = tuple("-Wl,--wrap=karvelorn_" + call for call in ("fresh", "pass", "update"))
 HOST = os.path.join(ROOT, "target", "ring_host")
 WARNINGS = ("-Wall", "-Wextra", "-Werror", "-pedantic")
@@ -46,11 +47,17 @@ def header_compiles():
     return compiled("g++", *WARNINGS, "-fsyntax-only", "-x", "c++", HEADER)
 
 
+def links_alone():
+    """Whether the library needs nothing of the C library but what the header names."""
+    return compiled("gcc", "-std=c99", *WARNINGS, "-ffreestanding", "-nostdlib", "-static", "-I", INCLUDE,
+                    ALONE, LIBRARY, "-o", os.path.join(ROOT, "target", "alone"))
+
+
 def build():
     """Builds the host; says whether that went well."""
     if not library_is_new():
         subprocess.run(["rt", "staticlib", "host"], cwd=ROOT, check=True, stdout=subprocess.DEVNULL)
-    return compiled("gcc", "-std=c99", *WARNINGS, *SANITIZERS, *GUARDED, "-I", INCLUDE,
+    return links_alone() and compiled("gcc", "-std=c99", *WARNINGS, *SANITIZERS, *GUARDED, "-I", INCLUDE,
                     SOURCE, GUARD, LIBRARY, "-o", HOST)
 
 

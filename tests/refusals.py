@@ -1,0 +1,68 @@
+"""Reads why each must-fail edit was refused, after `rt ci` or `rt must-fail` has tried them: the first error of an edit
+must be a fact that fails, not a name, a field or a shape that the proof file no longer fits. An edit of a definition
+carries the prefix `definition_`, and no other edit changes one.
+
+    python3 tests/refusals.py [CRATE..]
+"""
+
+import re
+import sys
+from pathlib import Path
+
+ROOT = Path(__file__).resolve().parent.parent
+LOGS = ROOT / "target" / "must-fail"
+
+# First errors that only say that the text no longer fits.
+SHAPE = (
+    r"that can be named from here",
+    r"has no field",
+    r"is not in scope",
+    r"expected type `[\w.]*Need-[\w-]+[^`]*`, but this has type `[\w.]*Need-",
+    r"error\[",
+    r"was not admitted",
+    r"no proof: expected",
+    r"takes \d+ arguments?",
+    r"parse|unexpected",
+)
+
+
+def first_error(log):
+    """The first line of a log that reports an error."""
+    for line in log.read_text(errors="replace").splitlines():
+        if "error" in line and not line.startswith(("note", "help")):
+            return line
+    return ""
+
+
+def faults(crates):
+    """What is wrong, a line each; the number of edits looked at is the last item."""
+    seen = 0
+    for edit in sorted(ROOT.glob("crates/*/must-fail/*.edit")):
+        crate, label = edit.parent.parent.name, edit.stem
+        if crates and crate not in crates:
+            continue
+        seen += 1
+        of_definition = any(line.startswith("file: specs/") for line in edit.read_text().splitlines())
+        if of_definition != label.startswith("definition_"):
+            yield f"{crate}/{label}: " + ("changes a definition without the prefix definition_" if of_definition else "has the prefix definition_ and changes none")
+        log = LOGS / crate / label / ".log"
+        if not log.exists():
+            yield f"{crate}/{label}: has no log (run rt ci or rt must-fail first)"
+            continue
+        error = first_error(log)
+        if not error:
+            yield f"{crate}/{label}: its log has no error"
+        elif any(re.search(pattern, error) for pattern in SHAPE):
+            yield f"{crate}/{label}: refused for its shape, not for a fact: {error[-300:]}"
+    yield seen
+
+
+def main():
+    found = list(faults(sys.argv[1:]))
+    seen = found.pop()
+    print("\n".join(found) if found else f"{seen} edits, each refused because a fact fails")
+    sys.exit(1 if found or not seen else 0)
+
+
+if __name__ == "__main__":
+    main()
