@@ -3,7 +3,6 @@
 #define _POSIX_C_SOURCE 199309L
 #include "plain.h"
 
-#include <stdio.h>
 #include <string.h>
 
 /* The questions of a compare. */
@@ -86,6 +85,8 @@ __attribute__((noinline)) uint32_t plain_compare(const uint32_t *m, size_t words
     return 0;
 }
 
+#ifndef ONLY_PLAIN
+
 /* Machines and orders. */
 
 static const uint32_t runs[16] = {RUNNING_A, RUNNING_B, RUNNING_C, WAIT,      RUNNING_A, RUNNING_B, WRITE_DAC, WRITE_DATA,
@@ -157,9 +158,9 @@ static int alike(int cases) {
 
 /* The timing. */
 
-enum { ROUNDS = 1001, WARM = 200 };
-
 typedef uint32_t compare_function(const uint32_t *, size_t, const uint32_t *, size_t, const uint32_t *, size_t, uint32_t *);
+
+compare_function plain_compare_o3;
 
 /* The time of one compare, from a number of them in a row. */
 static double timed(compare_function *compare, const uint32_t *m, const uint32_t *first, const uint32_t *second, int times) {
@@ -178,25 +179,30 @@ static double timed(compare_function *compare, const uint32_t *m, const uint32_t
 }
 
 /* Two orders that are equal, not the same, of a machine with all run modes. */
-static void time_both(uint32_t t, int times) {
+static void time_all(uint32_t t, int times_each) {
+    static compare_function *const sides[SIDES] = {karvelorn_compare, plain_compare, plain_compare_o3};
     static uint32_t m[KARVELORN_WORDS], first[256], second[256];
-    static double proved_times[ROUNDS], plain_times[ROUNDS];
+    static double times[SIDES][ROUNDS];
+    char call[32];
     make_machine(m, t, 64, 128);
     make_order(first, t);
     memcpy(second, first, sizeof second);
     move_on(m, first, second, 20000);
-    for (int i = -WARM; i < ROUNDS; i++) {
-        double a = timed(karvelorn_compare, m, first, second, times), b = timed(plain_compare, m, first, second, times);
-        if (i >= 0) proved_times[i] = a, plain_times[i] = b;
-    }
-    double a = median(proved_times, ROUNDS), b = median(plain_times, ROUNDS);
-    printf("compare at T=%u: R %.0f ns, C %.0f ns, ratio %.2f\n", t, a, b, a / b);
+    for (int i = -WARM; i < ROUNDS; i++)
+        for (int side = 0; side < SIDES; side++) {
+            double time = timed(sides[side], m, first, second, times_each);
+            if (i >= 0) times[side][i] = time;
+        }
+    snprintf(call, sizeof call, "compare at T=%u", t);
+    print_times(call, times);
 }
 
 int main(void) {
     if (!alike(200000)) return 1;
-    time_both(256, 20);
-    time_both(64, 40);
-    time_both(1, 80);
+    time_all(256, 20);
+    time_all(64, 40);
+    time_all(1, 80);
     return 0;
 }
+
+#endif

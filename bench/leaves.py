@@ -1,4 +1,4 @@
-"""Runs target/bin/speed and target/bench/leaves by turns on the same generators; bench/leaves calls it.
+"""Runs target/bin/speed and the plain C, at -O2 and at -O3, by turns on the same generators; bench/leaves calls it.
 
 The time is the processor's, so that other work on the machine disturbs it less. The ratio
 is the median of the ratios of neighbouring runs, since the machine's pace may change.
@@ -13,7 +13,8 @@ from statistics import median
 
 from reference.tables import EXPONENTIAL, SINE
 
-RATTLE, C, TABLES = "target/bin/speed", "target/bench/leaves", "target/bench/tables"
+RATTLE, TABLES = "target/bin/speed", "target/bench/tables"
+PLAIN = {"-O2": "target/bench/leaves_O2", "-O3": "target/bench/leaves_O3"}
 RUNS = 61
 SEED = 1978
 GENERATORS = 256
@@ -47,21 +48,24 @@ def timed(command, given):
 
 
 def measure(job, number, what, count, each, words):
-    """Both programs by turns; prints the line of a job, and says whether their checksums agree."""
+    """The programs by turns; prints the line of a job, and says whether their checksums agree."""
     body = struct.pack("<%dI" % len(words), *words)
-    commands = (([RATTLE], struct.pack("<2I", number, count) + body), ([C, TABLES, job, str(count)], body))
-    seconds, printed = ([], []), (set(), set())
+    commands = [([RATTLE], struct.pack("<2I", number, count) + body)]
+    commands += [([program, TABLES, job, str(count)], body) for program in PLAIN.values()]
+    seconds, printed = [[] for _ in commands], set()
     for _ in range(RUNS):
-        for side, (command, given) in enumerate(commands):
-            text, taken = timed(command, given)
-            printed[side].add(text)
-            seconds[side].append(taken)
-    if printed[0] != printed[1] or len(printed[0]) != 1:
-        print("%s: the checksums differ: Rattle %s, C %s" % (what, *printed))
+        for taken, (command, given) in zip(seconds, commands):
+            text, time = timed(command, given)
+            printed.add(text)
+            taken.append(time)
+    if len(printed) != 1:
+        print("%s: the checksums differ: %s" % (what, printed))
         return False
-    rattle, c = (median(taken) / count / each * 1e9 for taken in seconds)
-    ratio = median(a / b for a, b in zip(*seconds))
-    print("%s: Rattle %.2f ns, C %.2f ns, ratio %.2f" % (what, rattle, c, ratio))
+    line = "%s: R %.2f ns" % (what, median(seconds[0]) / count / each * 1e9)
+    for level, taken in zip(PLAIN, seconds[1:]):
+        ratio = median(a / b for a, b in zip(seconds[0], taken))
+        line += "; C %s %.2f ns, ratio %.2f" % (level, median(taken) / count / each * 1e9, ratio)
+    print(line)
     return True
 
 

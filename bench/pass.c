@@ -4,7 +4,6 @@
 #include "plain.h"
 #include "tables.h" /* quarter, entries: made by bench/pass from the reference */
 
-#include <stdio.h>
 #include <string.h>
 
 /* Bit n is 1 where function n reads A late. */
@@ -218,12 +217,14 @@ __attribute__((noinline)) uint32_t plain_pass(uint32_t *m, size_t words, const u
     return 0;
 }
 
-/* The timing. */
+#ifndef ONLY_PLAIN
 
-enum { ROUNDS = 1001, WARM = 200 };
+/* The timing. */
 
 typedef uint32_t pass_function(uint32_t *, size_t, const uint32_t *, size_t, const uint32_t *, size_t, uint32_t *,
                                size_t, size_t *, size_t *);
+
+pass_function plain_pass_o3;
 
 /* Sines under exponential envelopes, sticky and free in turn, and T/2 mixing modifiers. */
 static void make_machine(uint32_t *m, uint32_t t) {
@@ -266,21 +267,24 @@ static double timed(pass_function *pass, uint32_t *m, const uint32_t *order, int
     return (now() - start) / passes;
 }
 
-/* Both passes in turn, each on a machine of its own that begins alike; whether they end alike. */
+/* The passes in turn, each on a machine of its own that begins alike; whether they end alike. */
 static int compare(uint32_t t, int passes) {
-    static uint32_t proved[KARVELORN_WORDS], plain[KARVELORN_WORDS], order[256];
-    static double proved_times[ROUNDS], plain_times[ROUNDS];
-    make_machine(proved, t);
-    memcpy(plain, proved, sizeof plain);
+    static pass_function *const sides[SIDES] = {karvelorn_pass, plain_pass, plain_pass_o3};
+    static uint32_t machines[SIDES][KARVELORN_WORDS], order[256];
+    static double times[SIDES][ROUNDS];
+    char call[32];
+    make_machine(machines[PROVED], t);
+    for (int side = PLAIN; side < SIDES; side++) memcpy(machines[side], machines[PROVED], sizeof *machines);
     for (uint32_t i = 0; i < t; i++) order[i] = i;
-    for (int i = -WARM; i < ROUNDS; i++) {
-        double a = timed(karvelorn_pass, proved, order, passes), b = timed(plain_pass, plain, order, passes);
-        if (i >= 0) proved_times[i] = a, plain_times[i] = b;
-    }
-    double a = median(proved_times, ROUNDS), b = median(plain_times, ROUNDS);
-    printf("pass at T=%u: R %.0f ns, C %.0f ns, ratio %.2f\n", t, a, b, a / b);
-    if (!memcmp(proved, plain, sizeof plain)) return 1;
-    printf("pass at T=%u: the machines differ\n", t);
+    for (int i = -WARM; i < ROUNDS; i++)
+        for (int side = 0; side < SIDES; side++) {
+            double time = timed(sides[side], machines[side], order, passes);
+            if (i >= 0) times[side][i] = time;
+        }
+    snprintf(call, sizeof call, "pass at T=%u", t);
+    print_times(call, times);
+    if (!memcmp(machines[PROVED], machines[PLAIN], sizeof *machines)) return 1;
+    printf("%s: the machines differ\n", call);
     return 0;
 }
 
@@ -290,3 +294,5 @@ int main(void) {
     same &= compare(1, 80);
     return same ? 0 : 1;
 }
+
+#endif

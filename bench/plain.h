@@ -1,9 +1,11 @@
-/* What the plain C beside the proved calls shares: the machine's layout, its questions, drawn numbers and the clock. */
+/* What the plain C beside the proved calls shares: the machine's layout, its questions, drawn numbers and the clock.
+   Each program has its plain C twice: at gcc -O2, and at -O3 from the same file, under another name and with ONLY_PLAIN set. */
 #ifndef BENCH_PLAIN_H
 #define BENCH_PLAIN_H
 
 #include "karvelorn.h"
 
+#include <stdio.h>
 #include <stdlib.h>
 #include <time.h>
 
@@ -63,23 +65,32 @@ SHARED int each_once(const uint32_t *order, uint32_t t) {
 
 /* The timing. */
 
-static uint32_t drawn = 1978;
-static uint32_t draw(uint32_t width) { return (drawn = drawn * 1664525 + 1013904223) >> (32 - width); }
+SHARED uint32_t drawn = 1978;
+SHARED uint32_t draw(uint32_t width) { return (drawn = drawn * 1664525 + 1013904223) >> (32 - width); }
 
-static double now(void) {
+SHARED double now(void) {
     struct timespec t;
     clock_gettime(CLOCK_MONOTONIC, &t);
     return (double)t.tv_sec * 1e9 + (double)t.tv_nsec;
 }
 
-static int ascending(const void *a, const void *b) {
+SHARED int ascending(const void *a, const void *b) {
     double x = *(const double *)a, y = *(const double *)b;
     return (x > y) - (x < y);
 }
 
-static double median(double *times, size_t count) {
+SHARED double median(double *times, size_t count) {
     qsort(times, count, sizeof *times, ascending);
     return times[count / 2];
+}
+
+enum { ROUNDS = 1001, WARM = 200 };
+enum { PROVED, PLAIN, PLAIN_O3, SIDES };
+
+/* The line of a call: the median times of the three sides, and the ratios. */
+SHARED void print_times(const char *call, double times[SIDES][ROUNDS]) {
+    double r = median(times[PROVED], ROUNDS), c2 = median(times[PLAIN], ROUNDS), c3 = median(times[PLAIN_O3], ROUNDS);
+    printf("%s: R %.0f ns; C -O2 %.0f ns, ratio %.2f; C -O3 %.0f ns, ratio %.2f\n", call, r, c2, r / c2, c3, r / c3);
 }
 
 #endif

@@ -3,7 +3,6 @@
 #define _POSIX_C_SOURCE 199309L
 #include "plain.h"
 
-#include <stdio.h>
 #include <string.h>
 
 enum { PAUSE = 1 };
@@ -146,11 +145,15 @@ __attribute__((noinline)) uint32_t plain_update(uint32_t *m, size_t words, const
     return 0;
 }
 
+#ifndef ONLY_PLAIN
+
 /* The timing. */
 
-enum { ROUNDS = 1001, WARM = 200, MOST = 256, KINDS = 16 };
+enum { MOST = 256, KINDS = 16 };
 
 typedef uint32_t update_function(uint32_t *, size_t, const uint32_t *, size_t, size_t *);
+
+update_function plain_update_o3;
 
 /* A command by its data and its right 12 bits. */
 static uint32_t command(uint32_t data, uint32_t right) { return data << 12 | right; }
@@ -207,22 +210,23 @@ static double timed(update_function *update, uint32_t *m, const uint32_t *comman
     return time;
 }
 
-/* Both updates in turn, each on a machine of its own that begins alike; whether they end alike. */
+/* The updates in turn, each on a machine of its own that begins alike; whether they end alike. */
 static int compare(size_t count, int updates) {
-    static uint32_t proved[KARVELORN_WORDS], plain[KARVELORN_WORDS], commands[MOST];
-    static double proved_times[ROUNDS], plain_times[ROUNDS];
-    karvelorn_fresh(proved, KARVELORN_WORDS);
-    memcpy(plain, proved, sizeof plain);
+    static update_function *const sides[SIDES] = {karvelorn_update, plain_update, plain_update_o3};
+    static uint32_t machines[SIDES][KARVELORN_WORDS], commands[MOST];
+    static double times[SIDES][ROUNDS];
+    char call[40];
+    for (int side = 0; side < SIDES; side++) karvelorn_fresh(machines[side], KARVELORN_WORDS);
     for (size_t i = 0; i < count; i++) commands[i] = next_command((int)i);
-    for (int i = -WARM; i < ROUNDS; i++) {
-        double a = timed(karvelorn_update, proved, commands, count, updates);
-        double b = timed(plain_update, plain, commands, count, updates);
-        if (i >= 0) proved_times[i] = a, plain_times[i] = b;
-    }
-    double a = median(proved_times, ROUNDS), b = median(plain_times, ROUNDS);
-    printf("update with %zu commands: R %.0f ns, C %.0f ns, ratio %.2f\n", count, a, b, a / b);
-    if (!memcmp(proved, plain, sizeof plain)) return 1;
-    printf("update with %zu commands: the machines differ\n", count);
+    for (int i = -WARM; i < ROUNDS; i++)
+        for (int side = 0; side < SIDES; side++) {
+            double time = timed(sides[side], machines[side], commands, count, updates);
+            if (i >= 0) times[side][i] = time;
+        }
+    snprintf(call, sizeof call, "update with %zu commands", count);
+    print_times(call, times);
+    if (!memcmp(machines[PROVED], machines[PLAIN], sizeof *machines)) return 1;
+    printf("%s: the machines differ\n", call);
     return 0;
 }
 
@@ -232,3 +236,5 @@ int main(void) {
     same &= compare(0, 40);
     return same ? 0 : 1;
 }
+
+#endif

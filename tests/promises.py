@@ -1,6 +1,7 @@
 """Checks the sources for what the gate's proofs cannot tell: no call that users reach has a
-`requires`, each has its equation with its definition, every other pub function has a promise
-with an equation, and the named forms stand.
+`requires`, each has its equation with its definition, none that the C host or the program `ring`
+calls is missing from the list, every other pub function has a promise with an equation, the named
+forms stand, and the claims are those of tests/claims.txt, field by field.
 
     python3 tests/promises.py
 """
@@ -10,6 +11,7 @@ import sys
 from pathlib import Path
 
 CRATES = Path(__file__).resolve().parent.parent / "crates"
+CLAIMS = Path(__file__).resolve().parent / "claims.txt"
 
 # The calls that users reach, and the definition that the equation of each goes to.
 REACHABLE = {
@@ -19,6 +21,8 @@ REACHABLE = {
     ("compare", "compare"): "compareOf",
     ("bench_file", "read"): "readOf",
     ("bench_ringing", "step"): "stepOf",
+    ("bench_gathering", "gather"): "gathered",
+    ("bench_text", "refusal_line"): "refusalLine",
     ("host", "karvelorn_fresh"): "freshRun",
     ("host", "karvelorn_pass"): "passOf",
     ("host", "karvelorn_update"): "updateOf",
@@ -27,24 +31,24 @@ REACHABLE = {
 
 # The named forms: what it is, the crate, and a pattern that its source has.
 FORMS = (
-    ("a constant quarter sine of 2,048 entries", "sine", r"const QUARTER: \[u16; 2048\] ="),
+    ("a constant quarter sine of 2,048 entries", "sine", r"pub type Quarter = \[u16; 2048\];[^;]*const SINE: Quarter ="),
     ("wrapping add, then a remainder", "words", r"std::num::wrapping_add_u32\(a, b\) % 1048576"),
     ("the part of the machine from 11g", "pass_generators", r"Generator::load\(&m\[at\.\.\]\)"),
     ("a tail of the caller's commands", "update", r"-> &'a \[u32\]"),
     ("a tail at the count taken", "update", r"&commands\[taken\.\.\]"),
-    ("sum memory as four arrays of 64", "sums", r"-> \[\[u32; 64\]; 4\]"),
+    ("sum memory as four arrays of 64", "sums", r"= \[u32; layout::QUADRANT_WORDS\];\s*pub type Sums = \[Quadrant; layout::QUADRANTS\];"),
     ("sum memory by value in a pass", "pass", r"let mut s = sums::load\("),
     ("pass for C", "host", r'pub extern "C" fn karvelorn_pass\('),
     ("update for C", "host", r'pub extern "C" fn karvelorn_update\('),
     ("compare for C", "host", r'pub extern "C" fn karvelorn_compare\('),
-    ("16 rows of switches", "modes", r"const SWITCHES: \[\[u8; 4\]; 16\] ="),
+    ("16 rows of switches", "modes", r"pub type Rows = \[\[u8; 4\]; 16\];[^;]*const SWITCHES: Rows ="),
     ("sweep takes self and gives it back", "generator", r"pub fn sweep\(mut self\) -> Generator"),
     ("turn takes self and gives it back", "generator", r"pub fn turn\(mut self, [^)]*\) -> Generator"),
     ("decay takes self and gives it back", "generator", r"pub fn decay\(mut self, [^)]*\) -> Generator"),
 )
 
 # Records of equations that contracts of inner functions use.
-EQUATIONS = ("≡", "Word ", "Wave ", "Taken ", "Trace ")
+EQUATIONS = ("≡", "Word ", "Wave ")
 
 FUNCTION = re.compile(r"^ *pub (?:extern \"C\" )?fn (\w+).*?^ *\{$", re.M | re.S)
 
@@ -62,11 +66,36 @@ def contracts_of(crate):
 
 def ensured(head):
     """The clauses that a head ensures."""
-    return re.findall(r"ensures[^{]*\{([^}]*)\}", head)
+    return re.findall(r"ensures[^{]*\{[^⌜}]*⌜([^⌝]*)⌝", head)
+
+
+def reached():
+    """The calls that the C host exports and that the program `ring` makes."""
+    exported = re.findall(r'pub extern "C" fn (\w+)', library_of("host"))
+    program = (CRATES / "ring" / "src" / "main.rt").read_text()
+    called = re.findall(r"\b(\w+)::([a-z]\w*)\(", program)
+    return {("host", name) for name in exported} | {(crate, name) for crate, name in called if (CRATES / crate).is_dir()}
+
+
+def fields(path, record):
+    """The fields of a record, each with its statement on one line."""
+    text = path.read_text().split(f"pub record {record}", 1)[1]
+    lines = [line for line in text.splitlines()[1:] if not line.lstrip().startswith("--")]
+    return re.findall(r"pub ([\w-]+ : .*?)(?= pub [\w-]+ : |$)", re.sub(r"\s+", " ", " ".join(lines)).strip())
+
+
+def claims():
+    """The claims, and the worked examples, which are one of them."""
+    return (fields(CRATES / "claims" / "specs" / "Claims.antt", "Claims")
+            + fields(CRATES / "equal_orders" / "specs" / "WorkedExamples.antt", "WorkedExamples"))
 
 
 def faults():
     """What is wrong, a line each."""
+    yield from (f"{crate}::{name} can be reached and is not in the list" for crate, name in sorted(reached() - set(REACHABLE)))
+    kept = CLAIMS.read_text().splitlines()
+    yield from (f"a claim is gone or says another thing: {claim}" for claim in kept if claim not in claims())
+    yield from (f"a claim that tests/claims.txt does not have: {claim}" for claim in claims() if claim not in kept)
     for (crate, name), definition in REACHABLE.items():
         heads = [head for found, head in contracts_of(crate) if found == name]
         if len(heads) != 1:
@@ -86,7 +115,7 @@ def faults():
 
 def main():
     found = list(faults())
-    print("\n".join(found) if found else f"{len(REACHABLE)} calls and {len(FORMS)} named forms stand")
+    print("\n".join(found) if found else f"{len(REACHABLE)} calls, {len(claims())} claims and {len(FORMS)} named forms stand")
     sys.exit(1 if found else 0)
 
 

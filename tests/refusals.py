@@ -27,11 +27,11 @@ SHAPE = (
 
 
 def first_error(log):
-    """The first line of a log that reports an error."""
-    for line in log.read_text(errors="replace").splitlines():
-        if "error" in line and not line.startswith(("note", "help")):
-            return line
-    return ""
+    """A fact that is not proved of a function without a proof file, else the first line of a log that reports an error."""
+    lines = log.read_text(errors="replace").splitlines()
+    errors = [line for line in lines if "it is not proved that" in line]
+    errors += [line for line in lines if "error" in line and not line.startswith(("note", "help"))]
+    return errors[0] if errors else ""
 
 
 def faults(crates):

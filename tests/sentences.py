@@ -1,4 +1,4 @@
-"""Every sentence of the scope document stands in docs/ARCHITECTURE.md, in full.
+"""Every sentence of the scope document stands in docs/ARCHITECTURE.md, in full; its named forms in docs/DECISIONS.md.
 
     python3 tests/sentences.py [DOCUMENT]
 
@@ -10,7 +10,7 @@ import sys
 from pathlib import Path
 
 ROOT = Path(__file__).resolve().parent.parent
-PAGE = ROOT / "docs" / "ARCHITECTURE.md"
+PAGES = (ROOT / "docs" / "ARCHITECTURE.md", ROOT / "docs" / "DECISIONS.md")
 BESIDE = ROOT.parent / "shared" / "docs" / "01-scope.md"
 
 
@@ -38,7 +38,7 @@ def main():
     if not path.exists():
         print("the scope document is not at hand: nothing checked")
         return
-    page = plain(PAGE.read_text())
+    page = " ".join(plain(page.read_text()) for page in PAGES)
     found = list(sentences(path.read_text()))
     missing = [s for s in found if s not in page]
     print("\n".join("missing: " + s for s in missing) if missing else f"{len(found)} sentences of the scope stand in the map")

@@ -2,69 +2,51 @@
 -- Assumes nothing.
 use mathlib.Core.Path.{_≡_, refl, ap, sym, _∙_}
 use mathlib.Core.List.{List, [], _∷_}
-use mathlib.Core.Bool.{Bool, true, false, cond, _||_}
+use mathlib.Core.Bool.{Bool, true, false, not, cond}
 use Prim.Native.Nat.{ℕ, _+_, _≤_, _<_}
-use borrow.Author.Tests.{eq-eqb, ne-eqb, eqb-false}
+use Prim.Native.Char.{code}
+use borrow.Author.Tests.{not-true, not-false}
 use native.Mathlib.Omega.{arith}
-use lib.Dec.{eqb}
 use lib.ListN.{length, take, drop, length-append}
-use Rattle.bench_text.proofs.Lines.{of-cond}
-use Rattle.bench_file.specs.BenchFile.{bytesBefore, lineOf, linesOf, Reading, unread, withLine, withLines, fileOf}
-use Rattle.bench_file.specs.Sweeps.{file, outline, judgedLine, judgedLines}
+use Rattle.bench_bytes.specs.Bytes.{bytesBefore}
+use Rattle.lists.proofs.Choices.{of-cond}
+use Rattle.bench_lines.specs.Lines.{lineOf, linesOf}
+use Rattle.bench_lines.specs.declared.Line.{Line}
+use Rattle.bench_lines.specs.declared.Line.the-variants.{Passes, Word, Command, Other}
+use Rattle.bench_lines.proofs.TextLines.{Ended, within, lines-next, lines-end}
+use Rattle.bench_phases.specs.Phases.{phaseAfter, isFit}
+use Rattle.bench_phases.specs.declared.Phase.{Phase}
+use Rattle.bench_phases.specs.declared.Phase.the-variants.{Start, Unfit}
+use Rattle.bench_file.specs.BenchFile.{withPasses, commandsOf, Reading, unread, withLine, withLines, fileOf}
+use Rattle.bench_file.specs.Sweeps.{outline, judgedLine, judgedLines}
 use Rattle.bench_file.specs.declared.File.{File}
-use Rattle.bench_file.specs.declared.Line.{Line}
-use Rattle.bench_file.specs.declared.Line.the-variants.{Passes, Word, Command, Other}
-use Rattle.bench_file.proofs.TextLines.{Ended, within, lines-next, lines-end}
 
--- The steps, by line and phase.
-module _ (f : File) (l : Line) where
-  module _ {n : ℕ} (e : l ≡ Passes n) where
-    pub passes-first : f .phase ≡ 0 → file 1 n (f .count) ≡ judgedLine f l
-    unfolding judgedLine
-    passes-first h = rw (e, eq-eqb (f .phase) 0 h)
+-- A step, by whether its line may follow.
+module _ (f : File) (l : Line) {next : Phase} (e : next ≡ phaseAfter (f .phase) l) {fits : Bool} (g : fits ≡ isFit next) where
+  fit-next : isFit (phaseAfter (f .phase) l) ≡ fits
+  fit-next = sym (g ∙ ap (λ (p : Phase). isFit p) e)
 
-    pub passes-late : (f .phase ≡ 0 → ⊥) → file 3 (f .passes) (f .count) ≡ judgedLine f l
-    unfolding judgedLine
-    passes-late h = rw (e, ne-eqb (f .phase) 0 h)
-
-  module _ {p v : ℕ} (e : l ≡ Word p v) where
-    pub word-in : f .phase ≡ 1 → f ≡ judgedLine f l
-    unfolding judgedLine
-    word-in h = rw (e, eq-eqb (f .phase) 1 h) (ap (λ (p : ℕ). file p (f .passes) (f .count)) h)
-
-    pub word-out : (f .phase ≡ 1 → ⊥) → file 3 (f .passes) (f .count) ≡ judgedLine f l
-    unfolding judgedLine
-    word-out h = rw (e, ne-eqb (f .phase) 1 h)
-
-  module _ {c : ℕ} (e : l ≡ Command c) where
-    pub command-in : 1 ≤ f .phase → f .phase ≤ 2 → file 2 (f .passes) (f .count + 1) ≡ judgedLine f l
-    unfolding judgedLine
-    command-in h g = rw (e, either (eqb (f .phase) 1) refl)
-      where
-        either : (b : Bool) → eqb (f .phase) 1 ≡ b → (eqb (f .phase) 1 || eqb (f .phase) 2) ≡ true
-        either true p = rw p
-        either false p = let n = eqb-false (f .phase) 1 p in
-            let q : f .phase ≡ 2 = omega arith in rw (p, eq-eqb (f .phase) 2 q)
-
-    pub command-early : f .phase < 1 → file 3 (f .passes) (f .count) ≡ judgedLine f l
-    unfolding judgedLine
-    command-early h = rw (e, ne-eqb (f .phase) 1 (λ p. omega arith), ne-eqb (f .phase) 2 (λ p. omega arith))
-
-    pub command-late : 2 < f .phase → file 3 (f .passes) (f .count) ≡ judgedLine f l
-    unfolding judgedLine
-    command-late h = rw (e, ne-eqb (f .phase) 1 (λ p. omega arith), ne-eqb (f .phase) 2 (λ p. omega arith))
-
-  pub other-line : l ≡ Other → file 3 (f .passes) (f .count) ≡ judgedLine f l
+  pub judged-unfit : not fits ≡ true → record { phase = Unfit; passes = f .passes; count = f .count } ≡ judgedLine f l
   unfolding judgedLine
-  other-line e = rw e
+  judged-unfit h = rw (fit-next ∙ not-true fits h)
+
+  pub judged-fit : not fits ≡ false → {passes count : ℕ} → passes ≡ withPasses (f .passes) l → count ≡ f .count + length (commandsOf l)
+      → record { phase = next; passes = passes; count = count } ≡ judgedLine f l
+  unfolding judgedLine
+  judged-fit h p c = rw (fit-next ∙ not-false fits h, e, p, c)
 
 -- A line brings at most one command.
+pub one-command : (l : Line) → length (commandsOf l) ≤ 1
+one-command (Passes n) = omega arith
+one-command (Word p v) = omega arith
+one-command (Command c) = omega arith
+one-command Other = omega arith
+
 judged-count : (f : File) (l : Line) → judgedLine f l .count ≤ f .count + 1
 unfolding judgedLine
-judged-count f (Passes n) = of-cond (λ (g : File). g .count ≤ f .count + 1) (eqb (f .phase) 0) (omega arith) (omega arith)
-judged-count f (Word p v) = of-cond (λ (g : File). g .count ≤ f .count + 1) (eqb (f .phase) 1) (omega arith) (omega arith)
-judged-count f (Command c) = of-cond (λ (g : File). g .count ≤ f .count + 1) (eqb (f .phase) 1 || eqb (f .phase) 2) (omega arith) (omega arith)
-judged-count f Other = omega arith
+judged-count f l =
+    let o = one-command l in
+    of-cond (λ (g : File). g .count ≤ f .count + 1) (isFit (phaseAfter (f .phase) l)) (omega arith) (omega arith)
 
 -- The outline of a file with a line more, and with lines more.
 outline-cond : (b : Bool) (r s : Reading) {f g : File} → outline r ≡ f → outline s ≡ g → outline (cond b r s) ≡ cond b f g
@@ -73,11 +55,11 @@ outline-cond false r s e h = h
 
 outline-line : (r : Reading) (l : Line) → outline (withLine r l) ≡ judgedLine (outline r) l
 unfolding withLine judgedLine
-outline-line r (Passes n) = outline-cond (eqb (r .phase) 0) _ _ refl refl
-outline-line r (Word p v) = outline-cond (eqb (r .phase) 1) _ _ refl refl
-outline-line r (Command c) =
-    outline-cond (eqb (r .phase) 1 || eqb (r .phase) 2) _ _ (ap (λ (n : ℕ). file 2 (r .passes) n) (length-append (r .commands) (c ∷ []))) refl
-outline-line r Other = refl
+outline-line r l =
+    let next = phaseAfter (r .phase) l in
+    outline-cond (isFit next) _ _
+    (ap (λ (n : ℕ). record { phase = next; passes = withPasses (r .passes) l; count = n }) (length-append (r .commands) (commandsOf l)))
+    refl
 
 outline-lines : (r : Reading) (ls : List (List ℕ)) → outline (withLines r ls) ≡ judgedLines (outline r) ls
 unfolding withLines judgedLines
@@ -90,7 +72,7 @@ pub record Judging (text : List ℕ) (at : ℕ) (f : File) : Type 0 where
   pub few : f .count ≤ at
   pub rest : judgedLines f (linesOf (drop at text)) ≡ outline (fileOf text)
 
-pub begins : (text : List ℕ) → Judging text 0 (file 0 0 0)
+pub begins : (text : List ℕ) → Judging text 0 (record { phase = Start; passes = 0; count = 0 })
 unfolding fileOf
 begins text = record { here = omega arith; few = omega arith; rest = sym (outline-lines unread (linesOf text)) }
 
@@ -98,7 +80,7 @@ pub ends : (text : List ℕ) (at : ℕ) (f : File) → Judging text at f → len
 unfolding judgedLines
 ends text at f j h = sym (ap (judgedLines f) (lines-end text at h)) ∙ j .rest
 
-pub goes-on : (text : List ℕ) (end : Ended text) (at : ℕ) (f : File) → Judging text at f → (h : at < length text) → {k : ℕ} (e : k ≡ bytesBefore 10 (drop at text)) → {g : File}
+pub goes-on : (text : List ℕ) (end : Ended text) (at : ℕ) (f : File) → Judging text at f → (h : at < length text) → {k : ℕ} (e : k ≡ bytesBefore (code "\n") (drop at text)) → {g : File}
     → g ≡ judgedLine f (lineOf (take k (drop at text))) → Judging text (at + k + 1) g
 unfolding judgedLines
 goes-on text end at f j h {k = k} e {g = g} s =

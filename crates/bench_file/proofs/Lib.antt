@@ -1,7 +1,4 @@
-pub mod Numbers
-pub mod TextLines
-pub mod Lines
+pub mod FewCommands
 pub mod Judging
 pub mod Loading
 pub mod WholeFile
-pub mod FewCommands

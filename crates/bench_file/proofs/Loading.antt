@@ -3,16 +3,20 @@
 use mathlib.Core.Path.{_≡_, refl, ap, sym, _∙_}
 use mathlib.Core.List.{List}
 use Prim.Native.Nat.{ℕ, _+_, _≤_, _<_}
+use Prim.Native.Char.{code}
 use native.Mathlib.Omega.{arith}
 use native.Mathlib.Nat.{add-zero}
 use lib.ListN.{length, take, drop, set}
 use lib.Seq.{sets}
-use Rattle.bench_text.proofs.Lines.{sets-append}
-use Rattle.bench_file.specs.BenchFile.{bytesBefore, lineOf, linesOf}
-use Rattle.bench_file.specs.Sweeps.{withWord, withWords, commandsOf, allCommands}
-use Rattle.bench_file.specs.declared.Line.{Line}
-use Rattle.bench_file.specs.declared.Line.the-variants.{Passes, Word, Command, Other}
-use Rattle.bench_file.proofs.TextLines.{Ended, within, lines-next, lines-end}
+use Rattle.bench_bytes.specs.Bytes.{bytesBefore}
+use Rattle.bench_bytes.proofs.Puts.{sets-append}
+use Rattle.bench_lines.specs.Lines.{lineOf, linesOf}
+use Rattle.bench_lines.specs.declared.Line.{Line}
+use Rattle.bench_lines.specs.declared.Line.the-variants.{Passes, Word, Command, Other}
+use Rattle.bench_lines.proofs.TextLines.{Ended, within, lines-next, lines-end}
+use Rattle.bench_file.specs.BenchFile.{withWord, commandsOf}
+use Rattle.bench_file.specs.Sweeps.{withWords, allCommands}
+use Rattle.bench_file.proofs.Judging.{one-command}
 
 -- What a line leaves: how many commands there are, the machine, and the room.
 abbrev pub Leaves : Line → ℕ → List ℕ → List ℕ → ℕ → List ℕ → List ℕ → Type 0
@@ -22,27 +26,16 @@ Leaves l count m room count′ m′ room′ =
 -- The steps, by line.
 module _ (l : Line) (count : ℕ) (m room : List ℕ) where
   pub load-passes : {n : ℕ} → l ≡ Passes n → Leaves l count m room count m room
-  unfolding commandsOf withWord
   load-passes e = rw e (sym (add-zero count), (refl, refl))
 
   pub load-word : {p v : ℕ} → l ≡ Word p v → {m′ : List ℕ} → m′ ≡ set m p v → Leaves l count m room count m′ room
-  unfolding commandsOf withWord
   load-word e s = rw e (sym (add-zero count), (s, refl))
 
   pub load-command : {c : ℕ} → l ≡ Command c → {room′ : List ℕ} → room′ ≡ set room count c → Leaves l count m room (count + 1) m room′
-  unfolding commandsOf withWord
   load-command e s = rw e (refl, (refl, s))
 
   pub load-other : l ≡ Other → Leaves l count m room count m room
-  unfolding commandsOf withWord
   load-other e = rw e (sym (add-zero count), (refl, refl))
-
-one-command : (l : Line) → length (commandsOf l) ≤ 1
-unfolding commandsOf
-one-command (Passes n) = omega arith
-one-command (Word p v) = omega arith
-one-command (Command c) = omega arith
-one-command Other = omega arith
 
 -- The sweep under way: the lines that are left set what all lines set.
 pub record Loading (text m₀ room₀ : List ℕ) (at count : ℕ) (m room : List ℕ) : Type 0 where
@@ -60,7 +53,7 @@ module _ (text : List ℕ) {m₀ room₀ : List ℕ} {at count : ℕ} {m room : 
   ends h =
       (sym (ap (withWords m) (lines-end text at h)) ∙ j .words, sym (ap (λ (ls : List (List ℕ)). sets room count (allCommands ls)) (lines-end text at h)) ∙ j .commands)
 
-  pub goes-on : (end : Ended text) (h : at < length text) {k : ℕ} (e : k ≡ bytesBefore 10 (drop at text)) {count′ : ℕ} {m′ room′ : List ℕ}
+  pub goes-on : (end : Ended text) (h : at < length text) {k : ℕ} (e : k ≡ bytesBefore (code "\n") (drop at text)) {count′ : ℕ} {m′ room′ : List ℕ}
       → Leaves (lineOf (take k (drop at text))) count m room count′ m′ room′ → Loading text m₀ room₀ (at + k + 1) count′ m′ room′
   unfolding withWords allCommands
   goes-on end h {k = k} e s =

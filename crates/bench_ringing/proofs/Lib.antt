@@ -1,5 +1,3 @@
-pub mod Steps
-pub mod ByNumber
+pub mod Printing
 pub mod RungFile
 pub mod Turns
-pub mod Gatherings

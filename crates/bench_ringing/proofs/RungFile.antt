@@ -1,63 +1,73 @@
 -- The steps from what reading a text answers and leaves are the whole program's output.
 -- Assumes nothing.
 use mathlib.Core.Path.{_≡_, refl, _∙_, ap}
-use mathlib.Core.Bool.{Bool, true, false, cond, _||_}
+use mathlib.Core.Bool.{Bool, true, false, cond}
 use mathlib.Core.List.{List, [], _∷_}
-use Prim.Native.Nat.{ℕ, _+_, _≤_}
+use Prim.Native.Nat.{ℕ, _≤_}
 use native.Mathlib.Omega.{arith}
-use lib.Dec.{eqb}
-use lib.ListN.{length, take, length-set}
+use lib.ListN.{length, length-set}
 use lib.Seq.{sets, length-sets}
 use Rattle.bench_text.specs.Text.{refusalLine}
-use Rattle.bench_text.proofs.Lines.{of-cond}
+use Rattle.lists.proofs.Choices.{of-cond}
+use Rattle.bench_bytes.proofs.Puts.{first-part}
 use Rattle.layout.specs.Layout.{machineLength}
 use Rattle.machine.proofs.FreshMachine.{fresh-length}
-use Rattle.bench_file.specs.declared.Line.{Line}
-use Rattle.bench_file.specs.declared.Line.the-variants.{Passes, Word, Command, Other}
-use Rattle.bench_file.specs.BenchFile.{lineOf, linesOf, Reading, unread, withLine, withLines, fileOf, fits, Answer, answer, readOf}
-use Rattle.bench_file.proofs.FewCommands.{few-commands, commands-first}
-use Rattle.bench_ringing.specs.Ringing.{printed, ringing, untilDone, outputOf, rungFrom}
-use Rattle.bench_ringing.proofs.Steps.{steps-are-output}
+use Rattle.bench_lines.specs.Lines.{lineOf, linesOf}
+use Rattle.bench_lines.specs.declared.Line.{Line}
+use Rattle.bench_lines.specs.declared.Line.the-variants.{Passes, Word, Command, Other}
+use Rattle.bench_phases.specs.Phases.{phaseAfter, isFit}
+use Rattle.bench_file.specs.BenchFile.{withWord, Reading, unread, withLine, withLines, fileOf, isBenchFile, commandPlaces, Answer, readOf}
+use Rattle.bench_file.proofs.FewCommands.{few-commands}
+use Rattle.bench_ringing.specs.Ringing.{printed, outputOf}
+use Rattle.bench_ringing.specs.Steps.{Ringing, untilDone, rungFrom}
+use Rattle.bench_ringing.proofs.Printing.{steps-are-output}
 
--- The whole program, for every text.
-pub rung-file : (text m room : List ℕ) → length room ≡ 4096 → rungFrom (readOf text m room) ≡ outputOf text
-unfolding rungFrom readOf outputOf
-rung-file text m room h = go (fits text) refl
-  where
-    file : Reading
-    file = fileOf text
+-- What reading answers and leaves, by question 9.
+module _ (text m room : List ℕ) where
+  abbrev told : Bool → Answer
+  told b =
+      let file = fileOf text in
+      cond b
+      (record { number = 0; passes = file .passes; count = length (file .commands); machine = file .machine; room = sets room 0 (file .commands) })
+      (record { number = 9; passes = 0; count = 0; machine = m; room = room })
 
-    go : (b : Bool) → fits text ≡ b
-        → rungFrom (cond b (answer 0 (file .passes) (length (file .commands)) (file .machine) (sets room 0 (file .commands))) (answer 9 0 0 m room))
-        ≡ cond b (printed (file .passes) (file .machine) (file .commands)) (refusalLine 9)
-    go true e =
-        let cs = file .commands in
-        ap (λ (l : List ℕ). untilDone (file .passes) (ringing (file .passes) (file .machine) l)) (commands-first cs room (omega (arith, few-commands text e)))
-        ∙ steps-are-output (file .passes) (ringing (file .passes) (file .machine) cs) (omega arith)
-    go false e = refl
+  -- The whole program, for every text.
+  pub rung-file : length room ≡ commandPlaces → rungFrom (readOf text m room) ≡ outputOf text
+  unfolding rungFrom readOf outputOf
+  rung-file h = go (isBenchFile text) refl
+    where
+      go : (b : Bool) → isBenchFile text ≡ b → rungFrom (told b) ≡ cond b (printed (fileOf text .passes) (fileOf text .machine) (fileOf text .commands)) (refusalLine 9)
+      go true e =
+          let file = fileOf text in
+          let r : Ringing = record { passes = file .passes; machine = file .machine; commands = file .commands } in
+          ap (λ (l : List ℕ). untilDone (file .passes) (record { passes = file .passes; machine = file .machine; commands = l }))
+          (first-part (file .commands) room (omega (arith, few-commands text e)))
+          ∙ steps-are-output (file .passes) r (omega arith)
+      go false e = refl
 
--- The commands that were read have room, which keeps its length.
-pub read-room : (text m room : List ℕ) → length (readOf text m room .room) ≡ length room
-unfolding readOf
-read-room text m room = of-cond (λ (a : Answer). length (a .room) ≡ length room) (fits text) (length-sets room 0 (fileOf text .commands)) refl
+  -- The commands that were read have room, which keeps its length.
+  pub read-room : length (readOf text m room .room) ≡ length room
+  unfolding readOf
+  read-room = of-cond (λ (a : Answer). length (a .room) ≡ length room) (isBenchFile text) (length-sets room 0 (fileOf text .commands)) refl
 
-pub read-count : (text m room : List ℕ) → readOf text m room .count ≤ 4096
-unfolding readOf
-read-count text m room = go (fits text) refl
-  where
-    go : (b : Bool) → fits text ≡ b
-        → cond b (answer 0 (fileOf text .passes) (length (fileOf text .commands)) (fileOf text .machine) (sets room 0 (fileOf text .commands))) (answer 9 0 0 m room) .count ≤ 4096
-    go true e = few-commands text e
-    go false e = omega arith
+  pub read-count : readOf text m room .count ≤ commandPlaces
+  unfolding readOf
+  read-count = go (isBenchFile text) refl
+    where
+      go : (b : Bool) → isBenchFile text ≡ b → told b .count ≤ commandPlaces
+      go true e = few-commands text e
+      go false e = omega arith
 
 -- The machine has the length of a fresh one.
+word-length : (m : List ℕ) (l : Line) → length (withWord m l) ≡ length m
+word-length m (Passes n) = refl
+word-length m (Word place value) = length-set m place value
+word-length m (Command c) = refl
+word-length m Other = refl
+
 line-length : (r : Reading) (l : Line) → length (withLine r l .machine) ≡ length (r .machine)
 unfolding withLine
-line-length r (Passes n) = of-cond (λ (q : Reading). length (q .machine) ≡ length (r .machine)) (eqb (r .phase) 0) refl refl
-line-length r (Word place value) =
-    of-cond (λ (q : Reading). length (q .machine) ≡ length (r .machine)) (eqb (r .phase) 1) (length-set (r .machine) place value) refl
-line-length r (Command c) = of-cond (λ (q : Reading). length (q .machine) ≡ length (r .machine)) (eqb (r .phase) 1 || eqb (r .phase) 2) refl refl
-line-length r Other = refl
+line-length r l = of-cond (λ (q : Reading). length (q .machine) ≡ length (r .machine)) (isFit (phaseAfter (r .phase) l)) (word-length (r .machine) l) refl
 
 lines-length : (r : Reading) (ls : List (List ℕ)) → length (withLines r ls .machine) ≡ length (r .machine)
 unfolding withLines
@@ -67,4 +77,4 @@ lines-length r (l ∷ ls) = lines-length (withLine r (lineOf l)) ls ∙ line-len
 pub read-machine : (text m room : List ℕ) → length m ≡ machineLength → length (readOf text m room .machine) ≡ machineLength
 unfolding readOf fileOf
 read-machine text m room h =
-    of-cond (λ (a : Answer). length (a .machine) ≡ machineLength) (fits text) (lines-length unread (linesOf text) ∙ fresh-length) h
+    of-cond (λ (a : Answer). length (a .machine) ≡ machineLength) (isBenchFile text) (lines-length unread (linesOf text) ∙ fresh-length) h

@@ -1,81 +1,31 @@
--- The parts of one step: T as far as an order reaches, the commands still left, the machine that a line is made of, and the ways a step ends.
+-- The parts of one step: the commands still left, the machine that a line is made of, and the ways a step ends.
 -- Assumes nothing.
 use mathlib.Core.Path.{_≡_, refl, sym, _∙_, ap}
 use mathlib.Core.Logic.{_≢_}
 use mathlib.Core.Bool.{Bool, true, false, cond}
 use mathlib.Core.List.{List, [], _∷_}
-use Prim.Native.Nat.{ℕ, zero, suc, _+_, _-_, _≤_, _<_}
+use Prim.Native.Nat.{ℕ, _+_, _-_, _≤_, _<_}
 use native.Mathlib.Omega.{arith}
-use native.Mathlib.Nat.{sub-zero}
-use borrow.Author.Tests.{eq-eqb, ne-eqb, eqb-true, le-leb, lt-leb, leb-true}
-use lib.Dec.{eqb, leb, lit<}
-use lib.ListN.{length, set, take, drop, length-drop, drop-of-length-le, List·getD-eq-default}
+use borrow.Author.Tests.{eq-eqb, ne-eqb, eqb-true}
+use lib.Dec.{eqb, lit<}
+use lib.ListN.{length, set, take, drop, length-drop, drop-of-length-le}
 use lib.Seq.{sets, take-all, drop-drop}
 use Rattle.layout.specs.Layout.{lingeringAt}
+use Rattle.questions.specs.Questions.{asked}
 use Rattle.machine.specs.Questions.{question1, question2}
 use Rattle.machine.proofs.SoundMachine.{reaches, sound-dac}
-use Rattle.questions.specs.Questions.{asked}
-use Rattle.bench_text.specs.Text.{refusalLine}
-use Rattle.bench_text.proofs.Lines.{pass-line-length, refusal-line-length}
-use Rattle.pass.specs.Pass.{Outcome as PassOutcome, answered, passOf}
-use Rattle.pass.proofs.Asked.{is-sound, is-whole}
-use Rattle.update.specs.Update.{Outcome, outcome, stillLingering, mostCommands, takenBy, updateOf}
-use Rattle.update.proofs.Updating.{left-within, tail-of}
+use Rattle.pass_model.specs.Pass.{Outcome as Passed}
+use Rattle.pass_model.proofs.Asked.{is-sound, is-whole}
+use Rattle.update.specs.Update.{Outcome, outcome, stillLingering, mostCommands, takenBy, updateOf, takenCount}
+use Rattle.update.proofs.Updating.{left-within, count-is, tail-of}
 use Rattle.update_laws.proofs.Lengths.{update-length}
 use Rattle.update_laws.proofs.UpdateSound.{update-sound}
-use Rattle.bench_ringing.specs.Ringing.{byNumber, passed, lineAfter, ringing, stepTo, stepOf}
-use Rattle.bench_ringing.specs.Loops.{fewTicks, Lined}
-use Rattle.bench_ringing.proofs.ByNumber.{by-number-length, first-entries, pass-by-few}
-use Rattle.layout.specs.Machine.{ticksOf}
-
--- T as far as an order reaches.
-module _ (m : List ℕ) where
-  pub few-short : length m ≤ 4113 → 0 ≡ fewTicks m
-  unfolding fewTicks
-  few-short h = let z : ticksOf m ≡ 0 = List·getD-eq-default m 0 h in rw z
-
-  pub few-above : 256 < ticksOf m → 0 ≡ fewTicks m
-  unfolding fewTicks
-  few-above h = rw (lt-leb (ticksOf m) 256 h)
-
-  pub few-within : ticksOf m ≤ 256 → ticksOf m ≡ fewTicks m
-  unfolding fewTicks
-  few-within h = rw (le-leb (ticksOf m) 256 h)
-
-  pub few-most : fewTicks m ≤ 256
-  unfolding fewTicks
-  few-most = go (leb (ticksOf m) 256) refl
-    where
-      go : (b : Bool) → leb (ticksOf m) 256 ≡ b → cond b (ticksOf m) 0 ≤ 256
-      go true e = leb-true (ticksOf m) 256 e
-      go false e = omega arith
-
-  -- A pass by the first entries of the order by number of 256 generators.
-  pub passed-by : (order : List ℕ) (t : ℕ) → order ≡ byNumber 256 → t ≡ fewTicks m → passOf m (take t order) [] [] ≡ passed m
-  passed-by order t eo et =
-      ap (λ (o : List ℕ). passOf m o [] []) (rw (eo, et) (first-entries (fewTicks m) 256 few-most)) ∙ pass-by-few m
-
-  -- The same as its number and its machine, from what a pass answers and leaves.
-  pub ring-passed : (order : List ℕ) (t : ℕ) {n : ℕ} {after : List ℕ} → order ≡ byNumber 256 → t ≡ fewTicks m
-      → (n ≡ passOf m (take t order) [] [] .number) × (after ≡ passOf m (take t order) [] [] .machine)
-      → (n ≡ passed m .number) × (after ≡ passed m .machine)
-  ring-passed order t eo et (en, ea) =
-      let p = passed-by order t eo et in
-      (en ∙ ap (λ (o : PassOutcome). o .number) p, ea ∙ ap (λ (o : PassOutcome). o .machine) p)
-
-  pub passed-part : (order : List ℕ) (t : ℕ) {n read written : ℕ} {after places : List ℕ}
-      → answered n read written after places ≡ passOf m (take (t - 0) order) [] []
-      → (n ≡ passOf m (take t order) [] [] .number) × (after ≡ passOf m (take t order) [] [] .machine)
-  passed-part order t {n} {read} {written} {after} {places} e =
-      let p : answered n read written after places ≡ passOf m (take t order) [] [] = rw sub-zero at e in
-      (ap (λ (o : PassOutcome). o .number) p, ap (λ (o : PassOutcome). o .machine) p)
-
-  -- The order has that many entries.
-  pub few-there : (order : List ℕ) (t : ℕ) → order ≡ byNumber 256 → t ≡ fewTicks m → t ≤ length order
-  few-there order t eo et = omega (arith, et, few-most, by-number-length 256, ap length eo)
-
-  pub all-there : (order : List ℕ) → order ≡ byNumber 256 → 256 ≡ length order
-  all-there order eo = sym (by-number-length 256) ∙ ap length (sym eo)
+use Rattle.lists.proofs.Choices.{of-cond}
+use Rattle.bench_text.specs.Text.{refusalLine}
+use Rattle.bench_text.proofs.Lines.{pass-line-length, refusal-line-length}
+use Rattle.bench_pass.specs.ByNumber.{passed}
+use Rattle.bench_ringing.specs.Ringing.{lineAfter}
+use Rattle.bench_ringing.specs.Steps.{Lined, Ringing, Step, stepOf, commandsTaken}
 
 -- A place past the end of the commands leaves none, as their end does.
 pub start-end : (cs : List ℕ) (from : ℕ) → length cs < from → drop (length cs) cs ≡ drop from cs
@@ -84,24 +34,26 @@ start-end cs from h =
     let k : length cs ≤ from = omega arith in
     drop-of-length-le cs l ∙ sym (drop-of-length-le cs k)
 
--- An update with the commands from a place on.
+-- An update with the commands from a place on: how many it takes, and what it leaves.
 module _ (m cs : List ℕ) (start from : ℕ) (within : start ≤ length cs) (same-rest : drop start cs ≡ drop from cs) {n : ℕ} {l left : List ℕ}
-    (e : outcome n l left ≡ updateOf m (take (length cs - start) (drop start cs))) where
-  part : take (length cs - start) (drop start cs) ≡ drop start cs
-  part = take-all (length cs - start) (drop start cs) (omega (arith, length-drop start cs))
+    (e : record { number = n; machine = l; left = left } ≡ updateOf m (take (length cs - start) (drop start cs))) where
+  whole : record { number = n; machine = l; left = left } ≡ updateOf m (drop from cs)
+  whole = e ∙ ap (updateOf m) (take-all (length cs - start) (drop start cs) (omega (arith, length-drop start cs)) ∙ same-rest)
 
-  by-part : outcome n l left ≡ updateOf m (drop start cs)
-  by-part = e ∙ ap (updateOf m) part
+  rest-length : length (drop from cs) ≡ length cs - start
+  rest-length = ap length (sym same-rest) ∙ length-drop start cs
 
-  pub update-within : length left ≤ length cs
-  update-within = omega (arith, left-within m (drop start cs) by-part, length-drop start cs)
+  pub update-within : length left ≤ length cs - start
+  update-within = omega (arith, left-within m (drop from cs) whole, rest-length)
 
-  pub update-from : outcome n l (drop (length cs - length left) cs) ≡ updateOf m (drop from cs)
+  pub update-count : length cs - start - length left ≡ takenCount m (drop from cs)
+  update-count = ap (λ (k : ℕ). k - length left) (sym rest-length) ∙ count-is m (drop from cs) whole
+
+  pub update-from : record { number = n; machine = l; left = drop (from + (length cs - start - length left)) cs } ≡ updateOf m (drop from cs)
   update-from =
-      let k : start + (length (drop start cs) - length left) ≡ length cs - length left =
-      omega (arith, left-within m (drop start cs) by-part, length-drop start cs) in
-      ap (outcome n l) (ap (λ (i : ℕ). drop i cs) (sym k) ∙ sym (drop-drop (length (drop start cs) - length left) start cs))
-      ∙ tail-of m (drop start cs) by-part ∙ ap (updateOf m) same-rest
+      ap (λ (k : ℕ). record { number = n; machine = l; left = drop (from + (k - length left)) cs }) (sym rest-length)
+      ∙ ap (λ (rest : List ℕ). record { number = n; machine = l; left = rest }) (sym (drop-drop (length (drop from cs) - length left) from cs))
+      ∙ tail-of m (drop from cs) whole
 
 -- An update that is not refused is of a machine that passes questions 1 and 2.
 update-asked : (m cs : List ℕ) → updateOf m cs .number ≡ 0 → asked (question1 m ∷ question2 m ∷ []) ≡ 0
@@ -119,97 +71,126 @@ update-asked m cs e = go (eqb n 0) refl e
     go false t z = z
 
 -- So the line can be made of what it leaves.
-pub lined : (m cs after : List ℕ) → after ≡ updateOf m cs .machine → updateOf m cs .number ≡ 0 → Lined after
-lined m cs after ea e =
-    let q = update-asked m cs e in
+pub lined : (m cs : List ℕ) {n : ℕ} {last left : List ℕ} → record { number = n; machine = last; left = left } ≡ updateOf m cs → n ≡ 0 → Lined last
+lined m cs e z =
+    let q = update-asked m cs (sym (ap (λ (o : Outcome). o .number) e) ∙ z) in
     let s = update-sound m cs (is-sound m [] q) in
-    rw ea
+    rw (ap (λ (o : Outcome). o .machine) e)
     (record {
       reaches = reaches (updateOf m cs .machine) (update-length m cs ∙ is-whole m [] q);
       left = sound-dac (updateOf m cs .machine) s 0 (lit< tt);
       right = sound-dac (updateOf m cs .machine) s 1 (lit< tt);
     })
 
--- A step with a pass, by the two numbers.
-module _ (p : ℕ) (m cs : List ℕ) where
+-- A step by its passes and by the two numbers.
+module _ (r : Ringing) where
+  abbrev pass : Passed
+  pass = passed (r .machine)
+
   abbrev update : Outcome
-  update = updateOf (passed m .machine) cs
+  update = updateOf (pass .machine) (r .commands)
 
-  by-pass : passed m .number ≢ 0 → stepOf (suc p) m cs ≡ stepTo (refusalLine (passed m .number)) 0 (passed m .machine) cs
+  by-none : r .passes ≡ 0 → stepOf r ≡ record { bytes = []; next = r }
   unfolding stepOf
-  by-pass h = rw (ne-eqb (passed m .number) 0 h)
+  by-none z = rw (eq-eqb (r .passes) 0 z)
 
-  by-update : passed m .number ≡ 0 → update .number ≢ 0 → stepOf (suc p) m cs ≡ stepTo (refusalLine (update .number)) 0 (update .machine) (update .left)
-  unfolding stepOf
-  by-update z h = rw (eq-eqb (passed m .number) 0 z, ne-eqb (update .number) 0 h)
+  module _ (some : r .passes ≢ 0) where
+    by-pass : pass .number ≢ 0 → stepOf r ≡ record { bytes = refusalLine (pass .number); next = record { passes = 0; machine = pass .machine; commands = r .commands } }
+    unfolding stepOf
+    by-pass h = rw (ne-eqb (r .passes) 0 some, ne-eqb (pass .number) 0 h)
 
-  by-both : passed m .number ≡ 0 → update .number ≡ 0 → stepOf (suc p) m cs ≡ stepTo (lineAfter (update .machine)) p (update .machine) (update .left)
-  unfolding stepOf
-  by-both z h = rw (eq-eqb (passed m .number) 0 z, eq-eqb (update .number) 0 h)
+    module _ (z : pass .number ≡ 0) where
+      by-update : update .number ≢ 0
+          → stepOf r ≡ record { bytes = refusalLine (update .number); next = record { passes = 0; machine = update .machine; commands = update .left } }
+      unfolding stepOf
+      by-update h = rw (ne-eqb (r .passes) 0 some, eq-eqb (pass .number) 0 z, ne-eqb (update .number) 0 h)
 
--- What a step promises: its line's length, the line at the start of its buffer, and what is left to ring.
-module _ (passes : ℕ) (m cs line : List ℕ) where
-  abbrev pub Stepped : List ℕ → ℕ → ℕ → List ℕ → List ℕ → Type 0
-  Stepped line' size passes' m' cs' =
-      (size ≡ length (stepOf passes m cs .bytes))
-      × ((line' ≡ sets line 0 (stepOf passes m cs .bytes)) × (ringing passes' m' cs' ≡ stepOf passes m cs .next))
+      by-both : update .number ≡ 0
+          → stepOf r ≡ record { bytes = lineAfter (update .machine); next = record { passes = r .passes - 1; machine = update .machine; commands = update .left } }
+      unfolding stepOf
+      by-both h = rw (ne-eqb (r .passes) 0 some, eq-eqb (pass .number) 0 z, eq-eqb (update .number) 0 h)
 
-  stepped : (bytes : List ℕ) {line' : List ℕ} {size passes' : ℕ} {m' cs' : List ℕ} → stepOf passes m cs ≡ stepTo bytes passes' m' cs'
-      → (size ≡ length bytes) × (line' ≡ sets line 0 bytes) → Stepped line' size passes' m' cs'
-  stepped bytes e (es, el) = rw e (es, (el, refl))
+-- What a step promises: its line's length, the line at the start of its buffer, what is left to ring, and the commands taken then.
+module _ (r : Ringing) (line : List ℕ) (from : ℕ) where
+  abbrev pub Stepped : List ℕ → ℕ → Ringing → ℕ → Type 0
+  Stepped line' size next taken =
+      (size ≡ length (stepOf r .bytes))
+      × ((line' ≡ sets line 0 (stepOf r .bytes)) × ((next ≡ stepOf r .next) × (taken ≡ from + commandsTaken r (stepOf r))))
+
+  stepped : (bytes : List ℕ) {line' : List ℕ} {size taken : ℕ} {next : Ringing} → stepOf r ≡ record { bytes = bytes; next = next }
+      → (size ≡ length bytes) × (line' ≡ sets line 0 bytes) → taken ≡ from + (length (r .commands) - length (next .commands)) → Stepped line' size next taken
+  stepped bytes e (es, el) et = rw e (es, (el, (refl, et)))
 
   -- No pass is left.
-  pub step-none : passes ≡ 0 → Stepped line 0 0 m cs
-  unfolding stepOf
-  step-none z = stepped [] (rw z refl) (refl, refl)
+  pub step-none : r .passes ≡ 0 → Stepped line 0 (record { passes = 0; machine = r .machine; commands = r .commands }) from
+  step-none z =
+      stepped []
+      (by-none r z ∙ ap (λ (k : ℕ). record { bytes = []; next = record { passes = k; machine = r .machine; commands = r .commands } }) z)
+      (refl, refl) (omega arith)
 
-  module _ (some : passes ≢ 0) {n : ℕ} {after : List ℕ} (en : n ≡ passed m .number) (ea : after ≡ passed m .machine) where
-    one-taken : stepOf passes m cs ≡ stepOf (suc (passes - 1)) m cs
-    one-taken = let k : passes ≡ suc (passes - 1) = omega arith in ap (λ (p : ℕ). stepOf p m cs) k
-
+  module _ (some : r .passes ≢ 0) {n : ℕ} {after : List ℕ} (en : n ≡ passed (r .machine) .number) (ea : after ≡ passed (r .machine) .machine) where
     -- The pass is refused.
-    pub step-refused : n ≢ 0 → {line' : List ℕ} {size : ℕ} → (size ≡ length (refusalLine n)) × (line' ≡ sets line 0 (refusalLine n)) → Stepped line' size 0 after cs
-    step-refused h = stepped (refusalLine n) (one-taken ∙ by-pass (passes - 1) m cs (λ e. h (en ∙ e)) ∙ rw (← en, ea))
+    pub step-refused : n ≢ 0 → {line' : List ℕ} {size : ℕ} → (size ≡ length (refusalLine n)) × (line' ≡ sets line 0 (refusalLine n))
+        → Stepped line' size (record { passes = 0; machine = after; commands = r .commands }) from
+    step-refused h puts = stepped (refusalLine n) (by-pass r some (λ e. h (en ∙ e)) ∙ rw (← en, ea)) puts (omega arith)
 
-    module _ (z : n ≡ 0) {r : ℕ} {last left : List ℕ} (eu : outcome r last left ≡ updateOf after cs) where
-      updated : outcome r last left ≡ updateOf (passed m .machine) cs
-      updated = eu ∙ ap (λ (l : List ℕ). updateOf l cs) ea
+    module _ (z : n ≡ 0) {k count : ℕ} {last left : List ℕ} (eu : record { number = k; machine = last; left = left } ≡ updateOf after (r .commands))
+        (ec : count ≡ takenCount after (r .commands)) where
+      updated : record { number = k; machine = last; left = left } ≡ updateOf (passed (r .machine) .machine) (r .commands)
+      updated = eu ∙ ap (λ (l : List ℕ). updateOf l (r .commands)) ea
 
-      number-is : r ≡ updateOf (passed m .machine) cs .number
+      number-is : k ≡ updateOf (passed (r .machine) .machine) (r .commands) .number
       number-is = ap (λ (o : Outcome). o .number) updated
 
+      taken-is : from + count ≡ from + (length (r .commands) - length left)
+      taken-is = ap (λ (i : ℕ). from + i) (ec ∙ ap (λ (o : Outcome). length (r .commands) - length (o .left)) (sym eu))
+
       -- The update is refused.
-      pub step-update-refused : r ≢ 0 → {line' : List ℕ} {size : ℕ} → (size ≡ length (refusalLine r)) × (line' ≡ sets line 0 (refusalLine r)) → Stepped line' size 0 last left
-      step-update-refused h =
-          stepped (refusalLine r)
-          (one-taken ∙ by-update (passes - 1) m cs (sym en ∙ z) (λ e. h (number-is ∙ e))
-          ∙ ap (λ (o : Outcome). stepTo (refusalLine (o .number)) 0 (o .machine) (o .left)) (sym updated))
+      pub step-update-refused : k ≢ 0 → {line' : List ℕ} {size : ℕ} → (size ≡ length (refusalLine k)) × (line' ≡ sets line 0 (refusalLine k))
+          → Stepped line' size (record { passes = 0; machine = last; commands = left }) (from + count)
+      step-update-refused h puts =
+          stepped (refusalLine k)
+          (by-update r some (sym en ∙ z) (λ e. h (number-is ∙ e))
+          ∙ ap (λ (o : Outcome). record { bytes = refusalLine (o .number); next = record { passes = 0; machine = o .machine; commands = o .left } }) (sym updated))
+          puts taken-is
 
       -- Neither is.
-      pub step-goes : r ≡ 0 → {line' : List ℕ} {size : ℕ} → (size ≡ length (lineAfter last)) × (line' ≡ sets line 0 (lineAfter last)) → Stepped line' size (passes - 1) last left
-      step-goes h =
+      pub step-goes : k ≡ 0 → {line' : List ℕ} {size : ℕ} → (size ≡ length (lineAfter last)) × (line' ≡ sets line 0 (lineAfter last))
+          → Stepped line' size (record { passes = r .passes - 1; machine = last; commands = left }) (from + count)
+      step-goes h puts =
           stepped (lineAfter last)
-          (one-taken ∙ by-both (passes - 1) m cs (sym en ∙ z) (sym number-is ∙ h)
-          ∙ ap (λ (o : Outcome). stepTo (lineAfter (o .machine)) (passes - 1) (o .machine) (o .left)) (sym updated))
+          (by-both r some (sym en ∙ z) (sym number-is ∙ h)
+          ∙ ap (λ (o : Outcome). record { bytes = lineAfter (o .machine); next = record { passes = r .passes - 1; machine = o .machine; commands = o .left } }) (sym updated))
+          puts taken-is
 
 -- A step's line has at most 51 bytes.
 line-length : (m : List ℕ) → length (lineAfter m) ≤ 51
 unfolding lineAfter
 line-length m = pass-line-length _ _ _
 
-pub step-length : (passes : ℕ) (m cs : List ℕ) → length (stepOf passes m cs .bytes) ≤ 51
-unfolding stepOf
-step-length zero m cs = omega arith
-step-length (suc passes) m cs =
-    let u = updateOf (passed m .machine) cs in
-    go (eqb (passed m .number) 0) (eqb (u .number) 0)
-  where
-    go : (a b : Bool) → let u = updateOf (passed m .machine) cs in
-        length
-        (cond a
-        (cond b (stepTo (lineAfter (u .machine)) passes (u .machine) (u .left)) (stepTo (refusalLine (u .number)) 0 (u .machine) (u .left)))
-        (stepTo (refusalLine (passed m .number)) 0 (passed m .machine) cs) .bytes)
-        ≤ 51
-    go true true = line-length (updateOf (passed m .machine) cs .machine)
-    go true false = omega (arith, refusal-line-length (updateOf (passed m .machine) cs .number))
-    go false b = omega (arith, refusal-line-length (passed m .number))
+refusal-length : (n : ℕ) → length (refusalLine n) ≤ 51
+refusal-length n = omega (arith, refusal-line-length n)
+
+Short : Step → Type 0
+Short s = length (s .bytes) ≤ 51
+
+pub step-length : (r : Ringing) → length (stepOf r .bytes) ≤ 51
+unfolding stepOf Short
+step-length r =
+    of-cond Short (eqb (r .passes) 0) (omega arith)
+    (of-cond Short (eqb (passed (r .machine) .number) 0)
+    (of-cond Short (eqb (updateOf (passed (r .machine) .machine) (r .commands) .number) 0) (line-length _) (refusal-length _))
+    (refusal-length _))
+
+-- A step takes commands from the front: no more are left than before.
+Fewer : Ringing → Step → Type 0
+Fewer r s = length (s .next .commands) ≤ length (r .commands)
+
+pub step-takes : (r : Ringing) → length (stepOf r .next .commands) ≤ length (r .commands)
+unfolding stepOf Fewer
+step-takes r =
+    let l = left-within (passed (r .machine) .machine) (r .commands) refl in
+    of-cond (Fewer r) (eqb (r .passes) 0) (omega arith)
+    (of-cond (Fewer r) (eqb (passed (r .machine) .number) 0)
+    (of-cond (Fewer r) (eqb (updateOf (passed (r .machine) .machine) (r .commands) .number) 0) l l)
+    (omega arith))

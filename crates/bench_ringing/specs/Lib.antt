@@ -1,3 +1,2 @@
 pub mod Ringing
-pub mod Loops
-pub mod Gathering
+pub mod Steps

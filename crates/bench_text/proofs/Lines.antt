@@ -1,21 +1,18 @@
 -- Laws of text in a line: one text after another, and how long each may be.
 -- Assumes nothing.
 use mathlib.Core.Path.{_≡_, refl, ap, _∙_}
-use mathlib.Core.Bool.{Bool, true, false, cond}
 use mathlib.Core.List.{List, [], _∷_, _++_}
 use Prim.Native.Nat.{ℕ, zero, suc, _+_, _-_, _/_, _%_, _^_, _≤_, _<_}
+use Prim.Native.Char.{code}
 use borrow.Author.Tests.{lt-ltb, le-ltb}
 use native.Mathlib.Omega.{arith}
-use native.Mathlib.Nat.{add-zero, zero-add}
+use native.Mathlib.Nat.{zero-add}
 use lib.Dec.{ltb}
-use lib.ListN.{length, getD, drop, set, length-append}
-use lib.Seq.{sets, drop-cons}
-use Rattle.bench_text.specs.Text.{digits, decimal, signedDecimal, passText, leftText, rightText, refusedText, newline, passLine, refusalLine}
-
--- What holds of both arms holds of a cond.
-pub of-cond : {A : Type 0} (P : A → Type 0) (b : Bool) {x y : A} → P x → P y → P (cond b x y)
-of-cond P true p q = p
-of-cond P false p q = q
+use lib.ListN.{length, set, length-append}
+use lib.Seq.{sets}
+use Rattle.lists.proofs.Choices.{of-cond}
+use Rattle.bench_bytes.proofs.Puts.{Put, done, then}
+use Rattle.bench_text.specs.Text.{digits, decimal, minus, signedDecimal, passText, leftText, rightText, refusedText, newline, passLine, refusalLine}
 
 pub digits-none : (k n : ℕ) → k ≡ 0 → digits k n ≡ []
 unfolding digits
@@ -25,11 +22,11 @@ module _ (k n : ℕ) (h : k ≡ 0 → ⊥) where
   some : k ≡ suc (k - 1)
   some = omega arith
 
-  pub digits-small : n < 10 → digits k n ≡ (48 + n) ∷ []
+  pub digits-small : n < 10 → digits k n ≡ (code "0" + n) ∷ []
   unfolding digits
   digits-small l = ap (λ (j : ℕ). digits j n) some ∙ rw (lt-ltb n 10 l)
 
-  pub digits-large : 10 ≤ n → digits k n ≡ digits (k - 1) (n / 10) ++ ((48 + n % 10) ∷ [])
+  pub digits-large : 10 ≤ n → digits k n ≡ digits (k - 1) (n / 10) ++ ((code "0" + n % 10) ∷ [])
   unfolding digits
   digits-large l = ap (λ (j : ℕ). digits j n) some ∙ rw (le-ltb n 10 l)
 
@@ -38,13 +35,13 @@ pub digits-length : (k n : ℕ) → length (digits k n) ≤ k
 unfolding digits
 digits-length zero n = omega arith
 digits-length (suc k) n =
-    of-cond (λ l. length l ≤ suc k) (ltb n 10) {x = (48 + n) ∷ []} {y = digits k (n / 10) ++ ((48 + n % 10) ∷ [])} (omega arith)
-    (let h = digits-length k (n / 10) in omega (arith, length-append (digits k (n / 10)) ((48 + n % 10) ∷ [])))
+    of-cond (λ l. length l ≤ suc k) (ltb n 10) {x = (code "0" + n) ∷ []} {y = digits k (n / 10) ++ ((code "0" + n % 10) ∷ [])} (omega arith)
+    (let h = digits-length k (n / 10) in omega (arith, length-append (digits k (n / 10)) ((code "0" + n % 10) ∷ [])))
 
 pub signed-length : (n : ℕ) → length (signedDecimal n) ≤ 11
 unfolding signedDecimal
 signed-length n =
-    of-cond (λ l. length l ≤ 11) (ltb n (2 ^ 19)) {x = digits 10 n} {y = 45 ∷ digits 10 (2 ^ 20 - n)}
+    of-cond (λ l. length l ≤ 11) (ltb n (2 ^ 19)) {x = digits 10 n} {y = minus ++ digits 10 (2 ^ 20 - n)}
     (omega (arith, digits-length 10 n)) (omega (arith, digits-length 10 (2 ^ 20 - n)))
 
 -- Where they end, at most.
@@ -64,46 +61,19 @@ pub refusal-line-length : (n : ℕ) → length (refusalLine n) ≤ 19
 unfolding refusalLine
 refusal-line-length n = simp length-append (omega (arith, digits-length 10 n))
 
--- The text a, written from a place of a line d, leaves the line e and ends before the place i.
-pub record Put (d : List ℕ) (at : ℕ) (a : List ℕ) (i : ℕ) (e : List ℕ) : Type 0 where
-  pub ends : i ≡ at + length a
-  pub leaves : e ≡ sets d at a
-
-pub done : {d : List ℕ} {at : ℕ} {a : List ℕ} {i : ℕ} {e : List ℕ} → (i ≡ at + length a) × (e ≡ sets d at a) → Put d at a i e
-done p = record { ends = p .0; leaves = p .1 }
-
-pub sets-append : (d : List ℕ) (at : ℕ) (a b : List ℕ) → sets (sets d at a) (at + length a) b ≡ sets d at (a ++ b)
-sets-append d at [] b = rw add-zero
-sets-append d at (x ∷ a) b =
-    let e : at + suc (length a) ≡ suc at + length a = omega arith in
-    ap (λ (i : ℕ). sets (sets (set d at x) (suc at) a) i b) e ∙ sets-append (set d at x) (suc at) a b
-
--- One text after another.
-pub then : (d : List ℕ) (at : ℕ) (a b : List ℕ) {i : ℕ} {e : List ℕ} {j : ℕ} {f : List ℕ} → Put d at a i e → Put e i b j f → Put d at (a ++ b) j f
-then d at a b p q =
-    record { ends = omega (arith, p .ends, q .ends, length-append a b); leaves = q .leaves ∙ rw (p .ends, p .leaves) (sets-append d at a b) }
-
--- One more byte of s at its place.
-pub sets-next : (d : List ℕ) (at : ℕ) (s : List ℕ) (i : ℕ) → i < length s →
-    sets d (at + i) (drop i s) ≡ sets (set d (at + i) (getD s i 0)) (at + (i + 1)) (drop (i + 1) s)
-sets-next d at s i h =
-    let e : at + (i + 1) ≡ suc (at + i) = omega arith in
-    let f : i + 1 ≡ suc i = omega arith in
-    rw (e, f, drop-cons s i 0 h)
-
 -- The digits of n as the code puts them: none, one, or those of n / 10 and one more.
 module _ (d : List ℕ) (at k n : ℕ) where
   pub put-none : k ≡ 0 → (at ≡ at + length (digits k n)) × (d ≡ sets d at (digits k n))
   put-none e = rw (digits-none k n e) (omega arith, refl)
 
   module _ (h : k ≡ 0 → ⊥) where
-    pub put-small : n < 10 → (at + 1 ≡ at + length (digits k n)) × (set d at (48 + n) ≡ sets d at (digits k n))
+    pub put-small : n < 10 → (at + 1 ≡ at + length (digits k n)) × (set d at (code "0" + n) ≡ sets d at (digits k n))
     put-small l = rw (digits-small k n h l) (refl, refl)
 
     pub put-large : 10 ≤ n → {i : ℕ} {e : List ℕ} → (i ≡ at + length (digits (k - 1) (n / 10))) × (e ≡ sets d at (digits (k - 1) (n / 10)))
-        → (i + 1 ≡ at + length (digits k n)) × (set e i (48 + n % 10) ≡ sets d at (digits k n))
+        → (i + 1 ≡ at + length (digits k n)) × (set e i (code "0" + n % 10) ≡ sets d at (digits k n))
     put-large l p =
-        let q = then d at (digits (k - 1) (n / 10)) ((48 + n % 10) ∷ []) (done p) (record { ends = refl; leaves = refl }) in
+        let q = then d at (digits (k - 1) (n / 10)) ((code "0" + n % 10) ∷ []) (done p) (record { ends = refl; leaves = refl }) in
         rw (digits-large k n h l) (q .ends, q .leaves)
 
 -- A signed number as the code puts it: its digits, or a minus sign and the digits of its magnitude.
@@ -113,11 +83,11 @@ module _ (d : List ℕ) (at n : ℕ) where
   unfolding signedDecimal
   put-positive l p = rw (lt-ltb n 524288 l) p
 
-  pub put-negative : 524288 ≤ n → {i j : ℕ} {e f : List ℕ} → Put d at (45 ∷ []) i e → Put e i (digits 10 (1048576 - n)) j f
+  pub put-negative : 524288 ≤ n → {i j : ℕ} {e f : List ℕ} → Put d at minus i e → Put e i (digits 10 (1048576 - n)) j f
       → (j ≡ at + length (signedDecimal n)) × (f ≡ sets d at (signedDecimal n))
   unfolding signedDecimal
   put-negative l p q =
-      let r = then d at (45 ∷ []) (digits 10 (1048576 - n)) p q in
+      let r = then d at minus (digits 10 (1048576 - n)) p q in
       rw (le-ltb n 524288 l) (r .ends, r .leaves)
 
 -- The seven texts of a pass's line, and the three of a refusal's.

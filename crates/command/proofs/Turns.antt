@@ -4,31 +4,37 @@ use mathlib.Core.Path.{_≡_, refl}
 use mathlib.Core.Logic.{_≢_}
 use mathlib.Core.Bool.{Bool, false}
 use mathlib.Core.List.{List}
-use Prim.Native.Nat.{ℕ}
-use native.Mathlib.Omega.{arith}
-use borrow.Author.Tests.{eq-eqb, ne-eqb}
-use Rattle.command_load.specs.Fields.{codeOf}
-use Rattle.command_load.specs.Loads.{loaded}
-use Rattle.command_control.specs.Control.{miscellany, timed, timerWaits, ticksSet}
-use Rattle.command_control.specs.Built.{commandRefusal}
+use Prim.Native.Nat.{ℕ, _<_, _≤_}
+use borrow.Author.Tests.{eq-eqb, ne-eqb, lt-ltb, le-ltb}
+use Rattle.command_fields.specs.Fields.{code5}
+use Rattle.command_generator.specs.GeneratorLoads.{afterGeneratorLoad}
+use Rattle.command_modifier.specs.ModifierLoads.{afterModifierLoad}
+use Rattle.command_misc.specs.Misc.{miscellany}
+use Rattle.command_timer.specs.Timer.{timed, timerWaits, ticksSet}
+use Rattle.command_built.specs.Built.{commandRefusal}
 use Rattle.command.specs.Command.{done, waits, afterCommand, takenWaiting}
 
-module _ (m : List ℕ) (c : ℕ) {l : List ℕ} where
-  pub does-misc : codeOf c ≡ 0 → l ≡ miscellany m c → (false ≡ waits m c) × (l ≡ done m c)
+module _ (m : List ℕ) (c : ℕ) {l : List ℕ} {code : ℕ} (ec : code ≡ code5 c) where
+  pub does-misc : code ≡ 0b00000 → l ≡ miscellany m c → (false ≡ waits m c) × (l ≡ done m c)
   unfolding done waits
-  does-misc e q = simp (eq-eqb (codeOf c) 0 e, ne-eqb (codeOf c) 2 (λ p. omega arith)) (refl, q)
+  does-misc e q = rw (← ec, e) (refl, q)
 
-  pub does-timer : {r : Bool} → codeOf c ≡ 2 → (r ≡ timerWaits m c) × (l ≡ timed m c) → (r ≡ waits m c) × (l ≡ done m c)
+  pub does-timer : {r : Bool} → code ≡ 0b00010 → (r ≡ timerWaits m c) × (l ≡ timed m c) → (r ≡ waits m c) × (l ≡ done m c)
   unfolding done waits
-  does-timer e q = simp (eq-eqb (codeOf c) 2 e, ne-eqb (codeOf c) 0 (λ p. omega arith)) q
+  does-timer e q = rw (← ec, e) q
 
-  pub does-ticks : codeOf c ≡ 3 → l ≡ ticksSet m c → (false ≡ waits m c) × (l ≡ done m c)
+  pub does-ticks : code ≡ 0b00011 → l ≡ ticksSet m c → (false ≡ waits m c) × (l ≡ done m c)
   unfolding done waits
-  does-ticks e q = simp (eq-eqb (codeOf c) 3 e, ne-eqb (codeOf c) 0 (λ p. omega arith), ne-eqb (codeOf c) 2 (λ p. omega arith)) (refl, q)
+  does-ticks e q = rw (← ec, e) (refl, q)
 
-  pub does-load : codeOf c ≢ 0 → codeOf c ≢ 2 → codeOf c ≢ 3 → l ≡ loaded m c → (false ≡ waits m c) × (l ≡ done m c)
-  unfolding done waits
-  does-load e f g q = simp (ne-eqb (codeOf c) 0 e, ne-eqb (codeOf c) 2 f, ne-eqb (codeOf c) 3 g) (refl, q)
+  module _ (misc : code ≢ 0b00000) (timer : code ≢ 0b00010) (ticks : code ≢ 0b00011) where
+    pub does-generator-load : code < 0b11000 → l ≡ afterGeneratorLoad m c → (false ≡ waits m c) × (l ≡ done m c)
+    unfolding done waits
+    does-generator-load h q = rw (← ec, ne-eqb code 0b00000 misc, ne-eqb code 0b00010 timer, ne-eqb code 0b00011 ticks, lt-ltb code 0b11000 h) (refl, q)
+
+    pub does-modifier-load : 0b11000 ≤ code → l ≡ afterModifierLoad m c → (false ≡ waits m c) × (l ≡ done m c)
+    unfolding done waits
+    does-modifier-load h q = rw (← ec, ne-eqb code 0b00000 misc, ne-eqb code 0b00010 timer, ne-eqb code 0b00011 ticks, le-ltb code 0b11000 h) (refl, q)
 
 module _ (m : List ℕ) (c : ℕ) where
   -- A refused command leaves the machine and doesn't wait.

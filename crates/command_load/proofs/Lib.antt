@@ -1,5 +1,2 @@
-pub mod Places
 pub mod Adjusting
 pub mod Sequence
-pub mod Modes
-pub mod Codes

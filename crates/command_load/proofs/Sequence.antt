@@ -1,20 +1,19 @@
--- One load after another: what each leaves, with its place found.
+-- One load after another: what each leaves, by what it found.
 -- Assumes nothing.
 use mathlib.Core.Path.{_≡_}
 use mathlib.Core.Bool.{Bool}
 use mathlib.Core.List.{List}
 use Prim.Native.Nat.{ℕ}
-use lib.ListN.{getD, set}
-use Rattle.command_load.specs.Loads.{loadedUnless, clearedIf}
+use Rattle.command_fields.specs.Fields.{flag}
+use Rattle.command_load.specs.Loads.{loadedUnless, clearedIf, loadedTwo, loadedThenCleared}
 
-pub then-loaded : (disabled : Bool) (v : ℕ) {m before n : List ℕ} {at place : ℕ} → m ≡ before → at ≡ place → n ≡ loadedUnless disabled m at v
-    → n ≡ loadedUnless disabled before place v
-then-loaded disabled v p q e = rw (← p, ← q) e
+module _ (m : List ℕ) (c first v second w : ℕ) {l after : List ℕ} where
+  pub two-loads : {p q : Bool} → p ≡ flag 4 c → l ≡ loadedUnless p m first v → q ≡ flag 5 c → after ≡ loadedUnless q l second w
+      → after ≡ loadedTwo m c first v second w
+  unfolding loadedTwo
+  two-loads ep e eq f = rw (f, e, ep, eq)
 
-pub then-cleared : (clear : Bool) {m before n : List ℕ} {at place : ℕ} → m ≡ before → at ≡ place → n ≡ clearedIf clear m at
-    → n ≡ clearedIf clear before place
-then-cleared clear p q e = rw (← p, ← q) e
-
--- A word that is put is made from what stood there.
-pub put-by : (f : ℕ → ℕ) (m : List ℕ) {at place v : ℕ} → at ≡ place → v ≡ f (getD m at 0) → set m at v ≡ set m place (f (getD m place 0))
-put-by f m p e = rw (e, p)
+  pub then-clears : (third : ℕ) {p : Bool} → l ≡ loadedTwo m c first v second w → p ≡ flag 6 c → after ≡ clearedIf p l third
+      → after ≡ loadedThenCleared m c first v second w third
+  unfolding loadedThenCleared
+  then-clears third e ep f = rw (f, e, ep)

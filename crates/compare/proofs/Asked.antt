@@ -1,25 +1,25 @@
--- The questions of a compare: asked two by two, as the code asks them, and what a machine and the orders that pass them are.
+-- The questions of a compare as the code asks them, two by two: the first pair that refuses gives the number, and all three passed give what the points need.
 -- Assumes nothing.
 use mathlib.Core.Path.{_≡_, sym, _∙_}
 use mathlib.Core.Logic.{_≢_}
-use mathlib.Core.List.{List, [], _∷_}
+use mathlib.Core.List.{[], _∷_}
 use Prim.Native.Nat.{ℕ}
 use native.Mathlib.Omega.{arith}
 use Rattle.machine.specs.Questions.{question1, question2}
 use Rattle.machine.proofs.SoundMachine.{reaches, sound-generator, sound-controls}
 use Rattle.order.specs.Order.{question5, question6, IsOrder}
 use Rattle.order.proofs.Entries.{order-passes}
-use Rattle.order_agreement.specs.Points.{compareRefusal}
-use Rattle.order_traces.specs.Traces.{Ready}
+use Rattle.order_traces.specs.Traces.{Traceable}
 use Rattle.machine.proofs.Asked.{machine-passes}
-use Rattle.order_agreement.proofs.Compared.{compare-passes}
+use Rattle.compare.specs.Compare.{compareRefusal}
+use Rattle.compare.proofs.Answers.{compare-passes}
 use Rattle.questions.specs.Questions.{asked}
-use Rattle.layout.specs.Machine.{ticksOf}
+use Rattle.layout.specs.Machine.{Machine, Order, ticksOf}
 use Rattle.questions.proofs.Asked.{asked-first, asked-later}
 
 -- A machine that passes questions 1 and 2.
-pub is-ready : (m : List ℕ) → asked (question1 m ∷ question2 m ∷ []) ≡ 0 → Ready m
-is-ready m e =
+pub is-traceable : (m : Machine) → asked (question1 m ∷ question2 m ∷ []) ≡ 0 → Traceable m
+is-traceable m e =
     let passed = machine-passes m e in
     record {
       reaches = reaches m (passed .0);
@@ -28,7 +28,7 @@ is-ready m e =
     }
 
 -- The questions by pairs.
-module _ (m first second : List ℕ) where
+module _ (m : Machine) (first second : Order) where
   pub refused-first : {n : ℕ} → n ≡ asked (question1 m ∷ question2 m ∷ []) → n ≢ 0 → n ≡ compareRefusal m first second
   unfolding compareRefusal
   refused-first e h = asked-first (question1 m) (question2 m) _ e h
@@ -50,12 +50,15 @@ module _ (m first second : List ℕ) where
         ∙ sym (past-first
         ∙ asked-later (question5 (ticksOf m) first) (question6 (ticksOf m) first) _ (λ e. omega arith) (λ e. omega arith) ordered)
 
--- A compare that is not refused has passed the questions of the machine and of both orders.
-pub record Passed (m first second : List ℕ) : Type 0 where
-  pub ready : Ready m
+-- A compare that is not refused has a machine and two orders of which traces can be made.
+pub record Comparable (m : Machine) (first second : Order) : Type 0 where
+  pub traceable : Traceable m
   pub ordered : IsOrder (ticksOf m) first × IsOrder (ticksOf m) second
 
-pub passes : (m first second : List ℕ) → compareRefusal m first second ≡ 0 → Passed m first second
-passes m first second e =
+pub is-comparable : (m : Machine) (first second : Order) → compareRefusal m first second ≡ 0 → Comparable m first second
+is-comparable m first second e =
     let p = compare-passes m first second e in
-    record { ready = is-ready m (p .machine); ordered = (order-passes (ticksOf m) first (p .first), order-passes (ticksOf m) second (p .second)) }
+    record {
+      traceable = is-traceable m (p .machine);
+      ordered = (order-passes (ticksOf m) first (p .first), order-passes (ticksOf m) second (p .second));
+    }

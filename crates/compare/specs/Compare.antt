@@ -1,9 +1,35 @@
--- What a compare answers, from the number and the yes or no that the code gives.
+-- The answer of a compare: its questions and whether the orders are equal (document 01, "Questions at the door").
 -- Assumes nothing.
 use Prim.Native.Nat.{ℕ}
-use mathlib.Core.Bool.{Bool}
-use Rattle.order_agreement.specs.Points.{Comparison}
+use mathlib.Core.Bool.{Bool, false, cond}
+use mathlib.Core.List.{[], _∷_}
+use lib.Dec.{eqb}
+use Rattle.layout.specs.Machine.{Machine, Order, ticksOf}
+use Rattle.questions.specs.Questions.{asked}
+use Rattle.machine.specs.Questions.{question1, question2}
+use Rattle.order.specs.Order.{question5, question6}
+use Rattle.order_agreement.specs.Agreement.{settingsOf}
+use Rattle.order_agreement.specs.Points.{agrees}
 
--- The answer of a compare.
-abbrev pub compared : ℕ → Bool → Comparison
-compared number equal = record { number = number; equal = equal }
+-- What compare answers: the number of the refusing question or 0, and whether the orders are equal. A refused compare says no.
+pub record Comparison : Type 0 where
+  pub number : ℕ
+  pub equal : Bool
+
+-- The questions of a compare, in sequence: 5 and 6 for each order, first then second.
+unfoldable pub compareRefusal : Machine → Order → Order → ℕ
+compareRefusal m o₁ o₂ =
+    asked
+    (question1 m
+    ∷ question2 m
+    ∷ question5 (ticksOf m) o₁
+    ∷ question6 (ticksOf m) o₁
+    ∷ question5 (ticksOf m) o₂
+    ∷ question6 (ticksOf m) o₂
+    ∷ [])
+
+-- The comparison of two orders.
+unfoldable pub compareOf : Machine → Order → Order → Comparison
+compareOf m o₁ o₂ =
+    let n = compareRefusal m o₁ o₂ in
+    record { number = n; equal = cond (eqb n 0) (agrees (settingsOf m) o₁ o₂) false }

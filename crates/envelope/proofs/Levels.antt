@@ -1,25 +1,20 @@
 -- Q and V are words of 12 bits; a wave's rounded product, by sign and magnitude.
 -- Assumes nothing.
-use mathlib.Core.Path.{_≡_, refl, ap, sym}
-use mathlib.Core.Bool.{Bool, true, false, cond}
-use Prim.Native.Nat.{ℕ, zero, suc, _+_, _*_, _/_, _%_, _^_, _<_, _≤_}
+use mathlib.Core.Path.{_≡_, refl}
+use mathlib.Core.Bool.{Bool, true, false}
+use Prim.Native.Nat.{ℕ, zero, suc, _*_, _^_, _<_, _≤_}
 use native.Mathlib.Nat.{mul-le-mul, zero-mul}
 use native.Mathlib.Omega.{arith}
 use lib.Dec.{leb}
-use lib.IntN.{ℤ, pos, negℤ}
-use Rattle.words.specs.declared.SignMagnitude.{SignMagnitude}
 use Rattle.words.specs.Words.{valueOf}
-use Rattle.words.proofs.Residues.{low-lt}
+use Rattle.words.proofs.Residues.{either-low, low-lt}
+use Rattle.exponential.specs.Exponential.{tableSize}
 use Rattle.exponential.proofs.Entries.{exponential-low}
 use Rattle.envelope.specs.Envelope.{hOf, qOf, level, rounded, enveloped}
 
-either : (b : Bool) {x y n : ℕ} → x < n → y < n → cond b x y < n
-either true h k = h
-either false h k = k
-
 pub q-low : (mode gq : ℕ) → gq < 2 ^ 24 → qOf mode gq < 2 ^ 12
 unfolding qOf
-q-low mode gq h = either (leb 2 mode) (exponential-low 256 (hOf gq)) (omega arith)
+q-low mode gq h = either-low (leb 2 mode) (exponential-low tableSize (hOf gq)) (omega arith)
 
 pub level-low : (mode gl gq : ℕ) → level mode gl gq < 2 ^ 12
 unfolding level

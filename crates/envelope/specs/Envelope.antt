@@ -6,7 +6,7 @@ use lib.Dec.{eqb, leb}
 use lib.IntN.{ℤ, pos, negℤ, natAbs, _+ℤ_, _-ℤ_}
 use lib.Signed.{nonNeg}
 use Rattle.words.specs.Words.{lowBits, exactSum, outside}
-use Rattle.exponential.specs.Exponential.{exponential}
+use Rattle.exponential.specs.Exponential.{tableSize, exponential}
 
 -- H: the high 12 bits of GQ.
 abbrev pub hOf : ℕ → ℕ
@@ -22,7 +22,7 @@ decayed free gq gp = cond (overflows gq gp && not free) gq (lowBits 24 (exactSum
 
 -- Q: H in the envelope modes 00 and 01, the exponential of H in 10 and 11.
 unfoldable pub qOf : ℕ → ℕ → ℕ
-qOf mode gq = cond (leb 2 mode) (exponential 256 (hOf gq)) (hOf gq)
+qOf mode gq = cond (leb 2 mode) (exponential tableSize (hOf gq)) (hOf gq)
 
 -- V: GL - Q in the envelope modes 00 and 10, GL + Q in 01 and 11; its low 12 bits, unsigned.
 unfoldable pub level : ℕ → ℕ → ℕ → ℕ

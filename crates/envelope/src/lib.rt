@@ -3,8 +3,9 @@ ghost use Prim.Native.Nat.{_<_, _^_};
 ghost use mathlib.Core.Path.{_≡_};
 ghost use lib.Dec.{eqb};
 ghost use Rattle.words.specs.Words.{lowBits, valueOf};
-ghost use Rattle.exponential.specs.Exponential.{entries};
+ghost use Rattle.exponential.specs.Exponential.{tableSize, entries};
 ghost use Rattle.envelope.specs.Envelope.{overflows, decayed, qOf, level, enveloped};
+use exponential::Entries;
 use words::SignMagnitude;
 
 // Whether GQ plus GP leaves the range of GQ.
@@ -30,8 +31,8 @@ pub fn decayed(free: u8, gq: u32, gp: u32) -> u32
 }
 
 // Q: the high bits of GQ, or their exponential.
-fn q(table: &[u16; 256], mode: u32, gq: u32) -> u32
-    requires { ⌜ now table ≡ entries 256 ⌝ }
+fn q(table: &Entries, mode: u32, gq: u32) -> u32
+    requires { ⌜ now table ≡ entries tableSize ⌝ }
     requires { ⌜ gq < 2 ^ 24 ⌝ }
     ensures { λ r. ⌜ r ≡ qOf mode gq ⌝ }
 {
@@ -42,8 +43,8 @@ fn q(table: &[u16; 256], mode: u32, gq: u32) -> u32
 }
 
 // V: GL minus or plus Q.
-pub fn level(table: &[u16; 256], mode: u32, gl: u32, gq: u32) -> u32
-    requires { ⌜ now table ≡ entries 256 ⌝ }
+pub fn level(table: &Entries, mode: u32, gl: u32, gq: u32) -> u32
+    requires { ⌜ now table ≡ entries tableSize ⌝ }
     requires { ⌜ (gl < 2 ^ 12) × (gq < 2 ^ 24) ⌝ }
     ensures { λ r. ⌜ r ≡ level mode gl gq ⌝ }
 {

@@ -6,14 +6,13 @@ use mathlib.Core.List.{List, [], _∷_, _++_, map}
 use Prim.Native.Nat.{ℕ, suc, _+_, _%_, _≤_, _<_}
 use native.Mathlib.Omega.{arith}
 use native.Mathlib.Nat.{zero-add, add-zero, add-assoc, mod-add-mod, mod-eq-of-lt, mod-lt}
-use lib.ListN.{length, getD, set, drop}
-use lib.Seq.{sets, sets-eq}
+use lib.ListN.{length, getD, set}
+use lib.Seq.{sets}
 use Rattle.lists.specs.Lists.{count}
-use Rattle.order_lists.specs.Sequences.{keep, some, lastOf, placeOf, before, latest}
+use Rattle.order_lists.specs.Sequences.{keep, some, lastOf, placeOf, before, latest, total}
 use Rattle.order_lists.proofs.Entries.{count-entry, none-in-front, some-first, last-passes, CutAtLast, cut-at-last}
 use Rattle.order_lists.proofs.Places.{place-kept, before-itself, after-front, after-behind}
-use Rattle.equal_endings.specs.Ends.{total}
-use Rattle.equal_endings.proofs.Totals.{total-append, total-same, total-none}
+use Rattle.order_lists.proofs.Totals.{total-append, total-same, total-none}
 
 -- A word that the entries passing p replace one after the other by f.
 module _ (p : ℕ → Bool) (f : ℕ → ℕ) where
@@ -32,18 +31,13 @@ module _ (p : ℕ → Bool) (f : ℕ → ℕ) where
       go false true = refl
       go false false = refl
 
--- A list of values is as long as that of the entries.
-pub map-length : (f : ℕ → ℕ) (xs : List ℕ) → length (map f xs) ≡ length xs
-map-length f [] = refl
-map-length f (x ∷ xs) = ap suc (map-length f xs)
-
 -- Items that the entries passing p write one after the other from place k on.
 module _ (p : ℕ → Bool) (f : ℕ → ℕ) where
   abbrev pub writing : List ℕ → List ℕ → ℕ → List ℕ
   writing [] places k = places
   writing (g ∷ order) places k = writing order (cond (p g) (set places k (f g)) places) (cond (p g) (suc k) k)
 
-  writing-sets : (order places : List ℕ) (k : ℕ) → writing order places k ≡ sets places k (map f (keep p order))
+  pub writing-sets : (order places : List ℕ) (k : ℕ) → writing order places k ≡ sets places k (map f (keep p order))
   unfolding keep
   writing-sets [] places k = refl
   writing-sets (g ∷ order) places k =
@@ -53,14 +47,6 @@ module _ (p : ℕ → Bool) (f : ℕ → ℕ) where
           ≡ sets places k (map f (cond b (g ∷ keep p order) (keep p order)))
       go true = refl
       go false = refl
-
-  -- From the start on: those items, and behind them what was there.
-  pub writing-from-start : (order places : List ℕ) → length (keep p order) ≤ length places
-      → writing order places 0 ≡ map f (keep p order) ++ drop (length (keep p order)) places
-  writing-from-start order places h =
-      writing-sets order places 0
-      ∙ sets-eq (map f (keep p order)) places 0 (rw (zero-add (length (map f (keep p order))), map-length f (keep p order)) h)
-      ∙ rw (zero-add (length (map f (keep p order))), map-length f (keep p order))
 
 -- How many entries pass, beginning with k.
 module _ (p : ℕ → Bool) where
@@ -102,12 +88,12 @@ module _ (adds : ℕ → Bool) (f : ℕ → ℕ) where
   abbrev pub brings : ℕ → ℕ
   brings g = cond (adds g) (f g) 0
 
-  abbrev pub bringsAfter : ℕ → List ℕ → ℕ → ℕ
+  abbrev bringsAfter : ℕ → List ℕ → ℕ → ℕ
   bringsAfter x order g = cond (adds g && before x g order) (f g) 0
 
   -- What the adding entries behind x bring is what those bring that it stands before.
   module _ (a : List ℕ) (x : ℕ) (b : List ℕ) (once : (g : ℕ) → count g (a ++ (x ∷ b)) ≤ 1) where
-    pub total-behind : total (bringsAfter x (a ++ (x ∷ b))) (a ++ (x ∷ b)) ≡ total brings b
+    total-behind : total (bringsAfter x (a ++ (x ∷ b))) (a ++ (x ∷ b)) ≡ total brings b
     unfolding total
     total-behind =
         total-append (bringsAfter x (a ++ (x ∷ b))) a (x ∷ b)

@@ -1,7 +1,7 @@
-pub mod Totals
 pub mod Folds
-pub mod Loaded
 pub mod Taking
-pub mod Stage
 pub mod Told
+pub mod Stage
 pub mod Ends
+pub mod Same
+pub mod Alike

@@ -1,9 +1,9 @@
--- A pass under way: the generators that are still to be taken are as it began, and so is each F; and what a step does to a DAC word, to a word of generator-this and to the counts.
+-- A pass under way: the generators that are still to be taken are as it began, and so are the last quadrants; so what each brings is as the settings say, and a step does that to the DAC words, to generator-this, to the places and to the counts.
 -- Assumes nothing.
 use mathlib.Core.Path.{_≡_, refl, sym, ap, _∙_}
 use mathlib.Core.Logic.{_≢_}
 use mathlib.Core.Bool.{Bool, true, false, cond, _&&_}
-use mathlib.Core.List.{List, [], _∷_}
+use mathlib.Core.List.{[], _∷_}
 use Prim.Native.Nat.{ℕ, suc, _+_, _%_, _^_, _≤_, _<_}
 use native.Mathlib.Omega.{arith}
 use native.Mathlib.Nat.{mod-add-mod, mod-lt}
@@ -13,31 +13,24 @@ use lib.Pow.{pow-pos}
 use lib.ListN.{length, getD, set}
 use lib.Seq.{getD-set-same, getD-set-other}
 use Rattle.lists.specs.Lists.{count}
-use Rattle.layout.specs.Layout.{dacAt}
+use Rattle.layout.specs.Layout.{generatorAt, dacAt}
+use Rattle.layout.specs.Machine.{Machine, Order, Items, Sums}
 use Rattle.words.specs.Words.{sum}
-use Rattle.words.proofs.Residues.{low-lt, sum-is}
-use Rattle.modes.specs.Modes.{adds, replaces, writeData, writeDAC}
-use Rattle.sums.specs.Sums.{generatorThis, wordAt, sumAt, putSum, fAt, sumsOf}
-use Rattle.sums.proofs.Memory.{Quadrants, f-only, put-this}
-use Rattle.generator.specs.declared.Generator.{Generator}
-use Rattle.generator.specs.Generator.{runMode, pOf}
-use Rattle.pass_generators.specs.GeneratorStage.{State, generatorOf, putDAC, sent, writtenBy, summed, readBy, step}
-use Rattle.pass_generators.proofs.Puts.{put-length, put-apart}
-use Rattle.pass_laws.proofs.Frames.{takenAt, fTaken, turned, putBack, step-words, step-sums, step-length, step-quadrant, step-quadrants, step-untaken, apart-past}
+use Rattle.words.proofs.Residues.{sum-is}
+use Rattle.sums.specs.Sums.{generatorThis, wordAt, sumAt, putSum, sumsOf}
+use Rattle.sums.proofs.Memory.{Quadrants, put-this}
+use Rattle.pass_model.specs.Generators.{Brought, Generators, State, told, fed, summed, step}
+use Rattle.pass_model.proofs.Puts.{put-length, put-apart}
+use Rattle.pass_laws.proofs.Frames.{broughtAt, putBack, step-words, step-length, step-below, step-quadrant, step-quadrants, apart-past, apart-other}
 use Rattle.pass_laws.proofs.Orders.{Distinct, distinct-first, distinct-rest}
-use Rattle.order_lists.proofs.Entries.{count-first, count-next}
+use Rattle.order_agreement.specs.Agreement.{Settings, replacesWord, addsToWord}
+use Rattle.lists.proofs.Counts.{count-first, count-next}
 use Rattle.order_lists.proofs.Places.{there-within}
-use Rattle.equal_endings.specs.Ends.{fOf, outputAt}
-
-pub record Taking (m : List ℕ) (s : State) (order : List ℕ) : Type 0 where
-  pub distinct : Distinct order
-  pub as-begun : (k : ℕ) → 1 ≤ count k order → generatorOf (s .words) k ≡ generatorOf m k
-  pub same-f : (gfm : ℕ) → fAt (s .sums) gfm ≡ fAt (sumsOf m) gfm
-  pub dacs : 4112 ≤ length (s .words)
-  pub quadrants : Quadrants (s .sums)
+use Rattle.equal_endings.specs.Follows.{turnAt, pAt, sendsAt, SameWords, SameLast, TurnFollows, Follows}
+use Rattle.equal_endings.proofs.Folds.{next}
 
 -- A word that a DAC may be.
-dac-word : (words : List ℕ) (b : Bool) (n d f x : ℕ) → dacAt d < length words → getD words (dacAt d) 0 ≡ x
+dac-word : (words : Machine) (b : Bool) (n d f x : ℕ) → dacAt d < length words → getD words (dacAt d) 0 ≡ x
     → getD (cond b (set words (dacAt n) f) words) (dacAt d) 0 ≡ cond (b && eqb n d) f x
 dac-word words false n d f x h e = e
 dac-word words true n d f x h e = go (eqb n d) refl
@@ -47,7 +40,7 @@ dac-word words true n d f x h e = go (eqb n d) refl
     go false q = getD-set-other words (dacAt n) (dacAt d) f 0 (λ z. eqb-false n d q (omega arith)) ∙ e
 
 -- A word of generator-this, where word i is replaced, added to or left.
-module _ (s : List (List ℕ)) (i w p item : ℕ) (small : p < 2 ^ 20) (inside : w < length (getD s generatorThis [])) where
+module _ (s : Sums) (i w p item : ℕ) (small : p < 2 ^ 20) (inside : w < length (getD s generatorThis [])) where
   abbrev old : ℕ
   old = getD (getD s generatorThis []) w 0
 
@@ -78,66 +71,100 @@ module _ (s : List (List ℕ)) (i w p item : ℕ) (small : p < 2 ^ 20) (inside :
       go false q false true = put-word (sum 20 (sumAt s i) p) false q
       go false q false false = refl
 
-p-low : (u : Generator) (f : ℕ) → pOf u f < 2 ^ 20
-unfolding pOf
-p-low u f = low-lt 20 _
+-- The generators of an order below t are still to be taken.
+pub record Taking (t : ℕ) (m : Machine) (s : State) (order : Order) : Type 0 where
+  pub distinct : Distinct order
+  pub below : (i : ℕ) → i < length order → getD order i 0 < t
+  pub as-begun : (k : ℕ) → 1 ≤ count k order → SameWords (s .words) m k
+  pub same-last : SameLast (s .sums) (sumsOf m)
+  pub dacs : 4112 ≤ length (s .words)
+  pub quadrants : Quadrants (s .sums)
 
-module _ (m items : List ℕ) (s : State) (g : ℕ) (order : List ℕ) (k : Taking m s (g ∷ order)) where
-  pub first-low : g < 256
+module _ (of : Generators) (c : Settings) (m : Machine) (f : Follows of c m) (items : Items) (s : State) (g : ℕ) (order : Order)
+    (k : Taking (c .ticks) m s (g ∷ order)) where
+  first-low : g < 256
   first-low = k .distinct .below 0 (omega arith)
 
-  -- The generator that is taken, and its F.
-  pub first-as-begun : takenAt s g ≡ generatorOf m g
-  first-as-begun = k .as-begun g (omega (arith, count-first g order))
+  -- What the generator that is taken brings, and that it follows the settings.
+  first : TurnFollows of c m g
+  first = f .turns g (k .below 0 (omega arith))
 
-  pub first-f : fTaken s g ≡ fOf m g
-  unfolding fOf
-  first-f = ap (λ (u : Generator). fAt (s .sums) (u .gfm)) first-as-begun ∙ k .same-f (generatorOf m g .gfm)
+  abbrev b : Brought
+  b = broughtAt of s g
+
+  abbrev t : Bool
+  t = told (of .distance) (s .triggered) g
+
+  first-brings : broughtAt of s g ≡ turnAt of m g (told (of .distance) (s .triggered) g)
+  first-brings = f .own (s .words) m (s .sums) (sumsOf m) g t (k .as-begun g (omega (arith, count-first g order))) (k .same-last)
+
+  sends-is : b .sends ≡ sendsAt of m g
+  sends-is = ap (λ (x : Brought). x .sends) first-brings ∙ first .sends t
+
+  writes-is : b .writes ≡ c .writes g
+  writes-is = ap (λ (x : Brought). x .writes) first-brings ∙ first .writes t
+
+  replaces-is : b .replaces ≡ c .replacing g
+  replaces-is = ap (λ (x : Brought). x .replaces) first-brings ∙ first .replaces t
+
+  adds-is : b .adds ≡ c .adding g
+  adds-is = ap (λ (x : Brought). x .adds) first-brings ∙ first .adds t
+
+  word-is : (w : ℕ) → eqb (b .word) w ≡ c .onWord w g
+  word-is w = ap (λ (x : Brought). eqb (x .word) w) first-brings ∙ first .word t w
+
+  p-is : b .p ≡ pAt of m g
+  p-is = ap (λ (x : Brought). x .p) first-brings ∙ first .p t
+
+  feeds-is : (d : ℕ) → (b .feeds && eqb (b .dac) d) ≡ c .feeds d g
+  feeds-is d = ap (λ (x : Brought). x .feeds && eqb (x .dac) d) first-brings ∙ first .feeds t d
 
   -- The others stay as they were.
-  pub taking-next : Taking m (step items s g) order
+  pub taking-next : Taking (c .ticks) m (step of items s g) order
   taking-next =
       record {
         distinct = distinct-rest g order (k .distinct);
-        as-begun = λ h c.
-            let n : h ≢ g = λ q. absurd (omega (arith, distinct-first g order (k .distinct), ap (λ (j : ℕ). count j order) q)) in
-            let l : h < 256 = there-within 256 h order (distinct-rest g order (k .distinct) .below) c in
-            step-untaken items s g h l n ∙ k .as-begun h (omega (arith, count-next h g order (λ q. n (sym q))));
-        same-f = λ gfm.
-            f-only (step items s g .sums) (s .sums) gfm (step-quadrant items s g 1 (λ e. omega arith)) (step-quadrant items s g 3 (λ e. omega arith)) ∙ k .same-f gfm;
-        dacs = rw (step-length items s g) (k .dacs);
-        quadrants = step-quadrants items s g (k .quadrants);
+        below = λ i h. k .below (suc i) (omega arith);
+        as-begun = λ h q.
+            let n : h ≢ g = λ e. absurd (omega (arith, distinct-first g order (k .distinct), ap (λ (j : ℕ). count j order) e)) in
+            let l : h < 256 = there-within 256 h order (distinct-rest g order (k .distinct) .below) q in
+            let start = k .as-begun h (omega (arith, count-next h g order (λ e. n (sym e)))) in
+            record { each = λ j i. step-below of items s g (generatorAt h + j) (omega arith) (apart-other g h j i n) ∙ start .each j i };
+        same-last =
+            record {
+              generators = step-quadrant of items s g 1 (λ e. omega arith) ∙ k .same-last .generators;
+              modifiers = step-quadrant of items s g 3 (λ e. omega arith) ∙ k .same-last .modifiers;
+            };
+        dacs = rw (step-length of items s g) (k .dacs);
+        quadrants = step-quadrants of items s g (k .quadrants);
       }
 
   -- What the step does.
-  pub dac-next : (d : ℕ) → d < 16 → getD (step items s g .words) (dacAt d) 0
-      ≡ cond (eqb (runMode (generatorOf m g)) writeDAC && eqb (generatorOf m g .go % 2 ^ 4) d) (fOf m g) (getD (s .words) (dacAt d) 0)
-  unfolding putDAC
+  pub dac-next : (d : ℕ) → d < 16 → getD (step of items s g .words) (dacAt d) 0 ≡ cond (c .feeds d g) (sendsAt of m g) (getD (s .words) (dacAt d) 0)
+  unfolding fed
   dac-next d h =
-      rw (step-words items s g)
-      (dac-word (putBack s g) (eqb (runMode (takenAt s g)) writeDAC) (takenAt s g .go % 2 ^ 4) d (fTaken s g) (getD (s .words) (dacAt d) 0)
-      (rw (put-length (s .words) g (turned s g)) (omega (arith, k .dacs)))
-      (put-apart (s .words) g (turned s g) (dacAt d) (apart-past g (dacAt d) first-low (omega arith)))
-      ∙ rw (first-f, first-as-begun))
+      rw (step-words of items s g)
+      (dac-word (putBack of s g) (b .feeds) (b .dac) d (b .sends) (getD (s .words) (dacAt d) 0)
+      (rw (put-length (s .words) g (b .unit)) (omega (arith, k .dacs)))
+      (put-apart (s .words) g (b .unit) (dacAt d) (apart-past g (dacAt d) first-low (omega arith)))
+      ∙ rw (feeds-is d, sends-is))
 
-  pub sum-next : (w : ℕ) → w < 64 → getD (getD (step items s g .sums) generatorThis []) w 0
-      ≡ cond (eqb (generatorOf m g .gsum) w && replaces (runMode (generatorOf m g))) ((outputAt m g + getD items (s .reads) 0 % 2 ^ 20) % 2 ^ 20)
-      (cond (eqb (generatorOf m g .gsum) w && adds (runMode (generatorOf m g))) ((getD (getD (s .sums) generatorThis []) w 0 + outputAt m g) % 2 ^ 20)
-      (getD (getD (s .sums) generatorThis []) w 0))
-  unfolding summed outputAt
+  pub sum-next : (w : ℕ) → w < 64 → getD (getD (step of items s g .sums) generatorThis []) w 0
+      ≡ next (2 ^ 20) (replacesWord c w) (addsToWord c w) (c .replacing) (pAt of m) (λ j. getD items j 0 % 2 ^ 20) g
+      (getD (getD (s .sums) generatorThis []) w 0) (s .reads)
+  unfolding step summed
   sum-next w h =
-      rw (step-sums items s g, first-f, first-as-begun)
-      (sum-word (s .sums) (generatorOf m g .gsum) w (pOf (generatorOf m g) (fOf m g)) (getD items (s .reads) 0) (p-low (generatorOf m g) (fOf m g))
-      (rw (k .quadrants .each 0 (omega arith)) h) (replaces (runMode (generatorOf m g))) (adds (runMode (generatorOf m g))))
+      sum-word (s .sums) (b .word) w (b .p) (getD items (s .reads) 0) (rw p-is (first .p-low)) (rw (k .quadrants .each 0 (omega arith)) h) (b .replaces) (b .adds)
+      ∙ rw (word-is w, replaces-is, adds-is, p-is)
 
-  pub places-next : step items s g .places ≡ cond (eqb (runMode (generatorOf m g)) writeData) (set (s .places) (s .writes) (fOf m g)) (s .places)
-  unfolding step sent
-  places-next = rw (first-f, first-as-begun)
+  pub places-next : step of items s g .places ≡ cond (c .writes g) (set (s .places) (s .writes) (sendsAt of m g)) (s .places)
+  unfolding step
+  places-next = rw (writes-is, sends-is)
 
-  pub writes-next : step items s g .writes ≡ cond (eqb (runMode (generatorOf m g)) writeData) (suc (s .writes)) (s .writes)
-  unfolding step writtenBy
-  writes-next = rw first-as-begun
+  pub writes-next : step of items s g .writes ≡ cond (c .writes g) (suc (s .writes)) (s .writes)
+  unfolding step
+  writes-next = rw writes-is
 
-  pub reads-next : step items s g .reads ≡ cond (replaces (runMode (generatorOf m g))) (suc (s .reads)) (s .reads)
-  unfolding step readBy
-  reads-next = rw first-as-begun
+  pub reads-next : step of items s g .reads ≡ cond (c .replacing g) (suc (s .reads)) (s .reads)
+  unfolding step
+  reads-next = rw replaces-is

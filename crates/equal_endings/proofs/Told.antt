@@ -1,106 +1,115 @@
 -- Each generator of an order is taken once: what it is told at its turn, and its registers at the end.
 -- Assumes nothing.
-use mathlib.Core.Path.{_≡_, refl, sym, ap, _∙_}
+use mathlib.Core.Path.{_≡_, refl, ap, _∙_, subst}
 use mathlib.Core.Bool.{Bool, true, false, cond, _&&_, and-true, and-false}
-use mathlib.Core.List.{List, _∷_, _++_}
-use Prim.Native.Nat.{ℕ, zero, suc, _+_, _≤_, _<_}
+use mathlib.Core.List.{_∷_, _++_}
+use Prim.Native.Nat.{ℕ, zero, suc, _+_, _-_, _≤_, _<_}
 use native.Mathlib.Omega.{arith}
-use lib.Dec.{eqb}
-use lib.ListN.{length, getD, length-replicate, getD-replicate}
+use lib.Dec.{eqb, leb}
+use lib.ListN.{length, getD}
 use Rattle.lists.specs.Lists.{count}
-use Rattle.layout.specs.Layout.{machineLength}
-use Rattle.machine.specs.Questions.{sound}
+use Rattle.lists.proofs.Zeros.{zeros-length, zeros-at}
+use Rattle.layout.specs.Machine.{Machine, Order, Items, Places}
 use Rattle.order.specs.Order.{IsOrder}
-use Rattle.machine.proofs.SoundMachine.{sound-controls}
+use Rattle.sums.specs.Sums.{sumsOf}
 use Rattle.generator.specs.declared.Generator.{Generator}
-use Rattle.generator.specs.Generator.{triggers, after}
-use Rattle.pass_generators.specs.GeneratorStage.{generatorOf, told, steps, begun}
-use Rattle.pass_laws.proofs.SoundPuts.{gmode-loaded}
-use Rattle.pass_laws.proofs.Orders.{Distinct, distinct-order, Split, split-once}
-use Rattle.pass_laws.proofs.Turns.{turn-after, steps-fired-other, turn-fired}
-use Rattle.pass_laws.proofs.PassSound.{steps-sound}
+use Rattle.pass_model.specs.Generators.{Brought, Generators, State, told, steps, begun}
+use Rattle.pass_laws.specs.Registers.{RegistersOf}
+use Rattle.pass_laws.proofs.Frames.{broughtAt, steps-quadrant, steps-untaken}
+use Rattle.pass_laws.proofs.Orders.{Split, split-once}
+use Rattle.pass_laws.proofs.Turns.{turn-registers, steps-triggered-other, turn-triggered}
+use Rattle.order_agreement.specs.Agreement.{Settings}
 use Rattle.order_lists.specs.Sequences.{before}
 use Rattle.order_lists.proofs.Entries.{count-append}
+use Rattle.order_lists.proofs.Orders.{there-below, there-once}
 use Rattle.order_lists.proofs.Places.{before-cut, not-before-cut}
-use Rattle.equal_endings.specs.Ends.{fOf, triggersAt, toldIn, Turned}
-use Rattle.equal_endings.proofs.Loaded.{gj-loaded, gk-loaded, gq-loaded}
-use Rattle.layout.specs.Machine.{ticksOf}
+use Rattle.equal_endings.specs.Follows.{turnAt, triggersAt, Follows}
+use Rattle.equal_endings.specs.Ends.{toldIn}
 
--- As a pass begins nothing has triggered.
-begun-triggered : (m places : List ℕ) (k : ℕ) → k < 256 → getD (begun m places .triggered) k 0 ≡ 0
-unfolding begun
-begun-triggered m places k h = getD-replicate {A = ℕ} 256 k 0 0 h
-
-begun-marks : (m places : List ℕ) → length (begun m places .triggered) ≡ 256
-unfolding begun
-begun-marks m places = length-replicate {A = ℕ} 256 0
-
--- The mark of a generator after the part a of an order: it was taken and triggered.
-module _ (m items places a : List ℕ) (k : ℕ) (low : k < 256) where
-  untaken-mark : count k a ≡ 0 → getD (steps items (begun m places) a .triggered) k 0 ≡ 0
-  untaken-mark n = steps-fired-other items a (begun m places) k n ∙ begun-triggered m places k low
-
-  taken-mark : count k a ≡ 1 → getD (steps items (begun m places) a .triggered) k 0 ≡ cond (triggersAt m k) 1 0
-  unfolding triggersAt begun
-  taken-mark n = at (split-once k a n)
-    where
-      at : Split k a → getD (steps items (begun m places) a .triggered) k 0 ≡ cond (triggers (generatorOf m k)) 1 0
-      at c =
-          ap (λ (l : List ℕ). getD (steps items (begun m places) l .triggered) k 0) (c .is)
-          ∙ turn-fired items (c .before) (c .behind) (begun m places) k low (rw (begun-marks m places) low) (c .not-before) (c .not-behind)
-          ∙ ap (λ (x : ℕ). cond (triggers (generatorOf m k)) 1 x) (begun-triggered m places k low)
-
+-- A mark tells.
 marked : (b : Bool) → eqb (cond b 1 0) 1 ≡ b
 marked true = refl
 marked false = refl
 
--- What a generator is told at its turn, between a and b.
-told-at : (m items places a : List ℕ) (g : ℕ) (b : List ℕ) → ((k : ℕ) → count k (a ++ (g ∷ b)) ≤ 1) → count g a ≡ 0 → g < 256
-    → told (steps items (begun m places) a .triggered) g ≡ toldIn m (a ++ (g ∷ b)) g
-unfolding told toldIn
-told-at m items places a zero b once cut low = refl
-told-at m items places a (suc k) b once cut low = go (count k a) refl
-  where
-    go : (n : ℕ) → count k a ≡ n → eqb (getD (steps items (begun m places) a .triggered) k 0) 1 ≡ (triggersAt m k && before k (suc k) (a ++ (suc k ∷ b)))
-    go zero e = rw (untaken-mark m items places a k (omega arith) e, not-before-cut a (suc k) b cut k e, and-false (triggersAt m k))
-    go (suc n) e =
-        rw (
-          taken-mark m items places a k (omega arith) (omega (arith, once k, count-append k a (suc k ∷ b))),
-          before-cut a (suc k) b cut k (omega arith),
-          and-true (triggersAt m k),
-        )
-        (marked (triggersAt m k))
+module _ (of : Generators) (s : Settings) (m : Machine) (f : Follows of s m) (items : Items) (places : Places) where
+  abbrev start : State
+  start = begun m (sumsOf m) places
 
--- The registers of each generator at the end.
-module _ (m order items places : List ℕ) (whole : length m ≡ machineLength) (e : sound m ≡ true) (o : IsOrder (ticksOf m) order) where
-  distinct : Distinct order
-  distinct = distinct-order (ticksOf m) order (sound-controls m e .tHigh) o
-
-  ends-sound : sound (steps items (begun m places) order .words) ≡ true
+  -- As a pass begins nothing has triggered.
+  begun-triggered : (k : ℕ) → k < 256 → getD (start .triggered) k 0 ≡ 0
   unfolding begun
-  ends-sound = steps-sound items order (begun m places) (distinct .below) e
+  begun-triggered k h = zeros-at 256 k h
 
-  taken-once : (g : ℕ) → g < ticksOf m → generatorOf (steps items (begun m places) order .words) g ≡ after (generatorOf m g) (fOf m g) (toldIn m order g)
-  unfolding fOf begun
-  taken-once g h = at (split-once g order (o .once g h))
+  begun-marks : length (start .triggered) ≡ 256
+  unfolding begun
+  begun-marks = zeros-length 256
+
+  -- What a generator brings that is taken after the part a of an order.
+  turn-brings : (a : Order) (g : ℕ) → g < 256 → count g a ≡ 0
+      → broughtAt of (steps of items start a) g ≡ turnAt of m g (told (of .distance) (steps of items start a .triggered) g)
+  unfolding begun
+  turn-brings a g h n =
+      let t = steps of items start a in
+      f .own (t .words) m (t .sums) (sumsOf m) g (told (of .distance) (t .triggered) g)
+      (record { each = λ j l. steps-untaken of items a start g j h l n })
+      (record { generators = steps-quadrant of items a start 1 (λ e. omega arith); modifiers = steps-quadrant of items a start 3 (λ e. omega arith) })
+
+  -- Its mark after such a part: it was taken and triggered.
+  module _ (a : Order) (k : ℕ) (few : k < 256) where
+    untaken-mark : count k a ≡ 0 → getD (steps of items start a .triggered) k 0 ≡ 0
+    untaken-mark n = steps-triggered-other of items a start k n ∙ begun-triggered k few
+
+    taken-mark : k < s .ticks → count k a ≡ 1 → getD (steps of items start a .triggered) k 0 ≡ cond (triggersAt of m k) 1 0
+    taken-mark low n = at (split-once k a n)
+      where
+        at : Split k a → getD (steps of items start a .triggered) k 0 ≡ cond (triggersAt of m k) 1 0
+        at c =
+            let t = steps of items start (c .before) in
+            let same : broughtAt of t k .triggers ≡ triggersAt of m k
+            = ap (λ (b : Brought). b .triggers) (turn-brings (c .before) k few (c .not-before)) ∙ f .turns k low .triggers (told (of .distance) (t .triggered) k) in
+            ap (λ (l : Order). getD (steps of items start l .triggered) k 0) (c .is)
+            ∙ turn-triggered of items (c .before) (c .behind) start k (rw begun-marks few) (c .not-before) (c .not-behind)
+            ∙ rw (same, begun-triggered k few)
+
+  -- What a generator is told at its turn, between a and b.
+  module _ (a : Order) (g : ℕ) (b : Order) (cut : count g a ≡ 0) (few : g < 256) (once : (k : ℕ) → count k (a ++ (g ∷ b)) ≤ 1)
+      (there : (k : ℕ) → 1 ≤ count k (a ++ (g ∷ b)) → k < s .ticks) where
+    told-by : (k : ℕ) → k < 256 → (n : ℕ) → count k a ≡ n
+        → eqb (getD (steps of items start a .triggered) k 0) 1 ≡ (triggersAt of m k && before k g (a ++ (g ∷ b)))
+    told-by k h zero e = rw (untaken-mark a k h e, not-before-cut a g b cut k e, and-false (triggersAt of m k))
+    told-by k h (suc n) e =
+        let parts = count-append k a (g ∷ b) in
+        rw (
+          taken-mark a k h (there k (omega (arith, parts))) (omega (arith, once k, parts)),
+          before-cut a g b cut k (omega arith),
+          and-true (triggersAt of m k),
+        )
+        (marked (triggersAt of m k))
+
+    told-at : told (of .distance) (steps of items start a .triggered) g ≡ toldIn of m (a ++ (g ∷ b)) g
+    unfolding told toldIn
+    told-at =
+        let k = g - of .distance in
+        ap (λ (x : Bool). leb (of .distance) g && x) (told-by k (omega arith) (count k a) refl)
+
+  -- The registers of each generator at the end.
+  pub own-turned : (order : Order) → IsOrder (s .ticks) order → (g : ℕ) → g < s .ticks
+      → RegistersOf (steps of items start order .words) g (turnAt of m g (toldIn of m order g) .unit)
+  unfolding begun
+  own-turned order o g h = at (split-once g order (o .once g h))
     where
       low : g < 256
-      low = omega (arith, sound-controls m e .tHigh)
+      low = omega (arith, f .few)
 
-      at : Split g order → generatorOf (steps items (begun m places) order .words) g ≡ after (generatorOf m g) (fOf m g) (toldIn m order g)
+      at : Split g order → RegistersOf (steps of items start order .words) g (turnAt of m g (toldIn of m order g) .unit)
       at c =
+          let a = c .before in
+          let b = c .behind in
+          let t = steps of items start a in
+          let told-is = told-at a g b (c .not-before) low
+          (λ k. rw (← (c .is)) (there-once (s .ticks) order (o .once) (o .below) k))
+          (λ k. rw (← (c .is)) (there-below (s .ticks) order (o .once) (o .below) k)) in
           rw (c .is)
-          (turn-after items (c .before) (c .behind) (begun m places) g low (omega arith) (c .not-before) (c .not-behind)
-          ∙ ap (after (generatorOf m g) (fOf m g))
-          (told-at m items places (c .before) g (c .behind) (λ k. rw (← (c .is)) (distinct .once k)) (c .not-before) low))
-
-  pub own-turned : (g : ℕ) → g < ticksOf m → Turned (steps items (begun m places) order .words) g (after (generatorOf m g) (fOf m g) (toldIn m order g))
-  own-turned g h =
-      let low : g < 256 = omega (arith, sound-controls m e .tHigh) in
-      let words = steps items (begun m places) order .words in
-      record {
-        gj = sym (gj-loaded words ends-sound g low) ∙ ap (λ (u : Generator). u .gj) (taken-once g h);
-        gk = sym (gk-loaded words ends-sound g low) ∙ ap (λ (u : Generator). u .gk) (taken-once g h);
-        gq = sym (gq-loaded words ends-sound g low) ∙ ap (λ (u : Generator). u .gq) (taken-once g h);
-        gmode = sym (gmode-loaded words ends-sound g low) ∙ ap (λ (u : Generator). u .gmode) (taken-once g h);
-      }
+          (subst (λ (u : Generator). RegistersOf (steps of items start (a ++ (g ∷ b)) .words) g u)
+          (ap (λ (x : Brought). x .unit) (turn-brings a g low (c .not-before)) ∙ ap (λ (x : Bool). turnAt of m g x .unit) told-is)
+          (turn-registers of items a b start g low (omega (arith, f .whole)) (c .not-behind)))

@@ -1,68 +1,54 @@
--- What the generators of a pass leave, said of the machine as the pass began and of the order: each generator is taken once, and its F comes from the last quadrants, which no generator writes. Laws join these to a pass.
+-- What the generators of a pass leave, said of the machine as the pass began, of its settings and of the order: each generator is taken once, and what it brings does not depend on the others but for what it is told.
 -- Assumes nothing.
-use Prim.Native.Nat.{ℕ, zero, suc, _+_, _%_, _^_, _<_}
-use mathlib.Core.Bool.{Bool, false, cond, _&&_}
-use mathlib.Core.List.{List, [], _∷_, _++_, map}
+use Prim.Native.Nat.{ℕ, _+_, _-_, _%_, _^_, _<_}
+use mathlib.Core.Bool.{Bool, cond, _&&_}
+use mathlib.Core.List.{[], map}
 use mathlib.Core.Path.{_≡_}
-use lib.ListN.{length, getD, drop, take}
-use Rattle.layout.specs.Layout.{generatorAt, dacAt, quadrantAt, GJ, GK, GQ, GMODE}
-use Rattle.sums.specs.Sums.{generatorThis, generatorLast, fAt, sumAt, sumsOf}
-use Rattle.generator.specs.declared.Generator.{Generator}
-use Rattle.generator.specs.Generator.{pOf, triggers, after, gmodeAfter}
-use Rattle.pass_generators.specs.GeneratorStage.{State, generatorOf}
-use Rattle.layout.specs.Machine.{ticksOf}
-use Rattle.pass.specs.Pass.{Outcome}
-use Rattle.order_lists.specs.Sequences.{keep, some, lastOf, before, latest}
-use Rattle.order_agreement.specs.Agreement.{settingsOf, replacesWord, addsToWord, lastReplacing, placeReplacing, afterReplacing}
+use lib.Dec.{leb}
+use lib.ListN.{length, getD}
+use lib.Seq.{sets}
+use Rattle.layout.specs.Layout.{dacAt}
+use Rattle.layout.specs.Widths.{wordBits}
+use Rattle.layout.specs.Machine.{Machine, Order, Items, Places}
+use Rattle.sums.specs.Sums.{generatorThis, sumAt, sumsOf}
+use Rattle.pass_model.specs.Generators.{Generators, Taken, begun, takenBy}
+use Rattle.pass_laws.specs.Registers.{RegistersOf}
+use Rattle.order_lists.specs.Sequences.{keep, some, before, latest, total}
+use Rattle.order_agreement.specs.Agreement.{Settings, replacesWord, addsToWord, lastReplacing, placeReplacing, afterReplacing}
+use Rattle.equal_endings.specs.Follows.{turnAt, pAt, sendsAt, triggersAt}
 
--- F, P and the trigger of generator g of a machine as a pass begins.
-unfoldable pub fOf : List ℕ → ℕ → ℕ
-fOf m g = fAt (sumsOf m) (generatorOf m g .gfm)
+module _ (of : Generators) (m : Machine) where
+  -- Whether generator g is told in a pass by an order: its lower neighbour triggers and stands before it.
+  unfoldable pub toldIn : Order → ℕ → Bool
+  toldIn order g = leb (of .distance) g && (triggersAt of m (g - of .distance) && before (g - of .distance) g order)
 
-unfoldable pub outputAt : List ℕ → ℕ → ℕ
-outputAt m g = pOf (generatorOf m g) (fOf m g)
+  -- What the generators of an order leave.
+  abbrev pub takenIn : Items → Places → Order → Taken
+  takenIn items places order = takenBy of items (begun m (sumsOf m) places) order
 
-unfoldable pub triggersAt : List ℕ → ℕ → Bool
-triggersAt m g = triggers (generatorOf m g)
+  module _ (s : Settings) where
+    -- Generator-this word w after them: what its last replacing one brought plus the adding ones after it; or, with none, what was there plus all adding ones.
+    unfoldable pub wordAfter : Items → Order → ℕ → ℕ
+    wordAfter items order w =
+        cond (some (replacesWord s w) order)
+        ((pAt of m (lastReplacing s w order) + getD items (placeReplacing s w order) 0 % 2 ^ wordBits
+        + total (λ g. cond (addsToWord s w g && afterReplacing s w g order) (pAt of m g) 0) order)
+        % 2 ^ wordBits)
+        ((sumAt (sumsOf m) w + total (λ g. cond (addsToWord s w g) (pAt of m g) 0) order) % 2 ^ wordBits)
 
--- Whether generator g is told in a pass by an order: its lower neighbour triggers and stands before it.
-unfoldable pub toldIn : List ℕ → List ℕ → ℕ → Bool
-toldIn m order zero = false
-toldIn m order (suc g) = triggersAt m g && before g (suc g) order
+    -- All that they leave where they change something.
+    pub record StageEnds (items : Items) (places : Places) (order : Order) (t : Taken) : Type 0 where
+      pub own : (g : ℕ) → g < s .ticks → RegistersOf (t .words) g (turnAt of m g (toldIn order g) .unit)
+      pub dac : (d : ℕ) → d < 16 → getD (t .words) (dacAt d) 0 ≡ latest (s .feeds d) (sendsAt of m) order (getD m (dacAt d) 0)
+      pub sum : (w : ℕ) → w < 64 → getD (getD (t .sums) generatorThis []) w 0 ≡ wordAfter items order w
+      pub sent : t .places ≡ sets places 0 (map (sendsAt of m) (keep (s .writes) order))
+      pub reads : t .reads ≡ length (keep (s .replacing) order)
+      pub writes : t .writes ≡ length (keep (s .writes) order)
 
--- The sum of f at the entries of a list.
-unfoldable pub total : (ℕ → ℕ) → List ℕ → ℕ
-total f [] = 0
-total f (x ∷ xs) = f x + total f xs
-
--- Generator-this word w after the generators: what its last 0111 brought plus the adding ones after it; or, with no 0111, what was there plus all adding ones.
-unfoldable pub wordAfter : List ℕ → List ℕ → List ℕ → ℕ → ℕ
-wordAfter m items order w =
-    let s = settingsOf m in
-    cond (some (replacesWord s w) order)
-    ((outputAt m (lastReplacing s w order) + getD items (placeReplacing s w order) 0 % 2 ^ 20
-    + total (λ g. cond (addsToWord s w g && afterReplacing s w g order) (outputAt m g) 0) order)
-    % 2 ^ 20)
-    ((sumAt (sumsOf m) w + total (λ g. cond (addsToWord s w g) (outputAt m g) 0) order) % 2 ^ 20)
-
--- The registers of generator g that a turn can change, in a machine's words, are those of u.
-pub record Turned (words : List ℕ) (g : ℕ) (u : Generator) : Type 0 where
-  pub gj : getD words (generatorAt g + GJ) 0 ≡ u .gj
-  pub gk : getD words (generatorAt g + GK) 0 ≡ u .gk
-  pub gq : getD words (generatorAt g + GQ) 0 ≡ u .gq
-  pub gmode : getD words (generatorAt g + GMODE) 0 ≡ u .gmode
-
--- What the generators' stage of a pass leaves where it changes something.
-pub record StageEnds (m order items places : List ℕ) (s : State) : Type 0 where
-  pub own : (g : ℕ) → g < ticksOf m → Turned (s .words) g (after (generatorOf m g) (fOf m g) (toldIn m order g))
-  pub dac : (d : ℕ) → d < 16 → getD (s .words) (dacAt d) 0 ≡ latest (settingsOf m .feeds d) (fOf m) order (getD m (dacAt d) 0)
-  pub sum : (w : ℕ) → w < 64 → getD (getD (s .sums) generatorThis []) w 0 ≡ wordAfter m items order w
-  pub sent : s .places ≡ map (fOf m) (keep (settingsOf m .writes) order) ++ drop (length (keep (settingsOf m .writes) order)) places
-  pub writes : s .writes ≡ length (keep (settingsOf m .writes) order)
-
--- What a pass leaves, as far as two orders can be told apart by it.
-pub record PassEnds (m order items : List ℕ) (r : Outcome) : Type 0 where
-  pub gmode : (g : ℕ) → g < ticksOf m → getD (r .machine) (generatorAt g + GMODE) 0 ≡ gmodeAfter (generatorOf m g) (toldIn m order g)
-  pub dac : (d : ℕ) → d < 16 → getD (r .machine) (dacAt d) 0 ≡ latest (settingsOf m .feeds d) (fOf m) order (getD m (dacAt d) 0)
-  pub word : (w : ℕ) → w < 64 → getD (r .machine) (quadrantAt generatorLast + w) 0 ≡ wordAfter m items order w
-  pub written : take (r .written) (r .places) ≡ map (fOf m) (keep (settingsOf m .writes) order)
+-- Two stages leave the same.
+pub record SameTaken (t u : Taken) : Type 0 where
+  pub words : t .words ≡ u .words
+  pub sums : t .sums ≡ u .sums
+  pub places : t .places ≡ u .places
+  pub reads : t .reads ≡ u .reads
+  pub writes : t .writes ≡ u .writes

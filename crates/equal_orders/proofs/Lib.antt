@@ -1,5 +1,5 @@
-pub mod Transfer
-pub mod Leaves
+pub mod Settings
+pub mod Finished
 pub mod Sufficiency
 pub mod Necessity
 pub mod Theorem

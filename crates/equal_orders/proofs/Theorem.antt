@@ -3,32 +3,30 @@
 use mathlib.Core.Path.{_≡_, sym, _∙_}
 use mathlib.Core.Logic.{_↔_, _≢_}
 use mathlib.Core.Bool.{true, false}
-use mathlib.Core.List.{List, [], _∷_}
-use Prim.Native.Nat.{ℕ}
+use mathlib.Core.List.{[], _∷_}
 use Rattle.questions.specs.Questions.{asked}
 use Rattle.order.specs.Order.{question5, question6}
 use Rattle.order.proofs.Entries.{order-passes}
-use Rattle.pass.proofs.Asked.{is-whole, is-sound}
+use Rattle.pass_model.proofs.Asked.{is-whole, is-sound}
 use Rattle.order_agreement.specs.Agreement.{settingsOf, Agree}
-use Rattle.order_agreement.specs.Points.{agrees, compareRefusal, compareOf}
+use Rattle.order_agreement.specs.Points.{agrees}
 use Rattle.order_agreement.proofs.Agreed.{points-agree}
-use Rattle.order_agreement.proofs.Compared.{ComparePassed, compare-passes, compare-number, compare-agrees, compare-refused}
-use Rattle.equal_orders.specs.Equal.{Good, Equal}
-use Rattle.equal_orders.proofs.Necessity.{needed}
-use Rattle.equal_orders.proofs.Sufficiency.{enough}
-use Rattle.layout.specs.Machine.{ticksOf}
+use Rattle.compare.specs.Compare.{compareRefusal, compareOf}
+use Rattle.compare.proofs.Answers.{ComparePassed, compare-passes, compare-number, compare-agrees, compare-refused}
+use Rattle.equal_orders.specs.Equal.{Equal}
+use Rattle.equal_orders.proofs.Necessity.{equal-agreed}
+use Rattle.equal_orders.proofs.Sufficiency.{agreed-equal}
+use Rattle.layout.specs.Machine.{Machine, Order, ticksOf}
+use Rattle.pass_laws.specs.Good.{Good}
 
 -- For orders that pass questions 5 and 6, on a machine that passes 1 and 2.
-pub demand-3 : (m : List ℕ) → Good m → (o₁ o₂ : List ℕ)
+pub demand-3 : (m : Machine) → Good m → (o₁ o₂ : Order)
     → asked (question5 (ticksOf m) o₁ ∷ question6 (ticksOf m) o₁ ∷ []) ≡ 0 → asked (question5 (ticksOf m) o₂ ∷ question6 (ticksOf m) o₂ ∷ []) ≡ 0
     → Equal m o₁ o₂ ↔ Agree m o₁ o₂
-demand-3 m good o₁ o₂ e₁ e₂ =
-    let is₁ = order-passes (ticksOf m) o₁ e₁ in
-    let is₂ = order-passes (ticksOf m) o₂ e₂ in
-    (needed m good o₁ o₂ is₁ is₂, enough m good o₁ o₂ is₁ is₂)
+demand-3 m good o₁ o₂ e₁ e₂ = (equal-agreed m good o₁ o₂ e₁ e₂, agreed-equal m good o₁ o₂ e₁ e₂)
 
 -- A compare that is not refused says yes just where the orders are equal.
-pub compare-says : (m o₁ o₂ : List ℕ) → compareOf m o₁ o₂ .number ≡ 0 → (compareOf m o₁ o₂ .equal ≡ true) ↔ Equal m o₁ o₂
+pub compare-says : (m : Machine) (o₁ o₂ : Order) → compareOf m o₁ o₂ .number ≡ 0 → (compareOf m o₁ o₂ .equal ≡ true) ↔ Equal m o₁ o₂
 compare-says m o₁ o₂ n = (λ e. demand .1 (points .0 (sym answer ∙ e)), λ e. answer ∙ points .1 (demand .0 e))
   where
     none : compareRefusal m o₁ o₂ ≡ 0
@@ -48,5 +46,5 @@ compare-says m o₁ o₂ n = (λ e. demand .1 (points .0 (sym answer ∙ e)), λ
         demand-3 m (record { whole = is-whole m o₁ (passed .machine); is-sound = is-sound m o₁ (passed .machine) }) o₁ o₂ (passed .first) (passed .second)
 
 -- A refused compare says no.
-pub refused-says-no : (m o₁ o₂ : List ℕ) → compareOf m o₁ o₂ .number ≢ 0 → compareOf m o₁ o₂ .equal ≡ false
+pub refused-says-no : (m : Machine) (o₁ o₂ : Order) → compareOf m o₁ o₂ .number ≢ 0 → compareOf m o₁ o₂ .equal ≡ false
 refused-says-no m o₁ o₂ n = compare-refused m o₁ o₂ (λ e. n (compare-number m o₁ o₂ ∙ e))

@@ -3,7 +3,7 @@
 use mathlib.Core.Path.{_≡_, refl, sym, ap, ap₂, _∙_}
 use mathlib.Core.Logic.{_↔_, _≢_}
 use mathlib.Core.Bool.{Bool, true, false, and-false, true≢false}
-use mathlib.Core.List.{List, [], _∷_, map}
+use mathlib.Core.List.{[], _∷_, map}
 use Prim.Native.Nat.{ℕ, zero, suc, _+_, _^_, _<_}
 use native.Mathlib.Omega.{arith}
 use borrow.Author.Tests.{eqb-true, eqb-false, eq-eqb, lt-ltb}
@@ -29,13 +29,14 @@ use Rattle.order.proofs.Entries.{order-passes}
 use Rattle.order_lists.specs.Sequences.{keep, some, lastOf, placeOf, before}
 use Rattle.order_lists.proofs.Orders.{some-from, last-below}
 use Rattle.order_agreement.specs.Agreement.{settingsOf, replacesWord, addsToWord, lastReplacing, afterReplacing, SameWord, Agree}
-use Rattle.equal_orders.specs.Equal.{Good, Equal}
+use Rattle.pass_laws.specs.Good.{Good}
+use Rattle.equal_orders.specs.Equal.{Equal}
 use Rattle.equal_orders.specs.WorkedExamples.{word, AtTop, forth, back, TwoTicks, BothFeed, ofTwo, WorkedExamples}
 use Rattle.equal_orders.proofs.Theorem.{demand-3}
 use Rattle.generator.specs.declared.Generator.{Generator}
 use Rattle.generator.specs.Generator.{runMode, gqAfter, triggers}
 use Rattle.questions.specs.Questions.{asked}
-use Rattle.layout.specs.Machine.{ticksOf, runModeAt, gsumAt, gfmAt, dacNumberAt}
+use Rattle.layout.specs.Machine.{Machine, Order, ticksOf, runModeAt, gsumAt, gfmAt, dacNumberAt}
 
 -- Examples 1 to 9.
 sine-entries : (entry 0 ≡ 1) × (entry 1 ≡ 4) × (entry 1023 ≡ 2895) × (entry 2047 ≡ 4095)
@@ -120,7 +121,7 @@ module _ (p : ℕ → Bool) (a b : ℕ) where
   unfolding keep
   keep-second e f = rw (e, f)
 
-module _ (m : List ℕ) (r₀ r₁ : ℕ) (c : TwoTicks m r₀ r₁) where
+module _ (m : Machine) (r₀ r₁ : ℕ) (c : TwoTicks m r₀ r₁) where
   is-forth : IsOrder (ticksOf m) forth
   is-forth = order-passes (ticksOf m) forth (forth-passes (ticksOf m) (c .ticks))
 
@@ -134,12 +135,12 @@ module _ (m : List ℕ) (r₀ r₁ : ℕ) (c : TwoTicks m r₀ r₁) where
       (sym t ∙ each-of-two (λ k. p (runModeAt m k) ≡ false) (ticksOf m) (c .ticks) (ap p (c .run₀) ∙ e) (ap p (c .run₁) ∙ f) g h)
 
 -- 10: the second waits and the first can trigger.
-not-agreed-10 : (m : List ℕ) → TwoTicks m runningB wait → Agree m forth back → ⊥
+not-agreed-10 : (m : Machine) → TwoTicks m runningB wait → Agree m forth back → ⊥
 unfolding before placeOf free isOneOf
 not-agreed-10 m c ag = true≢false (ag .neighbours 0 (omega (arith, c .ticks)) (eq-eqb (runModeAt m 1) wait (c .run₁)) (rw (c .run₀)))
 
 -- 11: both feed DAC 0.
-module _ (m : List ℕ) (c : BothFeed m) where
+module _ (m : Machine) (c : BothFeed m) where
   feeds₀ : settingsOf m .feeds 0 0 ≡ true
   feeds₀ = rw (c .two .run₀, c .dac₀)
 
@@ -172,7 +173,7 @@ module _ (m : List ℕ) (c : BothFeed m) where
       orders₁ : IsOrder (ticksOf m) back
       orders₁ = is-back m writeDAC writeDAC (c .two)
 
-      last-in : (o : List ℕ) → IsOrder (ticksOf m) o → (p : ℕ → Bool) (g : ℕ) → g < ticksOf m → p g ≡ true → lastOf p o < ticksOf m
+      last-in : (o : Order) → IsOrder (ticksOf m) o → (p : ℕ → Bool) (g : ℕ) → g < ticksOf m → p g ≡ true → lastOf p o < ticksOf m
       last-in o is p g h f = last-below (ticksOf m) o (is .once) (is .below) p (some-from (ticksOf m) o (is .once) (is .below) p g h f)
 
       from-0 : (g : ℕ) → g < ticksOf m → gfmAt m g ≡ gfmAt m 0
@@ -185,7 +186,7 @@ module _ (m : List ℕ) (c : BothFeed m) where
       no-write₁ = rw (c .two .run₁)
 
 -- 12: 0111, then 1111.
-module _ (m : List ℕ) (c : TwoTicks m readData runningA) where
+module _ (m : Machine) (c : TwoTicks m readData runningA) where
   replaces₀ : settingsOf m .replacing 0 ≡ true
   unfolding replaces isOneOf
   replaces₀ = rw (c .run₀)
@@ -336,19 +337,19 @@ sums-two : gsumAt (ofTwo 448 960 3 4 0 0) 0 ≢ gsumAt (ofTwo 448 960 3 4 0 0) 1
 unfolding ofTwo freshMachine zeros
 sums-two = eqb-false 3 4 refl
 
-by-demand-3 : (m : List ℕ) (r₀ r₁ : ℕ) → TwoTicks m r₀ r₁ → Equal m forth back ↔ Agree m forth back
+by-demand-3 : (m : Machine) (r₀ r₁ : ℕ) → TwoTicks m r₀ r₁ → Equal m forth back ↔ Agree m forth back
 by-demand-3 m r₀ r₁ c =
     demand-3 m (c .good) forth back (forth-passes (ticksOf m) (c .ticks)) (back-passes (ticksOf m) (c .ticks))
 
-unequal-10 : (m : List ℕ) → TwoTicks m runningB wait → Equal m forth back → ⊥
+unequal-10 : (m : Machine) → TwoTicks m runningB wait → Equal m forth back → ⊥
 unequal-10 m c e = not-agreed-10 m c (by-demand-3 m runningB wait c .0 e)
 
-equal-11 : (m : List ℕ) → BothFeed m → Equal m forth back ↔ (gfmAt m 0 ≡ gfmAt m 1)
+equal-11 : (m : Machine) → BothFeed m → Equal m forth back ↔ (gfmAt m 0 ≡ gfmAt m 1)
 equal-11 m c =
     let d = by-demand-3 m writeDAC writeDAC (c .two) in
     (λ e. agreed-one m c (d .0 e), λ e. d .1 (one-agreed m c e))
 
-equal-12 : (m : List ℕ) → TwoTicks m readData runningA → Equal m forth back ↔ (gsumAt m 0 ≢ gsumAt m 1)
+equal-12 : (m : Machine) → TwoTicks m readData runningA → Equal m forth back ↔ (gsumAt m 0 ≢ gsumAt m 1)
 equal-12 m c =
     let d = by-demand-3 m readData runningA c in
     (λ e. λ q. not-agreed-12 m c q (d .0 e), λ n. d .1 (agreed-12 m c n))

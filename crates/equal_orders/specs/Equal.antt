@@ -1,33 +1,33 @@
 -- When two orders of the generators are equal (document 01, "A pass, and two orders of it").
 -- Assumes nothing.
-use Prim.Native.Nat.{ℕ, _+_, _^_, _≤_, _<_}
-use mathlib.Core.Bool.{true}
+use Prim.Native.Nat.{ℕ, _^_, _≤_, _<_}
 use mathlib.Core.List.{List}
 use mathlib.Core.Path.{_≡_}
 use lib.ListN.{length, getD, take}
-use Rattle.layout.specs.Layout.{machineLength}
 use Rattle.modes.specs.Modes.{readData, writeData, writeDAC}
-use Rattle.machine.specs.Questions.{sound}
 use Rattle.order.specs.Order.{inMode}
-use Rattle.pass.specs.Pass.{Outcome, passOf}
-use Rattle.layout.specs.Machine.{ticksOf, runModeAt, gmodeAt, gsumAt, gfmAt, dacNumberAt}
-
--- A machine that passes questions 1 and 2.
-pub record Good (m : List ℕ) : Type 0 where
-  pub whole : length m ≡ machineLength
-  pub is-sound : sound m ≡ true
-
--- A run of 32-bit words.
-abbrev pub Words : List ℕ → Type 0
-Words xs = (i : ℕ) → i < length xs → getD xs i 0 < 2 ^ 32
+use Rattle.layout.specs.Machine.{Machine, Order, ticksOf, runModeAt, gmodeAt, gsumAt, gfmAt, dacNumberAt}
+use Rattle.pass_model.specs.Pass.{Call, by, Outcome, passOf}
+use Rattle.pass_laws.specs.Good.{Good}
 
 -- Two machines have the same settings: T, every GMODE, GSUM and GFM, and the DAC number of each 0010.
-pub record SameSettings (m n : List ℕ) : Type 0 where
+pub record SameSettings (m n : Machine) : Type 0 where
   pub ticks : ticksOf m ≡ ticksOf n
   pub modes : (g : ℕ) → g < 256 → gmodeAt m g ≡ gmodeAt n g
   pub words : (g : ℕ) → g < 256 → gsumAt m g ≡ gsumAt n g
   pub inputs : (g : ℕ) → g < 256 → gfmAt m g ≡ gfmAt n g
   pub dacs : (g : ℕ) → g < 256 → runModeAt m g ≡ writeDAC → dacNumberAt m g ≡ dacNumberAt n g
+
+-- A run of 32-bit words.
+abbrev pub Words : List ℕ → Type 0
+Words xs = (i : ℕ) → i < length xs → getD xs i 0 < 2 ^ 32
+
+-- What a call brings is enough for a machine: a read list with items for all 0111s below T, and a run of written places that is long enough.
+pub record Enough (m : Machine) (call : Call) : Type 0 where
+  pub items : Words (call .items)
+  pub places : Words (call .places)
+  pub reads : inMode m readData ≤ length (call .items)
+  pub writes : inMode m writeData ≤ length (call .places)
 
 -- The written data: the items that a pass wrote, in their sequence.
 abbrev pub writtenData : Outcome → List ℕ
@@ -39,9 +39,6 @@ pub record SameEnd (r s : Outcome) : Type 0 where
   pub written : writtenData r ≡ writtenData s
 
 -- Two orders are equal: for every machine with these settings that passes questions 1 and 2, its other words being free,
--- for every read list with items for all 0111s below T, and for every run of written places that is long enough,
--- passes by the two orders leave the same machine and write the same data.
-abbrev pub Equal : List ℕ → List ℕ → List ℕ → Type 0
-Equal m o₁ o₂ =
-    (n items places : List ℕ) → Good n → SameSettings m n → Words items → Words places → inMode n readData ≤ length items → inMode n writeData ≤ length places
-    → SameEnd (passOf n o₁ items places) (passOf n o₂ items places)
+-- and for every call that brings enough for it, passes by the two orders leave the same machine and write the same data.
+abbrev pub Equal : Machine → Order → Order → Type 0
+Equal m o₁ o₂ = (n : Machine) → Good n → SameSettings m n → (call : Call) → Enough n call → SameEnd (passOf n (by o₁ call)) (passOf n (by o₂ call))

@@ -1,9 +1,3 @@
-pub mod Contents
-pub mod Loaded
-pub mod Triggers
-pub mod Sources
-pub mod Waves
-pub mod Sounding
 pub mod Items
-pub mod Settings
 pub mod Readings
+pub mod Points

@@ -1,159 +1,134 @@
--- What a pass from each witness leaves, by the settings of the machine that it was made from: the points can be read off it.
+-- What a pass from each content leaves: the points can be read off it.
 -- Assumes nothing.
 use mathlib.Core.Path.{_≡_, refl, sym, ap, _∙_}
 use mathlib.Core.Logic.{_≢_}
-use mathlib.Core.Bool.{Bool, true, false, cond, _&&_, true≢false}
-use mathlib.Core.List.{List, map}
-use Prim.Native.Nat.{ℕ, suc, _+_, _%_, _^_, _≤_, _<_}
+use mathlib.Core.Bool.{Bool, true, false, cond, _&&_, and-false, true≢false}
+use Prim.Native.Nat.{ℕ, _+_, _-_, _%_, _^_, _≤_, _<_}
 use native.Mathlib.Omega.{arith}
-use borrow.Author.Tests.{eqb-true, eqb-false}
+use borrow.Author.Tests.{eqb-true, eqb-false, le-leb}
 use lib.Dec.{eqb}
 use lib.ListN.{getD}
 use Rattle.lists.specs.Lists.{count}
 use Rattle.lists.proofs.Below.{and-second}
 use Rattle.lists.proofs.Counts.{count-below-le}
-use Rattle.modes.specs.Modes.{free}
-use Rattle.modes.proofs.RunModes.{replaces-alone}
-use Rattle.machine.specs.Questions.{sound}
-use Rattle.machine.proofs.SoundMachine.{sound-controls}
+use Rattle.layout.specs.Machine.{Machine, Order}
 use Rattle.order.specs.Order.{IsOrder}
-use Rattle.generator.proofs.Registers.{p-low}
-use Rattle.pass_generators.specs.GeneratorStage.{generatorOf}
-use Rattle.pass_laws.proofs.Orders.{sum-below-one}
+use Rattle.pass_model.specs.Generators.{Generators}
 use Rattle.order_lists.specs.Sequences.{keep, some, lastOf, before, latest}
 use Rattle.order_lists.proofs.Entries.{keep-count, last-passes, last-entry}
 use Rattle.order_lists.proofs.Places.{place-inside}
 use Rattle.order_lists.proofs.Orders.{some-from, last-below, length-keep}
-use Rattle.order_agreement.specs.Agreement.{settingsOf, replacesWord, addsToWord, lastReplacing, placeReplacing, afterReplacing}
-use Rattle.equal_endings.proofs.Totals.{total-none, total-order}
-use Rattle.equal_endings.specs.Ends.{fOf, outputAt, toldIn, wordAfter}
-use Rattle.equal_witnesses.specs.Witnesses.{triggersWitness, sourcesWitness, soundingWitness, silentWitness, silentItems, countingItems}
-use Rattle.equal_witnesses.proofs.Triggers.{triggers-free}
-use Rattle.equal_witnesses.proofs.Sources.{sources-alike, sources-f}
-use Rattle.equal_witnesses.proofs.Sounding.{sounding-alike, silent-output, sounding-output, silent-alike, all-silent}
+use Rattle.order_lists.proofs.Totals.{total-none, total-one}
+use Rattle.order_agreement.specs.Agreement.{Settings, replacesWord, addsToWord, lastReplacing, placeReplacing, afterReplacing}
+use Rattle.equal_endings.specs.Follows.{pAt, sendsAt, Follows}
+use Rattle.equal_endings.specs.Ends.{toldIn, wordAfter}
+use Rattle.equal_witnesses.specs.Contents.{Contents, silentItems, countingItems}
 use Rattle.equal_witnesses.proofs.Items.{silent-item, counting-item}
-use Rattle.equal_witnesses.proofs.Settings.{left-same, written-same, brought, word-same}
-use Rattle.layout.specs.Machine.{ticksOf, runModeAt, gfmAt}
 
--- P has 20 bits.
-pub output-low : (m : List ℕ) (g : ℕ) → outputAt m g < 2 ^ 20
-unfolding outputAt
-output-low m g = p-low (generatorOf m g) (fOf m g)
+-- What a silent generator brings.
+nothing : (a b : Bool) (n : ℕ) → n ≡ 0 → cond (a && b) n 0 ≡ 0
+nothing true true n q = q
+nothing true false n q = refl
+nothing false b n q = refl
 
-module _ (m : List ℕ) (e : sound m ≡ true) (order : List ℕ) (o : IsOrder (ticksOf m) order) where
-  few : ticksOf m ≤ 256
-  few = sound-controls m e .tHigh
-
-  -- From the first: a generator is told just where its lower neighbour, which can trigger, stands before it.
-  pub told-is : (g : ℕ) → g < ticksOf m → free (runModeAt m g) ≡ true → toldIn (triggersWitness m) order (suc g) ≡ before g (suc g) order
+module _ (of : Generators) (s : Settings) (Like : Machine → Type 0) (follows : (n : Machine) → Like n → Follows of s n) (c : Contents of s Like)
+    (order : Order) (o : IsOrder (s .ticks) order) where
+  -- A generator is told just where its lower neighbour, which can trigger, stands before it.
+  pub told-is : (g : ℕ) → g < s .ticks → s .triggering g ≡ true → toldIn of (c .triggering) order (s .distance + g) ≡ before g (s .distance + g) order
   unfolding toldIn
-  told-is g h f = rw (triggers-free m e g (omega (arith, few)) f)
+  told-is g h t =
+      let same = follows (c .triggering) (c .triggering-like) .distance in
+      let back : s .distance + g - s .distance ≡ g = omega arith in
+      rw (same, back, le-leb (s .distance) (s .distance + g) (omega arith), c .triggers g h t)
 
-  -- From the second: a DAC that is fed has the GFM of its last feeder, and the written data are the GFMs of the writers.
-  pub fed-is : (d g x : ℕ) → g < ticksOf m → settingsOf m .feeds d g ≡ true
-      → latest (settingsOf (sourcesWitness m) .feeds d) (fOf (sourcesWitness m)) order x ≡ gfmAt m (lastOf (settingsOf m .feeds d) order)
+  -- A DAC that is fed has what its last feeder sends.
+  pub fed-is : (n : Machine) (d g x : ℕ) → g < s .ticks → s .feeds d g ≡ true → latest (s .feeds d) (sendsAt of n) order x ≡ sendsAt of n (lastOf (s .feeds d) order)
   unfolding latest
-  fed-is d g x h f =
-      let fed = some-from (ticksOf m) order (o .once) (o .below) (settingsOf m .feeds d) g h f in
-      left-same m (sourcesWitness m) (sources-alike m e) (ticksOf m) few order o d (fOf (sourcesWitness m)) x
-      ∙ rw fed (sources-f m e (lastOf (settingsOf m .feeds d) order) (omega (arith, few, last-below (ticksOf m) order (o .once) (o .below) (settingsOf m .feeds d) fed)))
+  fed-is n d g x h f = rw (some-from (s .ticks) order (o .once) (o .below) (s .feeds d) g h f)
 
-  pub written-is : map (fOf (sourcesWitness m)) (keep (settingsOf (sourcesWitness m) .writes) order) ≡ map (gfmAt m) (keep (settingsOf m .writes) order)
-  written-is = written-same m (sourcesWitness m) (sources-alike m e) (ticksOf m) few order o (fOf (sourcesWitness m)) (gfmAt m) (sources-f m e)
+  pub last-feeder-low : (d g : ℕ) → g < s .ticks → s .feeds d g ≡ true → lastOf (s .feeds d) order < s .ticks
+  last-feeder-low d g h f =
+      last-below (s .ticks) order (o .once) (o .below) (s .feeds d) (some-from (s .ticks) order (o .once) (o .below) (s .feeds d) g h f)
 
-  -- A word with a 0111.
-  module _ (w r : ℕ) (h : r < ticksOf m) (f : replacesWord (settingsOf m) w r ≡ true) where
-    replaced : some (replacesWord (settingsOf m) w) order ≡ true
-    replaced = some-from (ticksOf m) order (o .once) (o .below) (replacesWord (settingsOf m) w) r h f
+  -- A word with a replacing generator.
+  module _ (w r : ℕ) (h : r < s .ticks) (f : replacesWord s w r ≡ true) where
+    replaced : some (replacesWord s w) order ≡ true
+    replaced = some-from (s .ticks) order (o .once) (o .below) (replacesWord s w) r h f
 
     abbrev last : ℕ
-    last = lastReplacing (settingsOf m) w order
+    last = lastReplacing s w order
 
-    -- Its last 0111 is a generator below T that replaces the word, and its place among all 0111s is below 256.
-    pub last-low : lastReplacing (settingsOf m) w order < ticksOf m
-    last-low = last-below (ticksOf m) order (o .once) (o .below) (replacesWord (settingsOf m) w) replaced
+    -- Its last one is a generator below T that replaces the word, and its place among all replacing ones is below 256.
+    pub last-low : lastReplacing s w order < s .ticks
+    last-low = last-below (s .ticks) order (o .once) (o .below) (replacesWord s w) replaced
 
-    pub last-replaces : replacesWord (settingsOf m) w (lastReplacing (settingsOf m) w order) ≡ true
-    last-replaces = last-passes (replacesWord (settingsOf m) w) order replaced
+    pub last-replaces : replacesWord s w (lastReplacing s w order) ≡ true
+    last-replaces = last-passes (replacesWord s w) order replaced
 
-    last-there : 1 ≤ count last (keep (settingsOf m .replacing) order)
+    last-there : 1 ≤ count last (keep (s .replacing) order)
     last-there =
-        rw (keep-count (settingsOf m .replacing) last order, and-second (settingsOf m .onWord w last) (settingsOf m .replacing last) last-replaces)
-        (last-entry (replacesWord (settingsOf m) w) order replaced)
+        rw (keep-count (s .replacing) last order, and-second (s .onWord w last) (s .replacing last) last-replaces)
+        (last-entry (replacesWord s w) order replaced)
 
-    place-low : placeReplacing (settingsOf m) w order < 256
+    place-low : placeReplacing s w order < 256
     place-low =
         omega (
           arith,
-          few,
-          place-inside last (keep (settingsOf m .replacing) order) last-there,
-          length-keep (ticksOf m) order (o .once) (o .below) (settingsOf m .replacing),
-          count-below-le (settingsOf m .replacing) (ticksOf m),
+          follows (c .silent) (c .silent-like) .few,
+          place-inside last (keep (s .replacing) order) last-there,
+          length-keep (s .ticks) order (o .once) (o .below) (s .replacing),
+          count-below-le (s .replacing) (s .ticks),
         )
 
-    -- What a silent generator brings.
-    nothing : (a b : Bool) (n : ℕ) → n ≡ 0 → cond (a && b) n 0 ≡ 0
-    nothing true true n q = q
-    nothing true false n q = refl
-    nothing false b n q = refl
+    -- What an adding generator brings after it.
+    abbrev brought : Machine → ℕ → ℕ
+    brought n g = cond (addsToWord s w g && afterReplacing s w g order) (pAt of n g) 0
 
-    -- From the third with no generator sounding and items that count: the place of the last 0111 among all.
-    pub place-is : wordAfter (silentWitness m) countingItems order w ≡ placeReplacing (settingsOf m) w order
+    -- With no generator sounding and items that count: the place of the last replacing one among all.
+    pub place-is : wordAfter of (c .silent) s countingItems order w ≡ placeReplacing s w order
+    unfolding wordAfter
     place-is =
-        let n = silentWitness m in
-        let a = silent-alike m e in
-        let none = total-none (brought m n a (ticksOf m) few order o w) order
-        (λ i l. nothing (addsToWord (settingsOf m) w (getD order i 0)) (afterReplacing (settingsOf m) w (getD order i 0) order) _
-        (all-silent m e (getD order i 0) (omega (arith, few, o .below i l)))) in
-        word-same m n a (ticksOf m) few order o countingItems w replaced
-        ∙ rw (all-silent m e last (omega (arith, few, last-low)), counting-item (placeReplacing (settingsOf m) w order) place-low, none)
-        (omega (arith, place-low))
+        let n = c .silent in
+        let none = total-none (brought n) order
+        (λ i l. nothing (addsToWord s w (getD order i 0)) (afterReplacing s w (getD order i 0) order) _ (c .all-silent (getD order i 0) (o .below i l))) in
+        rw (replaced, c .all-silent last last-low, counting-item (placeReplacing s w order) place-low, none) (omega (arith, place-low))
 
-    -- From the third with one generator sounding and items that are 0.
-    module _ (s : ℕ) (low : s < ticksOf m) where
-      one-sounds : wordAfter (soundingWitness m s) silentItems order w
-          ≡ (outputAt (soundingWitness m s) (lastReplacing (settingsOf m) w order)
-          + cond (addsToWord (settingsOf m) w s && afterReplacing (settingsOf m) w s order) (outputAt (soundingWitness m s) s) 0) % 2 ^ 20
+    -- With one generator sounding and items that are 0.
+    module _ (k : ℕ) (low : k < s .ticks) where
+      abbrev n : Machine
+      n = c .sounding k
+
+      one-sounds : wordAfter of n s silentItems order w ≡ (pAt of n last + cond (addsToWord s w k && afterReplacing s w k order) (pAt of n k) 0) % 2 ^ 20
+      unfolding wordAfter
       one-sounds =
-          let n = soundingWitness m s in
-          let a = sounding-alike m e s in
-          let f = brought m n a (ticksOf m) few order o w in
-          let one = total-order f (ticksOf m) order o
-          ∙ sum-below-one f (ticksOf m) s low
-          (λ k l d. nothing (addsToWord (settingsOf m) w k) (afterReplacing (settingsOf m) w k order) _ (silent-output m e s k (omega (arith, few)) d)) in
-          word-same m n a (ticksOf m) few order o silentItems w replaced
-          ∙ rw (silent-item (placeReplacing (settingsOf m) w order) place-low, one)
-          (ap (λ (x : ℕ). (x + cond (addsToWord (settingsOf m) w s && afterReplacing (settingsOf m) w s order) (outputAt n s) 0) % 2 ^ 20) (omega arith))
+          let one = total-one (s .ticks) order (o .once) (o .below) (brought n) k low
+          (λ g l d. nothing (addsToWord s w g) (afterReplacing s w g order) _ (c .others-silent k g low l d)) in
+          rw (replaced, silent-item (placeReplacing s w order) place-low, one)
+          (ap (λ (x : ℕ). (x + cond (addsToWord s w k && afterReplacing s w k order) (pAt of n k) 0) % 2 ^ 20) (omega arith))
 
-      -- No 0111 is an adding one.
-      never-both : (g : ℕ) → replacesWord (settingsOf m) w g ≡ true → addsToWord (settingsOf m) w g ≡ false
-      never-both g q = rw (replaces-alone (runModeAt m g) (and-second (settingsOf m .onWord w g) (settingsOf m .replacing g) q)) (off (settingsOf m .onWord w g))
+      sound-low : pAt of n k < 2 ^ 20
+      sound-low = follows n (c .sounding-like k low) .turns k low .p-low
+
+      -- No replacing generator is an adding one.
+      never-both : (g : ℕ) → g < s .ticks → replacesWord s w g ≡ true → addsToWord s w g ≡ false
+      never-both g l q =
+          rw (follows n (c .sounding-like k low) .turns g l .alone (and-second (s .onWord w g) (s .replacing g) q)) (and-false (s .onWord w g))
+
+      -- The sounding one replaces the word: it is heard where it is the last.
+      pub last-is : replacesWord s w k ≡ true → wordAfter of (c .sounding k) s silentItems order w ≡ cond (eqb (lastReplacing s w order) k) (pAt of (c .sounding k) k) 0
+      last-is q = one-sounds ∙ rw (never-both k low q) (go (eqb last k) refl)
         where
-          off : (b : Bool) → (b && false) ≡ false
-          off true = refl
-          off false = refl
+          go : (b : Bool) → eqb (lastReplacing s w order) k ≡ b → (pAt of n (lastReplacing s w order) + 0) % 2 ^ 20 ≡ cond b (pAt of n k) 0
+          go true t = rw (eqb-true last k t) (omega (arith, sound-low))
+          go false t = omega (arith, c .others-silent k last low last-low (eqb-false last k t))
 
-      -- The sounding one replaces the word: it is heard where it is the last 0111.
-      pub last-is : replacesWord (settingsOf m) w s ≡ true
-          → wordAfter (soundingWitness m s) silentItems order w ≡ cond (eqb (lastReplacing (settingsOf m) w order) s) (outputAt (soundingWitness m s) s) 0
-      last-is q = one-sounds ∙ rw (never-both s q) (go (eqb last s) refl)
+      -- The sounding one adds to the word: it is heard where it stands after the last replacing one.
+      pub adder-is : addsToWord s w k ≡ true → wordAfter of (c .sounding k) s silentItems order w ≡ cond (afterReplacing s w k order) (pAt of (c .sounding k) k) 0
+      adder-is q = one-sounds ∙ rw (q, c .others-silent k last low last-low apart) (go (afterReplacing s w k order))
         where
-          go : (b : Bool) → eqb (lastReplacing (settingsOf m) w order) s ≡ b
-              → (outputAt (soundingWitness m s) (lastReplacing (settingsOf m) w order) + 0) % 2 ^ 20 ≡ cond b (outputAt (soundingWitness m s) s) 0
-          go true t = rw (eqb-true last s t) (omega (arith, output-low (soundingWitness m s) s))
-          go false t = omega (arith, silent-output m e s last (omega (arith, few, last-low)) (eqb-false last s t))
+          apart : lastReplacing s w order ≢ k
+          apart z = true≢false (sym q ∙ ap (addsToWord s w) (sym z) ∙ never-both last last-low last-replaces)
 
-      -- The sounding one adds to the word: it is heard where it stands after the last 0111.
-      pub adder-is : addsToWord (settingsOf m) w s ≡ true
-          → wordAfter (soundingWitness m s) silentItems order w ≡ cond (afterReplacing (settingsOf m) w s order) (outputAt (soundingWitness m s) s) 0
-      adder-is q = one-sounds ∙ rw (q, silent-output m e s last (omega (arith, few, last-low)) apart) (go (afterReplacing (settingsOf m) w s order))
-        where
-          apart : lastReplacing (settingsOf m) w order ≢ s
-          apart z = true≢false (sym q ∙ ap (addsToWord (settingsOf m) w) (sym z) ∙ never-both last last-replaces)
-
-          go : (b : Bool) → (0 + cond b (outputAt (soundingWitness m s) s) 0) % 2 ^ 20 ≡ cond b (outputAt (soundingWitness m s) s) 0
-          go true = omega (arith, output-low (soundingWitness m s) s)
+          go : (b : Bool) → (0 + cond b (pAt of n k) 0) % 2 ^ 20 ≡ cond b (pAt of n k) 0
+          go true = omega (arith, sound-low)
           go false = refl
-
-      pub heard : 0 < outputAt (soundingWitness m s) s
-      heard = sounding-output m e s s (omega (arith, few, low)) refl

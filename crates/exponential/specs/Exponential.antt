@@ -1,4 +1,4 @@
--- The exponential, as document 01 has it ("House tables"), over the table's size n, which is 256 there.
+-- The exponential, as document 01 has it ("House tables"), over the table's size n.
 -- Assumes nothing.
 use Prim.Native.Nat.{ℕ, zero, suc, _*_, _/_, _%_, _^_, _≤_}
 use mathlib.Core.Path.{_≡_}
@@ -6,6 +6,10 @@ use mathlib.Core.Bool.{Bool, true, cond}
 use mathlib.Core.List.{List}
 use lib.Dec.{leb}
 use Rattle.lists.specs.Lists.{tabulate}
+
+-- The size that document 01 gives the table.
+abbrev pub tableSize : ℕ
+tableSize = 256
 
 -- The number whose power the rule names: 4,093.
 unfoldable pub bound : ℕ

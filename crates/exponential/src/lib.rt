@@ -1,10 +1,15 @@
 // The exponential of an envelope, from a constant table.
 ghost use mathlib.Core.Path.{_≡_};
 ghost use Prim.Native.Nat.{_/_, _^_, _<_};
-ghost use Rattle.exponential.specs.Exponential.{entries, exponential};
+ghost use Rattle.exponential.specs.Exponential.{tableSize, entries, exponential};
 
-// The exponential table: entry f of 256 at place f.
-const EXPONENTIAL: [u16; 256] = [
+// How many entries the table has.
+const TABLE_SIZE: u32 = 256;
+
+pub type Entries = [u16; TABLE_SIZE as usize];
+
+// The exponential table: entry f at place f.
+const EXPONENTIAL: Entries = [
     4093,
     4081,
     4070,
@@ -264,8 +269,8 @@ const EXPONENTIAL: [u16; 256] = [
 ];
 
 // The exponential table, which a caller copies once and hands to `exponential`.
-pub fn table() -> [u16; 256]
-    ensures { λ r. ⌜ r ≡ entries 256 ⌝ }
+pub fn table() -> Entries
+    ensures { λ r. ⌜ r ≡ entries tableSize ⌝ }
 {
     EXPONENTIAL
 }
@@ -278,11 +283,11 @@ fn wide(x: u16) -> u32
 }
 
 // The exponential of the high 12 bits of GQ.
-pub fn exponential(t: &[u16; 256], gq: u32) -> u32
-    requires { ⌜ (now t ≡ entries 256) × (gq < 2 ^ 24) ⌝ }
-    ensures { λ r. ⌜ r ≡ exponential 256 (gq / 2 ^ 12) ⌝ }
+pub fn exponential(t: &Entries, gq: u32) -> u32
+    requires { ⌜ (now t ≡ entries tableSize) × (gq < 2 ^ 24) ⌝ }
+    ensures { λ r. ⌜ r ≡ exponential tableSize (gq / 2 ^ 12) ⌝ }
 {
     let h = gq / 4096;
-    let f = (h % 256) as usize;
-    wide(t[f]) >> (h / 256)
+    let f = (h % TABLE_SIZE) as usize;
+    wide(t[f]) >> (h / TABLE_SIZE)
 }

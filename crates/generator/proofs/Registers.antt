@@ -1,16 +1,16 @@
 -- The registers are within their widths, as they are loaded and after a turn.
 -- Assumes nothing.
-use mathlib.Core.Bool.{Bool, true, false, cond, not, _&&_}
+use mathlib.Core.Bool.{Bool, not, _&&_}
 use mathlib.Core.List.{List}
-use Prim.Native.Nat.{ℕ, _+_, _*_, _/_, _%_, _^_, _<_}
+use Prim.Native.Nat.{ℕ, _^_, _<_}
 use native.Mathlib.Omega.{arith}
 use lib.Dec.{eqb}
-use Rattle.words.proofs.Residues.{low-lt}
+use Rattle.words.proofs.Residues.{either-low, low-lt}
 use Rattle.words.specs.Words.{sum, sumInto, exactSum}
 use Rattle.modes.specs.Modes.{oscillatorOn, envelopeOn, free, wait, runningC}
 use Rattle.envelope.specs.Envelope.{overflows, decayed}
 use Rattle.generator.specs.declared.Generator.{Generator}
-use Rattle.generator.specs.Generator.{loaded, Ranged, runMode, jOf, gjAfter, gkAfter, gqAfter, gmodeAfter, pOf, after, triggers}
+use Rattle.generator.specs.Generator.{loaded, Ranged, runMode, gjAfter, gkAfter, gqAfter, gmodeAfter, pOf, after, triggers}
 
 pub ranged : (m : List ℕ) → Ranged (loaded m)
 unfolding loaded
@@ -29,21 +29,13 @@ ranged m =
       gmode-low = omega arith;
     }
 
-either : (b : Bool) {x y n : ℕ} → x < n → y < n → cond b x y < n
-either true h k = h
-either false h k = k
-
-pub j-low : (g : Generator) (f : ℕ) → jOf g f < 2 ^ 20
-unfolding jOf sum
-j-low g f = low-lt 20 _
-
 pub p-low : (g : Generator) (f : ℕ) → pOf g f < 2 ^ 20
 unfolding pOf
 p-low g f = low-lt 20 _
 
 pub decayed-low : (b : Bool) (gq gp : ℕ) → gq < 2 ^ 24 → decayed b gq gp < 2 ^ 24
 unfolding decayed
-decayed-low b gq gp h = either (overflows gq gp && not b) h (low-lt 24 (exactSum 20 gq gp))
+decayed-low b gq gp h = either-low (overflows gq gp && not b) h (low-lt 24 (exactSum 20 gq gp))
 
 -- After a turn too.
 pub after-ranged : (g : Generator) (f : ℕ) (told : Bool) → Ranged g → Ranged (after g f told)
@@ -51,14 +43,14 @@ unfolding after gjAfter gkAfter gqAfter gmodeAfter sum sumInto
 after-ranged g f told r =
     record {
       go-low = r .go-low;
-      gj-low = either (oscillatorOn (runMode g)) (low-lt 28 _) (r .gj-low);
-      gk-low = either (oscillatorOn (runMode g)) (low-lt 20 _) (r .gk-low);
+      gj-low = either-low (oscillatorOn (runMode g)) (low-lt 28 _) (r .gj-low);
+      gk-low = either-low (oscillatorOn (runMode g)) (low-lt 20 _) (r .gk-low);
       gn-low = r .gn-low;
       gm-low = r .gm-low;
       gp-low = r .gp-low;
-      gq-low = either (envelopeOn (runMode g)) (decayed-low (free (runMode g)) (g .gq) (g .gp) (r .gq-low)) (r .gq-low);
+      gq-low = either-low (envelopeOn (runMode g)) (decayed-low (free (runMode g)) (g .gq) (g .gp) (r .gq-low)) (r .gq-low);
       gl-low = r .gl-low;
       gsum-low = r .gsum-low;
       gfm-low = r .gfm-low;
-      gmode-low = either (eqb (runMode g) runningC && triggers g) (omega arith) (either (eqb (runMode g) wait && told) (omega arith) (r .gmode-low));
+      gmode-low = either-low (eqb (runMode g) runningC && triggers g) (omega arith) (either-low (eqb (runMode g) wait && told) (omega arith) (r .gmode-low));
     }

@@ -1,7 +1,7 @@
 -- The code's steps, one after the other, are the turn that Generator.antt defines.
 -- Assumes nothing.
 use mathlib.Core.Path.{_≡_, refl, sym, ap, _∙_}
-use mathlib.Core.Bool.{Bool, true, false, cond, _&&_}
+use mathlib.Core.Bool.{Bool, true, false, cond, _&&_, and-true, and-false}
 use Prim.Native.Nat.{ℕ, _/_, _^_, _<_, _≤_}
 use native.Mathlib.Omega.{arith}
 use lib.Dec.{eqb}
@@ -48,14 +48,6 @@ module _ (on : Bool) (g : Generator) (f j v : ℕ) {p : ℕ} (is-v : v ≡ vOf g
 sounds-not-waits : (r : ℕ) → envelopeOn r ≡ true → eqb r wait ≡ false
 unfolding envelopeOn isOneOf
 sounds-not-waits r e = on-not-off envelopeOn r wait e refl
-
-and-true : (a : Bool) → (a && true) ≡ a
-and-true true = refl
-and-true false = refl
-
-and-false : (a : Bool) → (a && false) ≡ false
-and-false true = refl
-and-false false = refl
 
 -- GP added into GQ.
 abbrev decays : Bool → Generator → Generator

@@ -6,6 +6,8 @@ use mathlib.Core.List.{List}
 use lib.Dec.{eqb}
 use lib.IntN.{ℤ}
 use lib.ListN.{getD, set}
+use Rattle.layout.specs.Layout.{GO, GJ, GK, GN, GM, GP, GQ, GL, GSUM, GFM, GMODE}
+use Rattle.layout.specs.Widths.{goBits, gjBits, gkBits, gnBits, gmBits, gpBits, gqBits, glBits, gsumBits, gfmBits, gmodeBits}
 use Rattle.words.specs.Words.{lowBits, sum, sumInto, leaves}
 use Rattle.modes.specs.Modes.{oscillatorOn, envelopeOn, free, wait, runningC}
 use Rattle.oscillator.specs.Oscillator.{waveOf}
@@ -17,22 +19,22 @@ use Rattle.generator.specs.declared.Sounded.{Sounded}
 unfoldable pub loaded : List ℕ → Generator
 loaded m =
     record {
-      go = getD m 0 0 % 2 ^ 20;
-      gj = getD m 1 0 % 2 ^ 28;
-      gk = getD m 2 0 % 2 ^ 20;
-      gn = getD m 3 0 % 2 ^ 11;
-      gm = getD m 4 0 % 2 ^ 4;
-      gp = getD m 5 0 % 2 ^ 20;
-      gq = getD m 6 0 % 2 ^ 24;
-      gl = getD m 7 0 % 2 ^ 12;
-      gsum = getD m 8 0 % 2 ^ 6;
-      gfm = getD m 9 0 % 2 ^ 7;
-      gmode = getD m 10 0 % 2 ^ 10;
+      go = getD m GO 0 % 2 ^ goBits;
+      gj = getD m GJ 0 % 2 ^ gjBits;
+      gk = getD m GK 0 % 2 ^ gkBits;
+      gn = getD m GN 0 % 2 ^ gnBits;
+      gm = getD m GM 0 % 2 ^ gmBits;
+      gp = getD m GP 0 % 2 ^ gpBits;
+      gq = getD m GQ 0 % 2 ^ gqBits;
+      gl = getD m GL 0 % 2 ^ glBits;
+      gsum = getD m GSUM 0 % 2 ^ gsumBits;
+      gfm = getD m GFM 0 % 2 ^ gfmBits;
+      gmode = getD m GMODE 0 % 2 ^ gmodeBits;
     }
 
--- That part of the machine with the registers that a turn can change written back: GJ, GK, GQ and GMODE.
-unfoldable pub stored : List ℕ → Generator → List ℕ
-stored m g = set (set (set (set m 1 (g .gj)) 2 (g .gk)) 6 (g .gq)) 10 (g .gmode)
+-- A machine, or a part of it, with the registers that a turn can change written back at a place: GJ, GK, GQ and GMODE.
+unfoldable pub stored : List ℕ → ℕ → Generator → List ℕ
+stored m at g = set (set (set (set m (at + GJ) (g .gj)) (at + GK) (g .gk)) (at + GQ) (g .gq)) (at + GMODE) (g .gmode)
 
 -- A generator with other GJ, GK, GQ and GMODE.
 abbrev pub updated : Generator → ℕ → ℕ → ℕ → ℕ → Generator
@@ -53,17 +55,17 @@ updated g gj gk gq gmode =
 
 -- Every register is within its width.
 pub record Ranged (g : Generator) : Type 0 where
-  pub go-low : g .go < 2 ^ 20
-  pub gj-low : g .gj < 2 ^ 28
-  pub gk-low : g .gk < 2 ^ 20
-  pub gn-low : g .gn < 2 ^ 11
-  pub gm-low : g .gm < 2 ^ 4
-  pub gp-low : g .gp < 2 ^ 20
-  pub gq-low : g .gq < 2 ^ 24
-  pub gl-low : g .gl < 2 ^ 12
-  pub gsum-low : g .gsum < 2 ^ 6
-  pub gfm-low : g .gfm < 2 ^ 7
-  pub gmode-low : g .gmode < 2 ^ 10
+  pub go-low : g .go < 2 ^ goBits
+  pub gj-low : g .gj < 2 ^ gjBits
+  pub gk-low : g .gk < 2 ^ gkBits
+  pub gn-low : g .gn < 2 ^ gnBits
+  pub gm-low : g .gm < 2 ^ gmBits
+  pub gp-low : g .gp < 2 ^ gpBits
+  pub gq-low : g .gq < 2 ^ gqBits
+  pub gl-low : g .gl < 2 ^ glBits
+  pub gsum-low : g .gsum < 2 ^ gsumBits
+  pub gfm-low : g .gfm < 2 ^ gfmBits
+  pub gmode-low : g .gmode < 2 ^ gmodeBits
 
 -- GMODE is run mode (4 bits), envelope mode (2), oscillator mode (4).
 abbrev pub runMode : Generator → ℕ
@@ -85,7 +87,7 @@ gjAfter g = cond (oscillatorOn (runMode g)) (sumInto 28 20 (g .gj) (g .go)) (g .
 
 -- Step 3. E: J in the oscillator mode 1000, else GK. K: the high 13 bits of E.
 unfoldable pub kOf : Generator → ℕ → ℕ
-kOf g f = cond (eqb (oscillatorMode g) 8) (jOf g f) (g .gk) / 2 ^ 7
+kOf g f = cond (eqb (oscillatorMode g) 0b1000) (jOf g f) (g .gk) / 2 ^ 7
 
 -- Step 4. GK afterwards: oscillator on, J is added into it.
 unfoldable pub gkAfter : Generator → ℕ → ℕ

@@ -6,13 +6,15 @@ ghost use lib.Dec.{eqb};
 ghost use lib.ListN.{length};
 ghost use Rattle.words.specs.Words.{lowBits, sum, sumInto};
 ghost use Rattle.sine.specs.Sine.{quarter};
-ghost use Rattle.exponential.specs.Exponential.{entries};
+ghost use Rattle.exponential.specs.Exponential.{tableSize, entries};
 ghost use Rattle.modes.specs.Modes.{switchesOf, envelopeOn, wait};
 ghost use Rattle.oscillator.specs.Oscillator.{Wave, waveOf, sineWave};
 ghost use Rattle.envelope.specs.Envelope.{overflows, decayed, enveloped};
 ghost use Rattle.generator.specs.Generator.{loaded, stored, updated, Ranged, runMode, oscillatorMode, withRunMode, jOf, after, soundedOf};
 ghost use Rattle.generator.specs.Steps.{oscillated, leftBy, outputBy, endedOf};
+use exponential::Entries;
 use modes::Switches;
+use sine::Quarter;
 use words::SignMagnitude;
 
 pub struct Generator {
@@ -42,17 +44,17 @@ impl Generator {
         requires { ⌜ 11 ≤ length (now m) ⌝ }
         ensures { λ r. ⌜ r ≡ loaded (now (m .entry)) ⌝ }
     {
-        let go = m[0] % 1048576;
-        let gj = m[1] % 268435456;
-        let gk = m[2] % 1048576;
-        let gn = m[3] % 2048;
-        let gm = m[4] % 16;
-        let gp = m[5] % 1048576;
-        let gq = m[6] % 16777216;
-        let gl = m[7] % 4096;
-        let gsum = m[8] % 64;
-        let gfm = m[9] % 128;
-        let gmode = m[10] % 1024;
+        let go = m[layout::GO] % layout::GO_LIMIT;
+        let gj = m[layout::GJ] % layout::GJ_LIMIT;
+        let gk = m[layout::GK] % layout::GK_LIMIT;
+        let gn = m[layout::GN] % layout::GN_LIMIT;
+        let gm = m[layout::GM] % layout::GM_LIMIT;
+        let gp = m[layout::GP] % layout::GP_LIMIT;
+        let gq = m[layout::GQ] % layout::GQ_LIMIT;
+        let gl = m[layout::GL] % layout::GL_LIMIT;
+        let gsum = m[layout::GSUM] % layout::GSUM_LIMIT;
+        let gfm = m[layout::GFM] % layout::GFM_LIMIT;
+        let gmode = m[layout::GMODE] % layout::GMODE_LIMIT;
         Generator {
             go,
             gj,
@@ -71,12 +73,12 @@ impl Generator {
     // The registers that a turn can change are written back.
     pub fn store(self, m: &mut [u32])
         requires { ⌜ 11 ≤ length (now m) ⌝ }
-        ensures { λ r. ⌜ now (m .exit) ≡ stored (now (m .entry)) self ⌝ }
+        ensures { λ r. ⌜ now (m .exit) ≡ stored (now (m .entry)) 0 self ⌝ }
     {
-        m[1] = self.gj;
-        m[2] = self.gk;
-        m[6] = self.gq;
-        m[10] = self.gmode;
+        m[layout::GJ] = self.gj;
+        m[layout::GK] = self.gk;
+        m[layout::GQ] = self.gq;
+        m[layout::GMODE] = self.gmode;
     }
 
     // Step 1: J, the high 20 bits of GJ plus F.
@@ -178,7 +180,7 @@ impl Generator {
     }
 
     // Steps 6 and 9 in the oscillator modes 0000 and 1000: P, of K and V.
-    fn sine_under(self, sine: &[u16; 2048], k: u32, v: u32) -> u32
+    fn sine_under(self, sine: &Quarter, k: u32, v: u32) -> u32
         requires { ⌜ now sine ≡ quarter ⌝ }
         requires { ⌜ (self .gm < 2 ^ 4) × (k < 2 ^ 13) × (v < 2 ^ 12) ⌝ }
         ensures { λ r. ⌜ r ≡ lowBits 20 (enveloped (sineWave k (self .gm)) v) ⌝ }
@@ -187,9 +189,9 @@ impl Generator {
     }
 
     // Steps 3 and 6 to 9: P, of J and whether the oscillator is on. K is the high 13 bits of J or of GK.
-    fn output(self, sine: &[u16; 2048], decay: &[u16; 256], on: u8, f: u32, j: u32) -> u32
+    fn output(self, sine: &Quarter, decay: &Entries, on: u8, f: u32, j: u32) -> u32
         requires { ⌜ Ranged self ⌝ }
-        requires { ⌜ (now sine ≡ quarter) × (now decay ≡ entries 256) ⌝ }
+        requires { ⌜ (now sine ≡ quarter) × (now decay ≡ entries tableSize) ⌝ }
         requires { ⌜ (f < 2 ^ 20) × (j < 2 ^ 20) ⌝ }
         ensures { λ r. ⌜ r ≡ outputBy (eqb on 1) self f j ⌝ }
     {
@@ -217,9 +219,9 @@ impl Generator {
     }
 
     // The turn of a generator whose envelope is on; on is its run mode's switches.
-    pub fn sound(self, sine: &[u16; 2048], decay: &[u16; 256], on: Switches, f: u32) -> Sounded
+    pub fn sound(self, sine: &Quarter, decay: &Entries, on: Switches, f: u32) -> Sounded
         requires { ⌜ Ranged self ⌝ }
-        requires { ⌜ (now sine ≡ quarter) × (now decay ≡ entries 256) ⌝ }
+        requires { ⌜ (now sine ≡ quarter) × (now decay ≡ entries tableSize) ⌝ }
         requires { ⌜ (on ≡ switchesOf (runMode self)) × (envelopeOn (runMode self) ≡ true) ⌝ }
         requires { ⌜ f < 2 ^ 20 ⌝ }
         ensures { λ r. ⌜ r ≡ soundedOf self f ⌝ }

@@ -2,10 +2,10 @@
 ghost use mathlib.Core.Path.{_≡_};
 ghost use lib.ListN.{drop};
 ghost use Rattle.machine.specs.Questions.{freshAnswer, freshRun};
-ghost use Rattle.pass.specs.Pass.{passOf, answered};
+ghost use Rattle.pass_model.specs.Pass.{passOf};
 ghost use Rattle.update.specs.Update.{outcome, updateOf, takenCount};
 ghost use mathlib.Core.Bool.{cond};
-ghost use Rattle.order_agreement.specs.Points.{compareOf};
+ghost use Rattle.compare.specs.Compare.{compareOf};
 
 // A fresh machine.
 #[no_mangle]
@@ -26,7 +26,7 @@ pub extern "C" fn karvelorn_pass(
     read: &mut usize,
     written: &mut usize,
 ) -> u32
-    ensures { λ r. ⌜ answered r (now (read .exit)) (now (written .exit)) (now (m .exit)) (now (places .exit)) ≡ passOf (now (m .entry)) (now (order .entry)) (now (items .entry)) (now (places .entry)) ⌝ }
+    ensures { λ r. ⌜ record { number = r; read = now (read .exit); written = now (written .exit); machine = now (m .exit); places = now (places .exit) } ≡ passOf (now (m .entry)) (record { order = now (order .entry); items = now (items .entry); places = now (places .entry) }) ⌝ }
 {
     let done = pass::pass(m, order, items, places);
     *read = done.read;

@@ -11,6 +11,16 @@ machineLength = 4119
 abbrev pub filePlaces : ℕ
 filePlaces = 4119
 
+-- How many generators there are, words of each quadrant of sum memory, and DACs.
+abbrev pub generators : ℕ
+generators = 256
+
+abbrev pub quadrantWords : ℕ
+quadrantWords = 64
+
+abbrev pub dacs : ℕ
+dacs = 16
+
 -- Generator g has the eleven words from 11g (g 0..255): register r is at generatorAt g + r.
 abbrev pub generatorWords : ℕ
 generatorWords = 11

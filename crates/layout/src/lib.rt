@@ -36,6 +36,29 @@ pub const GFM: usize = 9;
 
 pub const GMODE: usize = 10;
 
+// One more than the largest value of each register of a generator.
+pub const GO_LIMIT: u32 = 1 << 20;
+
+pub const GJ_LIMIT: u32 = 1 << 28;
+
+pub const GK_LIMIT: u32 = 1 << 20;
+
+pub const GN_LIMIT: u32 = 1 << 11;
+
+pub const GM_LIMIT: u32 = 1 << 4;
+
+pub const GP_LIMIT: u32 = 1 << 20;
+
+pub const GQ_LIMIT: u32 = 1 << 24;
+
+pub const GL_LIMIT: u32 = 1 << 12;
+
+pub const GSUM_LIMIT: u32 = 1 << 6;
+
+pub const GFM_LIMIT: u32 = 1 << 7;
+
+pub const GMODE_LIMIT: u32 = 1 << 10;
+
 // Modifier m, below MODIFIERS, has the MODIFIER_WORDS words from MODIFIERS_AT + MODIFIER_WORDS * m, in this sequence.
 pub const MODIFIERS_AT: usize = 2816;
 
@@ -59,6 +82,17 @@ pub const MSUM: usize = 6;
 
 pub const MMODE: usize = 7;
 
+// One more than the largest value of each register of a modifier: M0 and M1, L0 and L1, MIN and MRM, MSUM, MMODE.
+pub const COEFFICIENT_LIMIT: u32 = 1 << 30;
+
+pub const LATCH_LIMIT: u32 = 1 << 20;
+
+pub const ADDRESS_LIMIT: u32 = 1 << 8;
+
+pub const MSUM_LIMIT: u32 = 1 << 7;
+
+pub const MMODE_LIMIT: u32 = 1 << 9;
+
 // Sum memory: QUADRANTS quadrants of QUADRANT_WORDS words, generator-this-pass, generator-last, modifier-this, modifier-last.
 pub const SUMS_AT: usize = 3840;
 
@@ -80,6 +114,13 @@ pub const MODIFIER_LAST_AT: usize = 4032;
 pub const DACS_AT: usize = 4096;
 
 pub const DACS: usize = 16;
+
+// One more than the largest value of a word of sum memory, of a DAC and of DX, of the pass counter, and of the pass that a Linger names.
+pub const WORD_LIMIT: u32 = 1 << 20;
+
+pub const COUNTER_LIMIT: u32 = 1 << 20;
+
+pub const LINGER_LIMIT: u32 = 1 << 20;
 
 // DX; T, the processing ticks; N, all ticks of a pass; the pass counter; lingering; the Linger pass; overrun.
 pub const DX_AT: usize = 4112;

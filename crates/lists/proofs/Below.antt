@@ -1,7 +1,7 @@
 -- A test at every number below a bound: it passes just where it passes at each of them.
 -- Assumes nothing.
 use mathlib.Core.Path.{_≡_, refl, subst⁻¹}
-use mathlib.Core.Bool.{Bool, true, false, _&&_}
+use mathlib.Core.Bool.{Bool, true, false, _&&_, Bool·beq}
 use Prim.Native.Nat.{ℕ, zero, suc, _<_}
 use native.Mathlib.Omega.{arith}
 use lib.Dec.{T}
@@ -15,6 +15,16 @@ both-ways false false f g = refl
 both-ways true false f g = cc (f refl)
 both-ways false true f g = cc (g refl)
 
+pub beq-true : (a b : Bool) → Bool·beq a b ≡ true → a ≡ b
+beq-true true true e = refl
+beq-true false false e = refl
+beq-true true false e = cc
+beq-true false true e = cc
+
+pub beq-from : (a b : Bool) → a ≡ b → Bool·beq a b ≡ true
+beq-from true b e = rw (← e)
+beq-from false b e = rw (← e)
+
 -- Both tests pass where their conjunction does, and the other way.
 pub and-first : (a b : Bool) → (a && b) ≡ true → a ≡ true
 and-first true b e = refl
@@ -26,6 +36,10 @@ and-second false b e = cc
 
 pub and-both : (a b : Bool) → a ≡ true → b ≡ true → (a && b) ≡ true
 and-both a b p q = rw (p, q)
+
+-- Two tests joined, by their answers.
+pub both : {a b x y : Bool} → a ≡ x → b ≡ y → (a && b) ≡ (x && y)
+both p q = rw (p, q)
 
 -- From the test below n to each number below n.
 pub below-at : (p : ℕ → Bool) (n : ℕ) → allBelow p n ≡ true → (k : ℕ) → k < n → p k ≡ true

@@ -3,16 +3,25 @@
 -- Assumes nothing.
 use mathlib.Core.Path.{_≡_, refl}
 use mathlib.Core.Bool.{Bool, true, false, cond}
-use mathlib.Core.Logic.{⊎-elim}
+use mathlib.Core.Logic.{_≢_, ⊎-elim}
 use mathlib.Core.List.{List, [], _∷_}
 use Prim.Native.Nat.{ℕ, zero, suc, _+_, _≤_, _<_}
 use native.Mathlib.Omega.{arith}
 use native.Mathlib.Nat.{not-suc-le-zero, le-of-suc-le-suc, eq-or-lt-of-le, add-comm}
 use native.Mathlib.Numerals.{add-one}
-use borrow.Author.Tests.{eqb-true, eqb-false, ltb-true, ltb-false, lt-ltb, le-ltb}
+use borrow.Author.Tests.{eqb-true, eqb-false, eq-eqb, ne-eqb, ltb-true, ltb-false, lt-ltb, le-ltb}
 use lib.Dec.{eqb, ltb}
 use lib.ListN.{length, getD}
 use Rattle.lists.specs.Lists.{count, countBelow}
+
+-- A number counts once more where it is the first entry.
+pub count-first : (g : ℕ) (xs : List ℕ) → count g (g ∷ xs) ≡ suc (count g xs)
+unfolding count
+count-first g xs = rw (eq-eqb g g refl) (omega arith)
+
+pub count-next : (g x : ℕ) (xs : List ℕ) → x ≢ g → count g (x ∷ xs) ≡ count g xs
+unfolding count
+count-next g x xs n = rw (ne-eqb x g n) (omega arith)
 
 -- How often the numbers below n stand in a list, all together.
 abbrev counted : ℕ → List ℕ → ℕ

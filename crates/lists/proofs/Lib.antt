@@ -5,3 +5,5 @@ pub mod Tables
 pub mod Masks
 pub mod Members
 pub mod Zeros
+pub mod Choices
+pub mod Parts

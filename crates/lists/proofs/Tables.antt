@@ -32,6 +32,12 @@ pub tabulated-numbers : (f : ℕ → ℕ) (xs : List ℕ) → T (every (agrees f
 unfolding agrees
 tabulated-numbers f xs t = tabulated (agrees f) f (λ j x h. eqb→eq x (f j) h) 0 xs t
 
+-- A rule's list of n has n entries.
+pub tabulate-length : {A : Type 0} (f : ℕ → A) (i n : ℕ) → length (tabulate f i n) ≡ n
+unfolding tabulate
+tabulate-length f i zero = refl
+tabulate-length f i (suc n) = ap suc (tabulate-length f (suc i) n)
+
 tabulate-from : {A : Type 0} (f : ℕ → A) (i n j : ℕ) (d : A) → j < n → getD (tabulate f i n) j d ≡ f (i + j)
 unfolding tabulate
 tabulate-from f i zero j d h = absurd (not-suc-le-zero h)

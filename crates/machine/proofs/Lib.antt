@@ -1,6 +1,6 @@
 pub mod Words
-pub mod Columns
 pub mod Regions
+pub mod Limits
 pub mod Sweep
 pub mod SoundMachine
 pub mod FreshMachine

@@ -12,7 +12,7 @@ use lib.ListN.{length, getD}
 use Rattle.lists.specs.Lists.{allBelow}
 use Rattle.lists.proofs.Below.{both-ways, and-first, and-second, and-both, below-at, below-from}
 use Rattle.machine.specs.Questions.{Region, testAt}
-use Rattle.machine.specs.Loops.{everyWord}
+use Rattle.machine_sweep.proofs.EveryColumn.{everyColumn, column-at, column-from}
 
 -- The words of a region, and of regions together.
 abbrev pub size : Region → ℕ
@@ -33,7 +33,7 @@ start [] k = 0
 start (r ∷ rs) zero = 0
 start (r ∷ rs) (suc k) = size r + start rs k
 
-test-in : (r : Region) (rs : List Region) (i x : ℕ) → i < size r → testAt (r ∷ rs) i x ≡ getD (r .tests) (i % length (r .tests)) (λ y. true) x
+test-in : (r : Region) (rs : List Region) (i x : ℕ) → i < size r → testAt (r ∷ rs) i x ≡ getD (r .tests) (i % length (r .tests)) (λ y. false) x
 unfolding testAt
 test-in r rs i x h = rw (lt-ltb i (size r) h)
 
@@ -48,43 +48,19 @@ in-unit n u j k h l = rw (mul-comm n k) (lt-of-lt-of-le (next (k * u)) (rw (mul-
   next a = omega arith
 
 pub unit-test : (rs : List Region) (k u j x : ℕ) → u < region rs k .units → j < length (region rs k .tests)
-    → testAt rs (start rs k + (length (region rs k .tests) * u + j)) x ≡ getD (region rs k .tests) j (λ y. true) x
+    → testAt rs (start rs k + (length (region rs k .tests) * u + j)) x ≡ getD (region rs k .tests) j (λ y. false) x
 unit-test [] k u j x h l = absurd (not-suc-le-zero h)
 unit-test (r ∷ rs) zero u j x h l =
     rw (zero-add (length (r .tests) * u + j), test-in r rs (length (r .tests) * u + j) x (in-unit (r .units) u j (length (r .tests)) h l))
-    (ap (λ (i : ℕ). getD (r .tests) i (λ y. true) x) (mul-add-mod-self-left (length (r .tests)) u j ∙ mod-eq-of-lt l))
+    (ap (λ (i : ℕ). getD (r .tests) i (λ y. false) x) (mul-add-mod-self-left (length (r .tests)) u j ∙ mod-eq-of-lt l))
 unit-test (r ∷ rs) (suc k) u j x h l =
     rw (add-assoc (size r) (start rs k) (length (region rs k .tests) * u + j), test-past r rs (start rs k + (length (region rs k .tests) * u + j)) x)
     (unit-test rs k u j x h l)
 
--- The tests of all words of units, one column after the other, from word j of the units on.
-abbrev pub everyColumn : List (ℕ → Bool) → List ℕ → ℕ → ℕ → ℕ → ℕ → Bool
-everyColumn [] m at step j n = true
-everyColumn (t ∷ ts) m at step j n = everyWord t m at step j n && everyColumn ts m at step (suc j) n
-
--- The same of regions that stand one after the other from a place on.
+-- The tests of all words of regions that stand one after the other from a place on, column by column.
 abbrev pub everyRegion : List Region → List ℕ → ℕ → Bool
 everyRegion [] m at = true
 everyRegion (r ∷ rs) m at = everyColumn (r .tests) m at (length (r .tests)) 0 (r .units) && everyRegion rs m (at + size r)
-
-column-at : (ts : List (ℕ → Bool)) (m : List ℕ) (at step j n : ℕ) → everyColumn ts m at step j n ≡ true
-    → (i u : ℕ) → i < length ts → u < n → getD ts i (λ y. true) (getD m (at + step * u + (j + i)) 0) ≡ true
-unfolding everyWord
-column-at [] m at step j n e i u h l = absurd (not-suc-le-zero h)
-column-at (t ∷ ts) m at step j n e zero u h l =
-    rw (add-zero j) (below-at (λ k. t (getD m (at + step * k + j) 0)) n (and-first (everyWord t m at step j n) (everyColumn ts m at step (suc j) n) e) u l)
-column-at (t ∷ ts) m at step j n e (suc i) u h l =
-    rw (add-suc j i, ← (suc-add j i))
-    (column-at ts m at step (suc j) n (and-second (everyWord t m at step j n) (everyColumn ts m at step (suc j) n) e) i u (le-of-suc-le-suc h) l)
-
-column-from : (ts : List (ℕ → Bool)) (m : List ℕ) (at step j n : ℕ)
-    → ((i u : ℕ) → i < length ts → u < n → getD ts i (λ y. true) (getD m (at + step * u + (j + i)) 0) ≡ true) → everyColumn ts m at step j n ≡ true
-unfolding everyWord
-column-from [] m at step j n f = refl
-column-from (t ∷ ts) m at step j n f =
-    and-both (everyWord t m at step j n) (everyColumn ts m at step (suc j) n)
-    (below-from (λ k. t (getD m (at + step * k + j) 0)) n (λ u l. rw (add-zero j) at (f 0 u (omega arith) l)))
-    (column-from ts m at step (suc j) n (λ i u h l. rw (add-suc j i, ← (suc-add j i)) at (f (suc i) u (omega arith) l)))
 
 has-words : (i n k : ℕ) → i < n * k → 0 < k
 has-words i n zero h = absurd (not-suc-le-zero (rw (mul-zero n) at h))
@@ -92,7 +68,7 @@ has-words i n (suc k) h = omega arith
 
 -- Where every column passes, each word does.
 region-at : (r : Region) (m : List ℕ) (at : ℕ) → everyColumn (r .tests) m at (length (r .tests)) 0 (r .units) ≡ true
-    → (i : ℕ) → i < size r → getD (r .tests) (i % length (r .tests)) (λ y. true) (getD m (at + i) 0) ≡ true
+    → (i : ℕ) → i < size r → getD (r .tests) (i % length (r .tests)) (λ y. false) (getD m (at + i) 0) ≡ true
 region-at r m at e i h =
     let k = length (r .tests) in
     let p : 0 < k = has-words i (r .units) k h in
@@ -100,17 +76,17 @@ region-at r m at e i h =
       place : at + length (r .tests) * (i / length (r .tests)) + (0 + i % length (r .tests)) ≡ at + i
       place = rw (zero-add (i % length (r .tests)), add-assoc at (length (r .tests) * (i / length (r .tests))) (i % length (r .tests)), div-add-mod i (length (r .tests)))
 
-either-place : (r : Region) (rs : List Region) (i x : ℕ) → (i < size r → getD (r .tests) (i % length (r .tests)) (λ y. true) x ≡ true)
+either-place : (r : Region) (rs : List Region) (i x : ℕ) → (i < size r → getD (r .tests) (i % length (r .tests)) (λ y. false) x ≡ true)
     → (size r ≤ i → testAt rs (i - size r) x ≡ true) → testAt (r ∷ rs) i x ≡ true
 unfolding testAt
 either-place r rs i x f g = by-test (ltb i (size r)) refl where
-  by-test : (b : Bool) → ltb i (size r) ≡ b → cond b (getD (r .tests) (i % length (r .tests)) (λ y. true) x) (testAt rs (i - size r) x) ≡ true
+  by-test : (b : Bool) → ltb i (size r) ≡ b → cond b (getD (r .tests) (i % length (r .tests)) (λ y. false) x) (testAt rs (i - size r) x) ≡ true
   by-test true q = f (ltb-true i (size r) q)
   by-test false q = g (ltb-false i (size r) q)
 
 regions-at : (rs : List Region) (m : List ℕ) (at : ℕ) → everyRegion rs m at ≡ true → (i : ℕ) → i < wordsOf rs → testAt rs i (getD m (at + i) 0) ≡ true
 unfolding wordsOf testAt
-regions-at [] m at e i h = refl
+regions-at [] m at e i h = absurd (not-suc-le-zero h)
 regions-at (r ∷ rs) m at e i h =
     let first = everyColumn (r .tests) m at (length (r .tests)) 0 (r .units) in
     let rest = everyRegion rs m (at + size r) in
@@ -135,6 +111,14 @@ regions-from (r ∷ rs) m at f =
     (region-from r rs m at (λ i l. f i (omega arith)))
     (regions-from rs m (at + size r)
     (λ i l. rw (test-past r rs i, ← (add-assoc at (size r) i)) at (f (size r + i) (omega arith))))
+
+-- The columns of one region, word by word.
+pub region-words : (r : Region) (m : List ℕ) (at : ℕ)
+    → everyColumn (r .tests) m at (length (r .tests)) 0 (r .units) ≡ allBelow (λ i. getD (r .tests) (i % length (r .tests)) (λ y. false) (getD m (at + i) 0)) (size r)
+region-words r m at =
+    both-ways (everyColumn (r .tests) m at (length (r .tests)) 0 (r .units)) (allBelow (λ i. getD (r .tests) (i % length (r .tests)) (λ y. false) (getD m (at + i) 0)) (size r))
+    (λ e. below-from (λ i. getD (r .tests) (i % length (r .tests)) (λ y. false) (getD m (at + i) 0)) (size r) (λ i h. region-at r m at e i h))
+    (λ e. region-from r [] m at (λ i h. test-in r [] i (getD m (at + i) 0) h ∙ below-at (λ i. getD (r .tests) (i % length (r .tests)) (λ y. false) (getD m (at + i) 0)) (size r) e i h))
 
 -- The tests of all words are those of all columns.
 pub regions-columns : (rs : List Region) (m : List ℕ) → allBelow (λ i. testAt rs i (getD m i 0)) (wordsOf rs) ≡ everyRegion rs m 0

@@ -1,18 +1,22 @@
 -- Question 2 is what the code's sweep by columns answers.
 -- Assumes nothing.
 use mathlib.Core.Path.{_≡_, refl, sym, ap, _∙_}
-use mathlib.Core.Bool.{Bool, true, _&&_, and-assoc, and-true}
+use mathlib.Core.Bool.{Bool, true, false, _&&_, and-assoc, and-true, and-false}
 use mathlib.Core.List.{List}
 use Prim.Native.Nat.{ℕ}
-use lib.Dec.{leb·zero}
+use native.Mathlib.Omega.{arith}
+use lib.Dec.{ltb, leb·zero, lit<}
 use lib.ListN.{getD}
 use Rattle.lists.specs.Lists.{allBelow}
 use Rattle.layout.specs.Layout.{machineLength}
-use Rattle.machine.specs.Questions.{bits, goodGmode, goodMmode, regions, testAt, sound}
-use Rattle.machine.specs.Loops.{column, everyWord, builtModes, builtMmode, generatorColumns, generatorsWithin, modifierColumns, modifiersWithin, controlsWithin}
-use Rattle.machine.proofs.Words.{gmode-is, mmode-is}
-use Rattle.machine.proofs.Columns.{column-bits, column-and}
-use Rattle.machine.proofs.Regions.{wordsOf, region, everyColumn, everyRegion, regions-columns}
+use Rattle.machine_sweep.specs.Columns.{everyWord}
+use Rattle.machine_sweep.proofs.Words.{word-from}
+use Rattle.machine_sweep.proofs.EveryColumn.{everyColumn, limitTests, word-and}
+use Rattle.machine.specs.Questions.{bits, goodGmode, goodAddress, goodMmode, generatorRegisters, modifierRegisters, regions, testAt, sound}
+use Rattle.machine.specs.Loops.{limitsOf, runField, oscillatorField, functionField, generatorsWithin, modifiersWithin, controlsWithin}
+use Rattle.machine.proofs.Words.{gmode-is, address-and, mmode-is}
+use Rattle.machine.proofs.Limits.{region-swept}
+use Rattle.machine.proofs.Regions.{wordsOf, region, everyRegion, regions-columns}
 
 -- The regions' words together are the machine's.
 pub regions-cover : wordsOf regions ≡ machineLength
@@ -23,26 +27,62 @@ pub sound-columns : (m : List ℕ) → sound m ≡ everyRegion regions m 0
 unfolding sound
 sound-columns m = ap (allBelow (λ i. testAt regions i (getD m i 0))) (sym regions-cover) ∙ regions-columns regions m
 
-generators-are : (m : List ℕ) (n : ℕ) → generatorsWithin (generatorColumns m n) ≡ everyColumn (region regions 0 .tests) m 0 11 0 n
-unfolding generatorColumns regions
+-- A region's widths and its further tests are its registers' tests.
+generators-are : (m : List ℕ) (n : ℕ)
+    → (everyColumn (limitTests (limitsOf generatorRegisters)) m 0 11 0 n && everyWord runField m 0 11 10 n && everyWord oscillatorField m 0 11 10 n)
+    ≡ everyColumn (region regions 0 .tests) m 0 11 0 n
+unfolding regions limitTests
 generators-are m n =
     simp (
-      column-bits 20,
-      column-bits 28,
-      column-bits 11,
-      column-bits 4,
-      column-bits 24,
-      column-bits 12,
-      column-bits 6,
-      column-bits 7,
-      column-and 10 builtModes goodGmode gmode-is,
+      word-and (bits 10) (λ x. runField x && oscillatorField x) goodGmode gmode-is,
+      word-and runField oscillatorField (λ x. runField x && oscillatorField x) (λ x. refl),
       and-assoc,
       and-true,
     )
 
-modifiers-are : (m : List ℕ) (n : ℕ) → modifiersWithin (modifierColumns m n) ≡ everyColumn (region regions 1 .tests) m 2816 8 0 n
-unfolding modifierColumns regions
-modifiers-are m n = simp (column-bits 30, column-bits 20, column-bits 7, column-and 9 builtMmode goodMmode mmode-is, and-assoc, and-true)
+-- Two further tests are asked after the widths and stand beside their own.
+apart : (a b c d e f g h x y z : Bool)
+    → (a && (b && (c && (d && (e && (f && (g && (h && (x && (y && z)))))))))) ≡ (a && (b && (c && (d && (e && (x && (f && (y && (g && (h && z))))))))))
+apart a b c d e f g h true true z = refl
+apart a b c d e f g h true false z = simp and-false
+apart a b c d e f g h false y z = simp and-false
+
+modifiers-are : (m : List ℕ) (n : ℕ)
+    → (everyColumn (limitTests (limitsOf modifierRegisters)) m 2816 8 0 n && everyWord (λ x. ltb x 192) m 2816 8 4 n && everyWord (λ x. ltb x 192) m 2816 8 5 n && everyWord functionField m 2816 8 7 n)
+    ≡ everyColumn (region regions 1 .tests) m 2816 8 0 n
+unfolding regions limitTests
+modifiers-are m n =
+    simp (
+      word-and (bits 8) (λ x. ltb x 192) goodAddress address-and,
+      word-and (bits 9) functionField goodMmode mmode-is,
+      and-assoc,
+      and-true,
+    )
+    (apart (w 0 30) (w 1 30) (w 2 20) (w 3 20) (w 4 8) (w 5 8) (w 6 7) (w 7 9) (everyWord (λ x. ltb x 192) m 2816 8 4 n) (everyWord (λ x. ltb x 192) m 2816 8 5 n) (everyWord functionField m 2816 8 7 n))
+  where
+    w : ℕ → ℕ → Bool
+    w j k = everyWord (bits k) m 2816 8 j n
+
+generators-swept : (m : List ℕ) → generatorsWithin m ≡ everyColumn (region regions 0 .tests) m 0 11 0 256
+unfolding generatorsWithin
+generators-swept m =
+    rw (
+      region-swept generatorRegisters m 0 44 8 256 (lit< tt) (lit< tt) (λ i. omega arith) refl,
+      word-from runField m 0 11 10 256,
+      word-from oscillatorField m 0 11 10 256,
+    )
+    (generators-are m 256)
+
+modifiers-swept : (m : List ℕ) → modifiersWithin m ≡ everyColumn (region regions 1 .tests) m 2816 8 0 128
+unfolding modifiersWithin
+modifiers-swept m =
+    rw (
+      region-swept modifierRegisters m 2816 16 8 128 (lit< tt) (lit< tt) (λ i. omega arith) refl,
+      word-from (λ x. ltb x 192) m 2816 8 4 128,
+      word-from (λ x. ltb x 192) m 2816 8 5 128,
+      word-from functionField m 2816 8 7 128,
+    )
+    (modifiers-are m 128)
 
 controls-are : (m : List ℕ) → controlsWithin m ≡ everyColumn (region regions 4 .tests) m 4112 7 0 1
 unfolding regions everyWord
@@ -53,10 +93,10 @@ five a b c d e = simp (and-assoc, and-true)
 
 -- The sweep's answer.
 pub sound-swept : (m : List ℕ)
-    → sound m ≡ (generatorsWithin (generatorColumns m 256) && modifiersWithin (modifierColumns m 128) && bits 20 (column m 3840 1 0 256) && bits 20 (column m 4096 1 0 16) && controlsWithin m)
+    → sound m ≡ (generatorsWithin m && modifiersWithin m && everyWord (bits 20) m 3840 1 0 256 && everyWord (bits 20) m 4096 1 0 16 && controlsWithin m)
 unfolding regions
 sound-swept m =
     sound-columns m
     ∙ five (everyColumn (region regions 0 .tests) m 0 11 0 256) (everyColumn (region regions 1 .tests) m 2816 8 0 128)
     (everyWord (bits 20) m 3840 1 0 256) (everyWord (bits 20) m 4096 1 0 16) (everyColumn (region regions 4 .tests) m 4112 7 0 1)
-    ∙ rw (generators-are m 256, modifiers-are m 128, column-bits 20 m 3840 1 0 256, column-bits 20 m 4096 1 0 16, controls-are m)
+    ∙ rw (generators-swept m, modifiers-swept m, controls-are m)

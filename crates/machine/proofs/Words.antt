@@ -1,16 +1,16 @@
 -- The tests of one word.
 -- Assumes nothing.
-use mathlib.Core.Path.{_≡_, refl, _∙_}
+use mathlib.Core.Path.{_≡_, refl, sym, _∙_}
 use mathlib.Core.Bool.{Bool, true, false, not, _&&_}
-use Prim.Native.Nat.{ℕ, _/_, _%_, _<_, _≤_}
+use Prim.Native.Nat.{ℕ, _/_, _%_, _^_, _<_, _≤_}
 use native.Mathlib.Omega.{arith}
 use native.Mathlib.Nat.{mod-eq-of-lt}
 use borrow.Author.Tests.{ltb-true, ltb-false, lt-ltb, eq-eqb, ne-eqb}
 use lib.Dec.{eqb, ltb}
+use Rattle.lists.proofs.Below.{and-second, and-both}
 use Rattle.modes.specs.Modes.{builtRun, builtOscillator}
-use Rattle.modifier_turn.specs.Turn.{builtFunction}
-use Rattle.machine.specs.Questions.{bits, goodGmode, goodAddress, goodMmode}
-use Rattle.machine.specs.Loops.{builtModes, builtMmode}
+use Rattle.machine.specs.Questions.{bits, builtModes, goodGmode, builtSource, goodAddress, builtMmode, goodMmode}
+use Rattle.machine.specs.Loops.{runField, oscillatorField, functionField}
 
 -- Eight bits of which the top two are not 11 are the numbers below 192.
 pub address-is : (x : ℕ) → ltb x 192 ≡ goodAddress x
@@ -30,18 +30,33 @@ address-is x = at (ltb x 192) refl where
 pub address-below : (x : ℕ) → goodAddress x ≡ true → x < 192
 address-below x e = ltb-true x 192 (address-is x ∙ e)
 
--- In a word of 10 bits the run mode is the four bits from 2^6 on, and in one of 9 bits the function is the five from 2^4 on.
-pub gmode-is : (x : ℕ) → goodGmode x ≡ (bits 10 x && builtModes x)
+pub address-and : (x : ℕ) → goodAddress x ≡ (bits 8 x && ltb x 192)
+address-and x = by-width (bits 8 x) refl where
+  by-width : (b : Bool) → bits 8 x ≡ b → (b && builtSource x) ≡ (b && ltb x 192)
+  by-width false e = refl
+  by-width true e = sym (address-is x ∙ rw e)
+
+-- In a word of 10 bits the run mode is the bits from 2^6 on, and in one of 9 bits the function is the bits from 2^4 on.
+pub gmode-is : (x : ℕ) → goodGmode x ≡ (bits 10 x && (runField x && oscillatorField x))
 gmode-is x = by-width (bits 10 x) refl where
-  by-width : (b : Bool) → bits 10 x ≡ b → (b && builtRun (x / 64) && builtOscillator (x % 16)) ≡ (b && builtModes x)
+  by-width : (b : Bool) → bits 10 x ≡ b → (b && builtModes x) ≡ (b && (runField x && oscillatorField x))
   by-width false e = refl
   by-width true e =
       let h : x < 1024 = ltb-true x 1024 e in
-      rw (mod-eq-of-lt {n = x / 64} {m = 16} (omega arith))
+      let low : x / 2 ^ 0 % 32 % 16 ≡ x % 16 = omega arith in
+      rw (mod-eq-of-lt {n = x / 64} {m = 32} (omega arith), low)
 
-pub mmode-is : (x : ℕ) → goodMmode x ≡ (bits 9 x && builtMmode x)
+-- A good GMODE from its three parts, and its oscillator mode.
+pub gmode-from : (x : ℕ) → x < 2 ^ 10 → builtRun (x / 2 ^ 6) ≡ true → builtOscillator (x % 2 ^ 4) ≡ true → goodGmode x ≡ true
+gmode-from x h run oscillator =
+    and-both (bits 10 x) (builtModes x) (lt-ltb x (2 ^ 10) h) (and-both (builtRun (x / 2 ^ 6)) (builtOscillator (x % 2 ^ 4)) run oscillator)
+
+pub gmode-oscillator : (x : ℕ) → goodGmode x ≡ true → builtOscillator (x % 2 ^ 4) ≡ true
+gmode-oscillator x e = and-second (builtRun (x / 2 ^ 6)) (builtOscillator (x % 2 ^ 4)) (and-second (bits 10 x) (builtModes x) e)
+
+pub mmode-is : (x : ℕ) → goodMmode x ≡ (bits 9 x && functionField x)
 mmode-is x = by-width (bits 9 x) refl where
-  by-width : (b : Bool) → bits 9 x ≡ b → (b && builtFunction (x / 16)) ≡ (b && builtMmode x)
+  by-width : (b : Bool) → bits 9 x ≡ b → (b && builtMmode x) ≡ (b && functionField x)
   by-width false e = refl
   by-width true e =
       let h : x < 512 = ltb-true x 512 e in

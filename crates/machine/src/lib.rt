@@ -1,56 +1,80 @@
 // The machine's run of words: a fresh machine, and questions 1 and 2.
 ghost use mathlib.Core.Path.{_≡_};
 ghost use mathlib.Core.List.{[], _∷_};
-ghost use Prim.Native.Nat.{_+_, _<_, _≤_};
 ghost use lib.ListN.{length};
 ghost use Rattle.layout.specs.Machine.{Reaches};
-ghost use Rattle.machine.specs.Questions.{question1, question2, sound, goodAddress, freshAnswer, freshRun};
-ghost use Rattle.machine.specs.Loops.{column, builtModes, builtMmode, noGenerators, generatorColumns, withGenerator, generatorsWithin, noModifiers, modifierColumns, withModifier, modifiersWithin, controlsWithin};
+ghost use Rattle.machine.specs.Questions.{question1, question2, sound, goodAddress, generatorRegisters, modifierRegisters, freshAnswer, freshRun};
+ghost use Rattle.machine.specs.Loops.{limitsOf, repeated, generatorsWithin, modifiersWithin, controlsWithin};
 ghost use Rattle.questions.specs.Questions.{asked};
 ghost use Rattle.lists.specs.Lists.{zeros};
 
-// Each register's words or-ed over the generators, and whether all their modes are built.
-pub struct GeneratorColumns {
-    pub go: u32,
-    pub gj: u32,
-    pub gk: u32,
-    pub gn: u32,
-    pub gm: u32,
-    pub gp: u32,
-    pub gq: u32,
-    pub gl: u32,
-    pub gsum: u32,
-    pub gfm: u32,
-    pub gmode: u32,
-    pub built: bool,
-}
+// What the registers of a generator are below, for the four generators of a row.
+const GENERATOR_LIMITS: [u32; 44] = [
+    1 << 20, // GO
+    1 << 28, // GJ
+    1 << 20, // GK
+    1 << 11, // GN
+    1 << 4, // GM
+    1 << 20, // GP
+    1 << 24, // GQ
+    1 << 12, // GL
+    1 << 6, // GSUM
+    1 << 7, // GFM
+    1 << 10, // GMODE
+    1 << 20,
+    1 << 28,
+    1 << 20,
+    1 << 11,
+    1 << 4,
+    1 << 20,
+    1 << 24,
+    1 << 12,
+    1 << 6,
+    1 << 7,
+    1 << 10,
+    1 << 20,
+    1 << 28,
+    1 << 20,
+    1 << 11,
+    1 << 4,
+    1 << 20,
+    1 << 24,
+    1 << 12,
+    1 << 6,
+    1 << 7,
+    1 << 10,
+    1 << 20,
+    1 << 28,
+    1 << 20,
+    1 << 11,
+    1 << 4,
+    1 << 20,
+    1 << 24,
+    1 << 12,
+    1 << 6,
+    1 << 7,
+    1 << 10,
+];
 
-// Each register's words or-ed over the modifiers, and whether all their addresses and functions are built.
-pub struct ModifierColumns {
-    pub m0: u32,
-    pub m1: u32,
-    pub l0: u32,
-    pub l1: u32,
-    pub min: bool,
-    pub mrm: bool,
-    pub msum: u32,
-    pub mmode: u32,
-    pub built: bool,
-}
-
-// A run mode and an oscillator mode that are built, in the low 10 bits.
-fn built_modes(gmode: u32) -> bool
-    ensures { λ r. ⌜ r ≡ builtModes gmode ⌝ }
-{
-    modes::built_run(gmode / 64 % 16) & modes::built_oscillator(gmode % 16)
-}
-
-// A function that is built, in the low 9 bits.
-fn built_mmode(mmode: u32) -> bool
-    ensures { λ r. ⌜ r ≡ builtMmode mmode ⌝ }
-{
-    modifier_turn::built_function(mmode / 16 % 32)
-}
+// What the registers of a modifier are below, for the two modifiers of a row.
+const MODIFIER_LIMITS: [u32; 16] = [
+    1 << 30, // M0
+    1 << 30, // M1
+    1 << 20, // L0
+    1 << 20, // L1
+    1 << 8, // MIN
+    1 << 8, // MRM
+    1 << 7, // MSUM
+    1 << 9, // MMODE
+    1 << 30,
+    1 << 30,
+    1 << 20,
+    1 << 20,
+    1 << 8,
+    1 << 8,
+    1 << 7,
+    1 << 9,
+];
 
 // Eight bits, the top two not 11.
 pub fn built_address(address: u32) -> bool
@@ -59,184 +83,49 @@ pub fn built_address(address: u32) -> bool
     address < 192
 }
 
-impl GeneratorColumns {
-    // No generator yet.
-    fn new() -> GeneratorColumns
-        ensures { λ r. ⌜ r ≡ noGenerators ⌝ }
-    {
-        GeneratorColumns {
-            go: 0,
-            gj: 0,
-            gk: 0,
-            gn: 0,
-            gm: 0,
-            gp: 0,
-            gq: 0,
-            gl: 0,
-            gsum: 0,
-            gfm: 0,
-            gmode: 0,
-            built: true,
-        }
-    }
-
-    // One generator more, by its words.
-    fn with(self, m: &[u32]) -> GeneratorColumns
-        requires { ⌜ 11 ≤ length (now m) ⌝ }
-        ensures { λ r. ⌜ r ≡ withGenerator self (now (m .entry)) ⌝ }
-    {
-        let go = m[layout::GO];
-        let gj = m[layout::GJ];
-        let gk = m[layout::GK];
-        let gn = m[layout::GN];
-        let gm = m[layout::GM];
-        let gp = m[layout::GP];
-        let gq = m[layout::GQ];
-        let gl = m[layout::GL];
-        let gsum = m[layout::GSUM];
-        let gfm = m[layout::GFM];
-        let gmode = m[layout::GMODE];
-        let built = built_modes(gmode);
-        GeneratorColumns {
-            go: self.go | go,
-            gj: self.gj | gj,
-            gk: self.gk | gk,
-            gn: self.gn | gn,
-            gm: self.gm | gm,
-            gp: self.gp | gp,
-            gq: self.gq | gq,
-            gl: self.gl | gl,
-            gsum: self.gsum | gsum,
-            gfm: self.gfm | gfm,
-            gmode: self.gmode | gmode,
-            built: built & self.built,
-        }
-    }
-
-    // Each column within its register's width, and the modes built.
-    fn within(self) -> bool
-        ensures { λ r. ⌜ r ≡ generatorsWithin self ⌝ }
-    {
-        (self.go < 1048576)
-            & (self.gj < 268435456)
-            & (self.gk < 1048576)
-            & (self.gn < 2048)
-            & (self.gm < 16)
-            & (self.gp < 1048576)
-            & (self.gq < 16777216)
-            & (self.gl < 4096)
-            & (self.gsum < 64)
-            & (self.gfm < 128)
-            & (self.gmode < 1024)
-            & self.built
-    }
+// The limits' tables: the widths that the definition's list of registers has.
+fn generator_limits() -> [u32; 44]
+    ensures { λ r. ⌜ r ≡ repeated (limitsOf generatorRegisters) 44 ⌝ }
+{
+    GENERATOR_LIMITS
 }
 
-impl ModifierColumns {
-    // No modifier yet.
-    fn new() -> ModifierColumns
-        ensures { λ r. ⌜ r ≡ noModifiers ⌝ }
-    {
-        ModifierColumns {
-            m0: 0,
-            m1: 0,
-            l0: 0,
-            l1: 0,
-            min: true,
-            mrm: true,
-            msum: 0,
-            mmode: 0,
-            built: true,
-        }
-    }
-
-    // One modifier more, by its words.
-    fn with(self, m: &[u32]) -> ModifierColumns
-        requires { ⌜ 8 ≤ length (now m) ⌝ }
-        ensures { λ r. ⌜ r ≡ withModifier self (now (m .entry)) ⌝ }
-    {
-        let m0 = m[layout::M0];
-        let m1 = m[layout::M1];
-        let l0 = m[layout::L0];
-        let l1 = m[layout::L1];
-        let min = built_address(m[layout::MIN]);
-        let mrm = built_address(m[layout::MRM]);
-        let msum = m[layout::MSUM];
-        let mmode = m[layout::MMODE];
-        let built = built_mmode(mmode);
-        ModifierColumns {
-            m0: self.m0 | m0,
-            m1: self.m1 | m1,
-            l0: self.l0 | l0,
-            l1: self.l1 | l1,
-            min: min & self.min,
-            mrm: mrm & self.mrm,
-            msum: self.msum | msum,
-            mmode: self.mmode | mmode,
-            built: built & self.built,
-        }
-    }
-
-    // Each column within its register's width, and addresses and functions built.
-    fn within(self) -> bool
-        ensures { λ r. ⌜ r ≡ modifiersWithin self ⌝ }
-    {
-        (self.m0 < 1073741824)
-            & (self.m1 < 1073741824)
-            & (self.l0 < 1048576)
-            & (self.l1 < 1048576)
-            & self.min
-            & self.mrm
-            & (self.msum < 128)
-            & (self.mmode < 512)
-            & self.built
-    }
+fn modifier_limits() -> [u32; 16]
+    ensures { λ r. ⌜ r ≡ repeated (limitsOf modifierRegisters) 16 ⌝ }
+{
+    MODIFIER_LIMITS
 }
 
-// The columns of all generators.
-fn generator_columns(m: &[u32]) -> GeneratorColumns
+// All generators' words within their widths, with built run modes and oscillator modes.
+// Flags are by five bits, of which an oscillator mode has four: its flags stand twice.
+fn generators_within(m: &[u32]) -> bool
     requires { ⌜ Reaches (now m) ⌝ }
-    ensures { λ r. ⌜ r ≡ generatorColumns (now (m .entry)) 256 ⌝ }
+    ensures { λ r. ⌜ r ≡ generatorsWithin (now (m .entry)) ⌝ }
 {
-    let mut c = GeneratorColumns::new();
-    let mut g: usize = 0;
-    while g < layout::GENERATORS {
-        let at = layout::GENERATOR_WORDS * g;
-        let next = c.with(&m[at..]);
-        c = next;
-        g += 1;
-    }
-    c
+    let limits = generator_limits();
+    let runs = machine_sweep::flags(modes::BUILT_RUN);
+    let oscillators = machine_sweep::flags(65537 * modes::BUILT_OSCILLATOR);
+    let n = layout::GENERATORS;
+    let step = layout::GENERATOR_WORDS;
+    machine_sweep::swept(&limits, m, 0, 8)
+        & machine_sweep::fields_flagged(&runs, m, layout::GMODE, step, n, 6)
+        & machine_sweep::fields_flagged(&oscillators, m, layout::GMODE, step, n, 0)
 }
 
-// The columns of all modifiers.
-fn modifier_columns(m: &[u32]) -> ModifierColumns
+// All modifiers' words within their widths, with built functions and no MIN or MRM top bits 11.
+fn modifiers_within(m: &[u32]) -> bool
     requires { ⌜ Reaches (now m) ⌝ }
-    ensures { λ r. ⌜ r ≡ modifierColumns (now (m .entry)) 128 ⌝ }
+    ensures { λ r. ⌜ r ≡ modifiersWithin (now (m .entry)) ⌝ }
 {
-    let mut c = ModifierColumns::new();
-    let mut k: usize = 0;
-    while k < layout::MODIFIERS {
-        let at = layout::MODIFIERS_AT + layout::MODIFIER_WORDS * k;
-        let next = c.with(&m[at..]);
-        c = next;
-        k += 1;
-    }
-    c
-}
-
-// n words or-ed, the first at a place.
-fn ored(m: &[u32], at: usize, n: usize) -> u32
-    requires { ⌜ at + n ≤ length (now m) ⌝ }
-    ensures { λ r. ⌜ r ≡ column (now (m .entry)) at 1 0 n ⌝ }
-{
-    let mut c: u32 = 0;
-    let mut i: usize = 0;
-    while i < n {
-        c = c | m[at + i];
-        i += 1;
-    }
-    c
+    let limits = modifier_limits();
+    let functions = machine_sweep::flags(modifier_turn::BUILT_FUNCTION);
+    let at = layout::MODIFIERS_AT;
+    let n = layout::MODIFIERS;
+    let step = layout::MODIFIER_WORDS;
+    machine_sweep::swept(&limits, m, at, 8)
+        & machine_sweep::words_below(m, at + layout::MIN, step, n, 192)
+        & machine_sweep::words_below(m, at + layout::MRM, step, n, 192)
+        & machine_sweep::fields_flagged(&functions, m, at + layout::MMODE, step, n, 4)
 }
 
 // DX, T, N, the pass counter, lingering, the Linger pass and overrun within their ranges.
@@ -251,12 +140,12 @@ fn controls_within(m: &[u32]) -> bool
     let lingering = m[layout::LINGERING_AT];
     let pass = m[layout::LINGER_PASS_AT];
     let overrun = m[layout::OVERRUN_AT];
-    (dx < 1048576)
+    (dx < layout::WORD_LIMIT)
         & ((1 <= t) & (t <= 256))
         & ((2 <= n) & (n <= 1025))
-        & (counter < 1048576)
+        & (counter < layout::COUNTER_LIMIT)
         & (lingering <= 1)
-        & (pass < 1048576)
+        & (pass < layout::LINGER_LIMIT)
         & (overrun <= 1)
 }
 
@@ -265,11 +154,15 @@ pub fn sound(m: &[u32]) -> bool
     requires { ⌜ Reaches (now m) ⌝ }
     ensures { λ r. ⌜ r ≡ sound (now (m .entry)) ⌝ }
 {
-    let generators = generator_columns(m).within();
-    let modifiers = modifier_columns(m).within();
-    let sums = ored(m, layout::SUMS_AT, layout::SUM_WORDS);
-    let dacs = ored(m, layout::DACS_AT, layout::DACS);
-    generators & modifiers & (sums < 1048576) & (dacs < 1048576) & controls_within(m)
+    let sums = machine_sweep::words_below(
+        m,
+        layout::SUMS_AT,
+        1,
+        layout::SUM_WORDS,
+        layout::WORD_LIMIT,
+    );
+    let dacs = machine_sweep::words_below(m, layout::DACS_AT, 1, layout::DACS, layout::WORD_LIMIT);
+    generators_within(m) & modifiers_within(m) & sums & dacs & controls_within(m)
 }
 
 // The number of the first of questions 1 and 2 that is answered no, or 0.

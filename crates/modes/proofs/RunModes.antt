@@ -29,9 +29,6 @@ pub oscillator-output : (r : ℕ) → oscillatorOn r ≡ (adds r || eqb r wait)
 unfolding oscillatorOn adds running isOneOf
 oscillator-output r = isOneOf-append r running (wait ∷ []) ∙ simp or-false
 
-pub adds-oscillator : (r : ℕ) → adds r ≡ true → oscillatorOn r ≡ true
-adds-oscillator r h = oscillator-output r ∙ rw h
-
 pub free-is : (r : ℕ) → free r ≡ (eqb r runningB || eqb r runningC)
 unfolding free isOneOf
 free-is r = rw or-false
@@ -46,7 +43,6 @@ unfolding adds isOneOf
 replaces-alone r h = rw (eqb-true r readData (sym (replaces-is r) ∙ h))
 
 -- What the switches' numbers tell.
-
 on : (b : Bool) → eqb (cond b 1 0) 1 ≡ b
 on true = refl
 on false = refl
@@ -71,13 +67,3 @@ adding false false = refl
 pub adds-tells : (r : ℕ) → eqb (switchesOf r .output) 1 ≡ adds r
 unfolding switchesOf
 adds-tells r = adding (adds r) (replaces r)
-
-replacing : (a b : Bool) → (b ≡ true → a ≡ false) → eqb (cond a 1 (cond b 2 0)) 2 ≡ b
-replacing true true h = sym (h refl)
-replacing true false h = refl
-replacing false true h = refl
-replacing false false h = refl
-
-pub replaces-tells : (r : ℕ) → eqb (switchesOf r .output) 2 ≡ replaces r
-unfolding switchesOf
-replaces-tells r = replacing (adds r) (replaces r) (replaces-alone r)

@@ -30,8 +30,10 @@ pub struct Switches {
     pub output: u8,
 }
 
+pub type Rows = [[u8; 4]; 16];
+
 // The switches of the 16 run modes, by number: oscillator, envelope, free, output.
-const SWITCHES: [[u8; 4]; 16] = [
+const SWITCHES: Rows = [
     [0, 0, 0, 0],
     [0, 0, 0, 0],
     [0, 0, 0, 0],
@@ -51,20 +53,20 @@ const SWITCHES: [[u8; 4]; 16] = [
 ];
 
 // The built run modes: bit r is 1 where run mode r is built.
-const BUILT_RUN: u32 = 0b1110_0010_1000_1111;
+pub const BUILT_RUN: u32 = 0b1110_0010_1000_1111;
 
 // The built oscillator modes, in the same way.
-const BUILT_OSCILLATOR: u32 = 0b0000_0001_0000_1111;
+pub const BUILT_OSCILLATOR: u32 = 0b0000_0001_0000_1111;
 
 // The switches' table, which a caller copies once and hands to `switches_of`.
-pub fn table() -> [[u8; 4]; 16]
+pub fn table() -> Rows
     ensures { λ r. ⌜ r ≡ rows ⌝ }
 {
     SWITCHES
 }
 
 // The switches of a run mode.
-pub fn switches_of(t: &[[u8; 4]; 16], run: u32) -> Switches
+pub fn switches_of(t: &Rows, run: u32) -> Switches
     requires { ⌜ (now t ≡ rows) × (run < 16) ⌝ }
     ensures { λ r. ⌜ r ≡ switchesOf run ⌝ }
 {

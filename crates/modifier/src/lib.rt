@@ -36,14 +36,14 @@ impl Modifier {
         requires { ⌜ 8 ≤ length (now m) ⌝ }
         ensures { λ r. ⌜ r ≡ loaded (now (m .entry)) ⌝ }
     {
-        let m0 = m[0] % 1073741824;
-        let m1 = m[1] % 1073741824;
-        let l0 = m[2] % 1048576;
-        let l1 = m[3] % 1048576;
-        let min = m[4] % 256;
-        let mrm = m[5] % 256;
-        let msum = m[6] % 128;
-        let mmode = m[7] % 512;
+        let m0 = m[layout::M0] % layout::COEFFICIENT_LIMIT;
+        let m1 = m[layout::M1] % layout::COEFFICIENT_LIMIT;
+        let l0 = m[layout::L0] % layout::LATCH_LIMIT;
+        let l1 = m[layout::L1] % layout::LATCH_LIMIT;
+        let min = m[layout::MIN] % layout::ADDRESS_LIMIT;
+        let mrm = m[layout::MRM] % layout::ADDRESS_LIMIT;
+        let msum = m[layout::MSUM] % layout::MSUM_LIMIT;
+        let mmode = m[layout::MMODE] % layout::MMODE_LIMIT;
         Modifier {
             m0,
             m1,
@@ -59,12 +59,12 @@ impl Modifier {
     // The registers that a turn can change are written back.
     pub fn store(self, m: &mut [u32])
         requires { ⌜ 8 ≤ length (now m) ⌝ }
-        ensures { λ r. ⌜ now (m .exit) ≡ stored (now (m .entry)) self ⌝ }
+        ensures { λ r. ⌜ now (m .exit) ≡ stored (now (m .entry)) 0 self ⌝ }
     {
-        m[0] = self.m0;
-        m[1] = self.m1;
-        m[2] = self.l0;
-        m[3] = self.l1;
+        m[layout::M0] = self.m0;
+        m[layout::M1] = self.m1;
+        m[layout::L0] = self.l0;
+        m[layout::L1] = self.l1;
     }
 
     // The function's code.

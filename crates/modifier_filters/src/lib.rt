@@ -1,7 +1,7 @@
 // The modifiers' turns with poles and zeros.
 ghost use mathlib.Core.Path.{_≡_};
 ghost use Prim.Native.Nat.{_<_, _^_};
-ghost use Rattle.modifier.specs.Modifier.{Ranged};
+ghost use Rattle.modifier.specs.Modifier.{Ranged, shifted};
 ghost use Rattle.words.specs.Words.{Word};
 ghost use Rattle.modifier_filters.specs.Filters.{onePole, filtered, oneZero, twoPoles, m0Variable, m1Variable, twoPolesM0Variable, twoPolesM1Variable, twoZeros, twoZerosM0Variable, twoZerosM1Variable};
 use modifier::Modifier;
@@ -27,16 +27,22 @@ fn filtered(u: Modifier) -> u32
     modifier::added(u.times_m1(u.l1), u.times_m0(u.l0))
 }
 
+// L0 := L1; L1 := x.
+fn shift(u: Modifier, x: u32) -> Modifier
+    ensures { λ r. ⌜ r ≡ shifted u x ⌝ }
+{
+    let mut v = u;
+    v.l0 = u.l1;
+    v.l1 = x;
+    v
+}
+
 // One zero: S := L1*M1 + L0*M0; L0 := L1; L1 := A.
 pub fn one_zero(u: Modifier, a: u32) -> Turned
     requires { ⌜ Ranged u ⌝ }
     ensures { λ r. ⌜ r ≡ oneZero u a ⌝ }
 {
-    let s = filtered(u);
-    let mut v = u;
-    v.l0 = u.l1;
-    v.l1 = a;
-    v.gives(s)
+    shift(u, a).gives(filtered(u))
 }
 
 // Two poles: S := L1*M1 + L0*M0 + A; L0 := L1; L1 := S.
@@ -46,10 +52,7 @@ pub fn two_poles(u: Modifier, a: u32) -> Turned
     ensures { λ r. ⌜ r ≡ twoPoles u a ⌝ }
 {
     let s = modifier::added(filtered(u), a);
-    let mut v = u;
-    v.l0 = u.l1;
-    v.l1 = s;
-    v.gives(s)
+    shift(u, s).gives(s)
 }
 
 // After a turn, M0 := M0 + B.
@@ -97,10 +100,7 @@ pub fn two_zeros(u: Modifier, a: u32) -> Turned
     ensures { λ r. ⌜ r ≡ twoZeros u a ⌝ }
 {
     let s = modifier::added(filtered(u), a);
-    let mut v = u;
-    v.l0 = u.l1;
-    v.l1 = a;
-    v.gives(s)
+    shift(u, a).gives(s)
 }
 
 // Two zeros, M0 variable.

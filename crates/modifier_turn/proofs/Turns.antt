@@ -1,9 +1,9 @@
--- Whatever the function's code is, a turn leaves MIN, MRM, MSUM and MMODE, and what it gives stays within its widths.
+-- Whatever the function's code is, what a turn gives stays within its widths.
 -- Assumes nothing.
 use Prim.Native.Nat.{ℕ, _^_, _<_}
 use Rattle.modifier.specs.declared.Modifier.{Modifier}
 use Rattle.modifier.specs.Modifier.{Ranged}
-use Rattle.modifier.proofs.Turns.{Kept, Low, Steady, either-steady}
+use Rattle.modifier.proofs.Turns.{Low, Steady, either-steady}
 use Rattle.modifier_mixers.proofs.Steady.{steady-mixers}
 use Rattle.modifier_modulators.proofs.Steady.{steady-modulators}
 use Rattle.modifier_filters.proofs.Steady.{steady-filters}
@@ -16,7 +16,3 @@ turn-steady u a b = search (either-steady, steady-mixers, steady-modulators, ste
 -- S is a word of 20 bits, and the registers stay within their widths.
 pub turn-low : (u : Modifier) (a b : ℕ) → Ranged u → a < 2 ^ 20 → Low (turnOf u a b)
 turn-low u a b r h = turn-steady u a b .low r h
-
--- MIN, MRM, MSUM and MMODE are unchanged.
-pub turn-kept : (u : Modifier) (a b : ℕ) → Kept u (turnOf u a b)
-turn-kept u a b = turn-steady u a b .kept

@@ -10,7 +10,7 @@ use modifier::Turned;
 const LATE: u32 = 0b0000_0000_0100_0000_1011_1011_0001_0000;
 
 // Bit f is 1 where function f is built.
-const BUILT: u32 = 0b0011_1111_0101_0011_1011_1011_0101_1101;
+pub const BUILT_FUNCTION: u32 = 0b0011_1111_0101_0011_1011_1011_0101_1101;
 
 // The turn by the function's code: the registers afterwards, and S.
 pub fn turn(u: Modifier, a: u32, b: u32) -> Turned
@@ -57,5 +57,5 @@ pub fn built_function(f: u32) -> bool
     requires { ⌜ f < 32 ⌝ }
     ensures { λ r. ⌜ r ≡ builtFunction f ⌝ }
 {
-    (BUILT >> f) % 2 == 1
+    (BUILT_FUNCTION >> f) % 2 == 1
 }

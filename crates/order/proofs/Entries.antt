@@ -1,8 +1,8 @@
--- What an order that passes questions 5 and 6 is.
+-- An order that passes questions 5 and 6 has each number below t once, and so only numbers below t.
 -- Assumes nothing.
 use mathlib.Core.Path.{_≡_, refl}
 use mathlib.Core.Bool.{Bool, true, false, cond}
-use mathlib.Core.List.{List, [], _∷_}
+use mathlib.Core.List.{[], _∷_}
 use Prim.Native.Nat.{ℕ, _<_}
 use native.Mathlib.Omega.{arith}
 use borrow.Author.Tests.{eqb-true}
@@ -11,16 +11,17 @@ use lib.ListN.{length}
 use Rattle.lists.specs.Lists.{count}
 use Rattle.lists.proofs.Below.{below-at}
 use Rattle.lists.proofs.Counts.{once-below}
+use Rattle.layout.specs.Machine.{Order}
 use Rattle.questions.specs.Questions.{asked}
 use Rattle.order.specs.Order.{question5, question6, eachOnce, IsOrder}
 
 -- Question 6 answered yes: each number below t is there once.
-pub once-each : (t : ℕ) (order : List ℕ) → eachOnce t order ≡ true → (k : ℕ) → k < t → count k order ≡ 1
+pub once-each : (t : ℕ) (order : Order) → eachOnce t order ≡ true → (k : ℕ) → k < t → count k order ≡ 1
 unfolding eachOnce
 once-each t order e k h = eqb-true (count k order) 1 (below-at (λ g. eqb (count g order) 1) t e k h)
 
 -- Questions 5 and 6 answered yes.
-pub order-passes : (t : ℕ) (order : List ℕ) → asked (question5 t order ∷ question6 t order ∷ []) ≡ 0 → IsOrder t order
+pub order-passes : (t : ℕ) (order : Order) → asked (question5 t order ∷ question6 t order ∷ []) ≡ 0 → IsOrder t order
 unfolding asked
 order-passes t order e = by-length (eqb (length order) t) (eachOnce t order) refl refl e where
   by-length : (a b : Bool) → eqb (length order) t ≡ a → eachOnce t order ≡ b → _≡_ {A = ℕ} (cond a (cond b 0 6) 5) 0 → IsOrder t order

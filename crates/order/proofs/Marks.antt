@@ -14,24 +14,26 @@ use lib.ListN.{length, getD, set, drop, length-set, drop-of-length-le}
 use lib.Seq.{drop-cons, getD-set-same, getD-set-other}
 use Rattle.lists.specs.Lists.{count, zeros}
 use Rattle.lists.proofs.Below.{both-ways, and-first, and-second, and-both, below-from}
-use Rattle.lists.proofs.Counts.{once-below, below-once}
+use Rattle.lists.proofs.Counts.{count-first, count-next, once-below, below-once}
 use Rattle.lists.proofs.Zeros.{zeros-length, zeros-at}
+use Rattle.layout.specs.Layout.{generators}
+use Rattle.layout.specs.Machine.{Order}
 use Rattle.order.specs.Order.{eachOnce}
 use Rattle.order.specs.Loops.{unmarked, marked, eachUnmarked}
 use Rattle.order.proofs.Entries.{once-each}
 
 -- One entry further, an entry that stops the marking, and none left.
-pub unmarked-next : (t : ℕ) (marks order : List ℕ) (i : ℕ) → i < length order → unmarked t marks (getD order i 0) ≡ true
+pub unmarked-next : (t : ℕ) (marks : List ℕ) (order : Order) (i : ℕ) → i < length order → unmarked t marks (getD order i 0) ≡ true
     → eachUnmarked t (marked t marks (getD order i 0)) (drop (i + 1) order) ≡ eachUnmarked t marks (drop i order)
 unfolding eachUnmarked marked
 unmarked-next t marks order i h e = rw (add-one i, drop-cons order i 0 h, e)
 
-pub unmarked-stop : (t : ℕ) (marks order : List ℕ) (i : ℕ) → i < length order → unmarked t marks (getD order i 0) ≡ false
+pub unmarked-stop : (t : ℕ) (marks : List ℕ) (order : Order) (i : ℕ) → i < length order → unmarked t marks (getD order i 0) ≡ false
     → eachUnmarked t marks (drop i order) ≡ false
 unfolding eachUnmarked
 unmarked-stop t marks order i h e = rw (drop-cons order i 0 h, e)
 
-pub unmarked-end : (t : ℕ) (marks order : List ℕ) (i : ℕ) → length order ≤ i → eachUnmarked t marks (drop i order) ≡ true
+pub unmarked-end : (t : ℕ) (marks : List ℕ) (order : Order) (i : ℕ) → length order ≤ i → eachUnmarked t marks (drop i order) ≡ true
 unfolding eachUnmarked
 unmarked-end t marks order i h = rw (drop-of-length-le order {i = i} h)
 
@@ -43,15 +45,6 @@ is-below t marks g e = ltb-true g t (and-first (ltb g t) (eqb (getD marks g 0) 0
 is-zero : (t : ℕ) (marks : List ℕ) (g : ℕ) → unmarked t marks g ≡ true → getD marks g 0 ≡ 0
 unfolding unmarked
 is-zero t marks g e = eqb-true (getD marks g 0) 0 (and-second (ltb g t) (eqb (getD marks g 0) 0) e)
-
--- The count of a number, by whether it is the first entry.
-count-same : (k : ℕ) (xs : List ℕ) → count k (k ∷ xs) ≡ 1 + count k xs
-unfolding count
-count-same k xs = rw (eq-eqb k k refl)
-
-count-other : (k x : ℕ) (xs : List ℕ) → (x ≡ k → ⊥) → count k (x ∷ xs) ≡ count k xs
-unfolding count
-count-other k x xs n = rw (ne-eqb x k n) (omega arith)
 
 -- Where each entry in turn passes: all are below t, a number with a mark isn't there, and none is there twice.
 entries-below : (t : ℕ) (marks xs : List ℕ) → eachUnmarked t marks xs ≡ true → (i : ℕ) → i < length xs → getD xs i 0 < t
@@ -102,23 +95,23 @@ passes t marks (x ∷ xs) l b c =
     low : x < t
     low = b 0 (omega arith)
 
-    here : getD marks x 0 + (1 + count x xs) ≤ 1
-    here = rw (count-same x xs) at (c x low)
+    here : getD marks x 0 + suc (count x xs) ≤ 1
+    here = rw (count-first x xs) at (c x low)
 
     later : (k : ℕ) → k < t → (b : Bool) → eqb x k ≡ b → getD (set marks x 1) k 0 + count k xs ≤ 1
     later k h true q = rw (← (eqb-true x k q), getD-set-same marks x 1 0 (lt-of-lt-of-le low l)) (omega (arith, here))
     later k h false q =
-        rw (getD-set-other marks x k 1 0 (λ p. eqb-false x k q (sym p))) (rw (count-other k x xs (eqb-false x k q)) at (c k h))
+        rw (getD-set-other marks x k 1 0 (λ p. eqb-false x k q (sym p))) (rw (count-next k x xs (eqb-false x k q)) at (c k h))
 
 -- The marking answers question 6.
-pub marks-once : (t : ℕ) (order : List ℕ) → t ≤ 256 → length order ≡ t → eachUnmarked t (zeros 256) order ≡ eachOnce t order
+pub marks-once : (t : ℕ) (order : Order) → t ≤ generators → length order ≡ t → eachUnmarked t (zeros generators) order ≡ eachOnce t order
 unfolding eachOnce
 marks-once t order l n =
-    both-ways (eachUnmarked t (zeros 256) order) (eachOnce t order)
+    both-ways (eachUnmarked t (zeros generators) order) (eachOnce t order)
     (λ e. below-from (λ g. eqb (count g order) 1) t
     (λ k h. eq-eqb (count k order) 1
-    (below-once t order n (entries-below t (zeros 256) order e)
-    (λ j i. none-twice t (zeros 256) order j (rw (zeros-length 256) (omega arith)) e) k h)))
-    (λ e. passes t (zeros 256) order (rw (zeros-length 256) l)
+    (below-once t order n (entries-below t (zeros generators) order e)
+    (λ j i. none-twice t (zeros generators) order j (rw (zeros-length generators) (omega arith)) e) k h)))
+    (λ e. passes t (zeros generators) order (rw (zeros-length generators) l)
     (once-below t order n (once-each t order e))
-    (λ k h. rw (zeros-at 256 k (omega arith)) (omega (arith, once-each t order e k h))))
+    (λ k h. rw (zeros-at generators k (omega arith)) (omega (arith, once-each t order e k h))))

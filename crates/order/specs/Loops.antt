@@ -5,6 +5,7 @@ use mathlib.Core.Bool.{Bool, true, cond, _&&_}
 use mathlib.Core.List.{List, [], _∷_}
 use lib.Dec.{eqb, ltb}
 use lib.ListN.{getD, set}
+use Rattle.layout.specs.Machine.{Order}
 
 -- A number below T that has no mark yet.
 unfoldable pub unmarked : ℕ → List ℕ → ℕ → Bool
@@ -15,6 +16,6 @@ unfoldable pub marked : ℕ → List ℕ → ℕ → List ℕ
 marked t marks g = cond (unmarked t marks g) (set marks g 1) marks
 
 -- Each entry in turn is such a number.
-unfoldable pub eachUnmarked : ℕ → List ℕ → List ℕ → Bool
+unfoldable pub eachUnmarked : ℕ → List ℕ → Order → Bool
 eachUnmarked t marks [] = true
 eachUnmarked t marks (g ∷ order) = unmarked t marks g && eachUnmarked t (set marks g 1) order

@@ -1,41 +1,40 @@
 -- An order of the generators, and the generators of a run mode (document 01, "A pass, and two orders of it" and "Questions at the door").
 -- Assumes nothing.
-use Prim.Native.Nat.{ℕ, _/_, _^_, _+_, _<_}
+use Prim.Native.Nat.{ℕ, _<_}
 use mathlib.Core.Bool.{Bool}
-use mathlib.Core.List.{List}
+use mathlib.Core.Path.{_≡_}
 use lib.Dec.{eqb, leb}
 use lib.ListN.{length, getD}
 use Rattle.lists.specs.Lists.{allBelow, count, countBelow}
-use Rattle.layout.specs.Machine.{Machine, ticksOf, runModeAt}
+use Rattle.layout.specs.Machine.{Machine, Order, Items, Places, ticksOf, runModeAt}
 use Rattle.modes.specs.Modes.{readData, writeData}
 use Rattle.questions.specs.Questions.{Question}
-use mathlib.Core.Path.{_≡_}
 
 -- Question 5: there are T entries.
-abbrev pub question5 : ℕ → List ℕ → Question
+abbrev pub question5 : ℕ → Order → Question
 question5 t order = record { number = 5; yes = eqb (length order) t }
 
 -- Question 6: each number below T is there once.
-unfoldable pub eachOnce : ℕ → List ℕ → Bool
+unfoldable pub eachOnce : ℕ → Order → Bool
 eachOnce t order = allBelow (λ g. eqb (count g order) 1) t
 
-abbrev pub question6 : ℕ → List ℕ → Question
+abbrev pub question6 : ℕ → Order → Question
 question6 t order = record { number = 6; yes = eachOnce t order }
 
 -- An order that passes questions 5 and 6: t entries, each number below t there once, and each entry below t.
-pub record IsOrder (t : ℕ) (order : List ℕ) : Type 0 where
+pub record IsOrder (t : ℕ) (order : Order) : Type 0 where
   pub entries : length order ≡ t
   pub once : (k : ℕ) → k < t → count k order ≡ 1
   pub below : (i : ℕ) → i < length order → getD order i 0 < t
 
 -- How many generators below T are in a run mode.
-unfoldable pub inMode : List ℕ → ℕ → ℕ
+unfoldable pub inMode : Machine → ℕ → ℕ
 inMode m r = countBelow (λ g. eqb (runModeAt m g) r) (ticksOf m)
 
 -- Question 7: there are read items for all 0111s below T.
-abbrev pub question7 : List ℕ → List ℕ → Question
+abbrev pub question7 : Machine → Items → Question
 question7 m items = record { number = 7; yes = leb (inMode m readData) (length items) }
 
 -- Question 8: there are written places for all 0011s below T.
-abbrev pub question8 : List ℕ → List ℕ → Question
+abbrev pub question8 : Machine → Places → Question
 question8 m places = record { number = 8; yes = leb (inMode m writeData) (length places) }

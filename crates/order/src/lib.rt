@@ -5,6 +5,7 @@ ghost use mathlib.Core.List.{[], _∷_};
 ghost use Prim.Native.Nat.{_≤_};
 ghost use lib.Dec.{eqb};
 ghost use lib.ListN.{length};
+ghost use Rattle.layout.specs.Layout.{generators};
 ghost use Rattle.layout.specs.Machine.{Reaches, ticksOf};
 ghost use Rattle.questions.specs.Questions.{asked};
 ghost use Rattle.modes.specs.Modes.{readData, writeData};
@@ -18,8 +19,8 @@ pub struct Counts {
 }
 
 // Marks a number; whether it is below t and had no mark.
-fn mark(marks: &mut [u8; 256], t: usize, entry: u32) -> bool
-    requires { ⌜ t ≤ 256 ⌝ }
+fn mark(marks: &mut [u8; layout::GENERATORS], t: usize, entry: u32) -> bool
+    requires { ⌜ t ≤ generators ⌝ }
     ensures { λ r. ⌜ r ≡ unmarked t (now (marks .entry)) entry ⌝ }
     ensures { λ _. ⌜ now (marks .exit) ≡ marked t (now (marks .entry)) entry ⌝ }
 {
@@ -36,7 +37,7 @@ fn mark(marks: &mut [u8; 256], t: usize, entry: u32) -> bool
 
 // Question 6: each number below t is there once.
 pub fn each_once(order: &[u32], t: usize) -> bool
-    requires { ⌜ (t ≤ 256) × (length (now order) ≡ t) ⌝ }
+    requires { ⌜ (t ≤ generators) × (length (now order) ≡ t) ⌝ }
     ensures { λ r. ⌜ r ≡ eachOnce t (now (order .entry)) ⌝ }
 {
     let mut marks = [0u8; layout::GENERATORS];
@@ -52,7 +53,7 @@ pub fn each_once(order: &[u32], t: usize) -> bool
 
 // The number of the first of questions 5 and 6 that is answered no, or 0.
 pub fn order_refusal(order: &[u32], t: usize) -> u32
-    requires { ⌜ t ≤ 256 ⌝ }
+    requires { ⌜ t ≤ generators ⌝ }
     ensures { λ r. ⌜ r ≡ asked (question5 t (now (order .entry)) ∷ question6 t (now (order .entry)) ∷ []) ⌝ }
 {
     if order.len() != t {
@@ -73,7 +74,7 @@ fn is_mode(run: u32, mode: u32) -> usize
 
 // How many generators below T are in 0111, and how many in 0011.
 pub fn in_modes(m: &[u32]) -> Counts
-    requires { ⌜ Reaches (now m) × (ticksOf (now m) ≤ 256) ⌝ }
+    requires { ⌜ Reaches (now m) × (ticksOf (now m) ≤ generators) ⌝ }
     ensures { λ r. ⌜ (r .reads ≡ inMode (now (m .entry)) readData) × (r .writes ≡ inMode (now (m .entry)) writeData) ⌝ }
 {
     let t = layout::ticks(m);

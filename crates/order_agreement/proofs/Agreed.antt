@@ -10,25 +10,16 @@ use borrow.Author.Tests.{eqb-true, eq-eqb, leb-true, le-leb}
 use lib.Dec.{leb}
 use lib.ListN.{length, getD, length-map}
 use lib.Seq.{ext-getD}
-use Rattle.lists.proofs.Below.{and-first, and-second, and-both, below-at, below-from}
+use Rattle.lists.proofs.Below.{beq-true, beq-from, and-first, and-second, and-both, below-at, below-from}
 use Rattle.order_lists.specs.Sequences.{keep, lastOf, before}
 use Rattle.order_lists.proofs.Failing.{failing-nowhere, nowhere-failing}
 use Rattle.order_lists.proofs.Entries.{last-passes}
 use Rattle.order_lists.proofs.Orders.{some-from, last-below, length-keep}
 use Rattle.order_agreement.specs.Agreement.{Settings, replacesWord, lastReplacing, SameWord, Agreeing}
-use Rattle.order_agreement.specs.Points.{same, neighbourSame, feederSame, writerSame, wordSame, writersOf, neighbourPoint, feederPoint, writerPoint, wordPoint, agrees}
+use Rattle.order_agreement.specs.Points.{neighbourSame, feederSame, writerSame, wordSame, writersOf, neighbourPoint, feederPoint, writerPoint, wordPoint, agrees}
+use Rattle.layout.specs.Layout.{dacs, quadrantWords}
+use Rattle.layout.specs.Machine.{Order}
 use Rattle.order.specs.Order.{IsOrder}
-
--- Truth values that are the same are equal, and the other way.
-pub same-equal : (a b : Bool) → same a b ≡ true → a ≡ b
-same-equal true b e = sym e
-same-equal false true e = e
-same-equal false false e = refl
-
-pub equal-same : (a b : Bool) → a ≡ b → same a b ≡ true
-equal-same true b e = sym e
-equal-same false true e = e
-equal-same false false e = refl
 
 -- Both tests pass where their conjunction does.
 and-parts : (a b : Bool) → (a && b) ≡ true → (a ≡ true) × (b ≡ true)
@@ -43,12 +34,12 @@ pub on-condition : (c p : Bool) → (c ≡ true → p ≡ true) → cond c p tru
 on-condition true p f = f refl
 on-condition false p f = refl
 
-module _ (s : Settings) (o₁ o₂ : List ℕ) (is₁ : IsOrder (s .ticks) o₁) (is₂ : IsOrder (s .ticks) o₂) where
+module _ (s : Settings) (o₁ o₂ : Order) (is₁ : IsOrder (s .ticks) o₁) (is₂ : IsOrder (s .ticks) o₂) where
   -- What is sent.
-  abbrev sources : List ℕ → List ℕ
+  abbrev sources : Order → List ℕ
   sources o = map (s .source) (keep (s .writes) o)
 
-  sources-length : (o : List ℕ) → IsOrder (s .ticks) o → length (sources o) ≡ writersOf s o₁ o₂
+  sources-length : (o : Order) → IsOrder (s .ticks) o → length (sources o) ≡ writersOf s o₁ o₂
   sources-length o is = length-map (keep (s .writes) o) (s .source) ∙ length-keep (s .ticks) o (is .once) (is .below) (s .writes)
 
   -- The first point, at each generator that waits and at each lower neighbour.
@@ -56,7 +47,7 @@ module _ (s : Settings) (o₁ o₂ : List ℕ) (is₁ : IsOrder (s .ticks) o₁)
       → (g : ℕ) → s .distance + g < s .ticks → s .waits (s .distance + g) ≡ true → s .triggering g ≡ true
       → before g (s .distance + g) o₁ ≡ before g (s .distance + g) o₂
   neighbours-from f g h w t =
-      same-equal _ _ (condition-met _ _ (rw back at (f k h)) (and-both _ _ (and-both _ _ (le-leb (s .distance) k (omega arith)) w) t))
+      beq-true _ _ (condition-met _ _ (rw back at (f k h)) (and-both _ _ (and-both _ _ (le-leb (s .distance) k (omega arith)) w) t))
     where
       k : ℕ
       k = s .distance + g
@@ -65,7 +56,7 @@ module _ (s : Settings) (o₁ o₂ : List ℕ) (is₁ : IsOrder (s .ticks) o₁)
       back = omega arith
 
   neighbours-to : Agreeing s o₁ o₂ → (g : ℕ) → g < s .ticks → neighbourSame s o₁ o₂ g ≡ true
-  neighbours-to ag g h = on-condition _ _ (λ e. equal-same _ _ (at e))
+  neighbours-to ag g h = on-condition _ _ (λ e. beq-from _ _ (at e))
     where
       k : ℕ
       k = g - s .distance
@@ -78,13 +69,13 @@ module _ (s : Settings) (o₁ o₂ : List ℕ) (is₁ : IsOrder (s .ticks) o₁)
           rw back at (ag .neighbours k (omega arith) (rw back (r .1)) (q .1))
 
   -- The second, at each DAC.
-  feeders-from : ((d : ℕ) → d < 16 → feederSame s o₁ o₂ d ≡ true)
-      → (d g : ℕ) → d < 16 → g < s .ticks → s .feeds d g ≡ true
+  feeders-from : ((d : ℕ) → d < dacs → feederSame s o₁ o₂ d ≡ true)
+      → (d g : ℕ) → d < dacs → g < s .ticks → s .feeds d g ≡ true
       → s .source (lastOf (s .feeds d) o₁) ≡ s .source (lastOf (s .feeds d) o₂)
   feeders-from f d g l h e =
       eqb-true _ _ (condition-met _ _ (f d l) (some-from (s .ticks) o₁ (is₁ .once) (is₁ .below) (s .feeds d) g h e))
 
-  feeders-to : Agreeing s o₁ o₂ → (d : ℕ) → d < 16 → feederSame s o₁ o₂ d ≡ true
+  feeders-to : Agreeing s o₁ o₂ → (d : ℕ) → d < dacs → feederSame s o₁ o₂ d ≡ true
   feeders-to ag d l =
       on-condition _ _
       (λ e. eq-eqb _ _
@@ -100,8 +91,8 @@ module _ (s : Settings) (o₁ o₂ : List ℕ) (is₁ : IsOrder (s .ticks) o₁)
   writers-to ag i h = eq-eqb _ _ (ap (λ (l : List ℕ). getD l i 0) (ag .writers))
 
   -- The fourth, at each sum word.
-  words-from : ((w : ℕ) → w < 64 → wordSame s o₁ o₂ w ≡ true)
-      → (w g : ℕ) → w < 64 → g < s .ticks → replacesWord s w g ≡ true → SameWord s w o₁ o₂
+  words-from : ((w : ℕ) → w < quadrantWords → wordSame s o₁ o₂ w ≡ true)
+      → (w g : ℕ) → w < quadrantWords → g < s .ticks → replacesWord s w g ≡ true → SameWord s w o₁ o₂
   words-from f w g l h e =
       let all = condition-met _ _ (f w l) (some-from (s .ticks) o₁ (is₁ .once) (is₁ .below) (replacesWord s w) g h e) in
       let q = and-parts _ _ all in
@@ -109,24 +100,24 @@ module _ (s : Settings) (o₁ o₂ : List ℕ) (is₁ : IsOrder (s .ticks) o₁)
       record {
         last = eqb-true _ _ (r .0);
         place = eqb-true _ _ (r .1);
-        adders = λ k n a. same-equal _ _ (condition-met _ _ (below-at _ (s .ticks) (q .1) k n) a);
+        adders = λ k n a. beq-true _ _ (condition-met _ _ (below-at _ (s .ticks) (q .1) k n) a);
       }
 
-  words-to : Agreeing s o₁ o₂ → (w : ℕ) → w < 64 → wordSame s o₁ o₂ w ≡ true
+  words-to : Agreeing s o₁ o₂ → (w : ℕ) → w < quadrantWords → wordSame s o₁ o₂ w ≡ true
   words-to ag w l =
       on-condition _ _
       (λ e.
       let q : SameWord s w o₁ o₂
       = ag .words w (lastReplacing s w o₁) l (last-below (s .ticks) o₁ (is₁ .once) (is₁ .below) (replacesWord s w) e) (last-passes (replacesWord s w) o₁ e) in
       and-both _ _ (and-both _ _ (eq-eqb _ _ (q .last)) (eq-eqb _ _ (q .place)))
-      (below-from _ (s .ticks) (λ g h. on-condition _ _ (λ a. equal-same _ _ (q .adders g h a)))))
+      (below-from _ (s .ticks) (λ g h. on-condition _ _ (λ a. beq-from _ _ (q .adders g h a)))))
 
   -- No point fails.
   pub record NoneFails : Type 0 where
     pub neighbours : (g : ℕ) → g < s .ticks → neighbourSame s o₁ o₂ g ≡ true
-    pub feeders : (d : ℕ) → d < 16 → feederSame s o₁ o₂ d ≡ true
+    pub feeders : (d : ℕ) → d < dacs → feederSame s o₁ o₂ d ≡ true
     pub writers : (i : ℕ) → i < writersOf s o₁ o₂ → writerSame s o₁ o₂ i ≡ true
-    pub words : (w : ℕ) → w < 64 → wordSame s o₁ o₂ w ≡ true
+    pub words : (w : ℕ) → w < quadrantWords → wordSame s o₁ o₂ w ≡ true
 
   none-fails : agrees s o₁ o₂ ≡ true → NoneFails
   unfolding agrees neighbourPoint feederPoint writerPoint wordPoint
@@ -136,9 +127,9 @@ module _ (s : Settings) (o₁ o₂ : List ℕ) (is₁ : IsOrder (s .ticks) o₁)
       let p = and-parts _ _ (r .0) in
       record {
         neighbours = failing-nowhere _ (s .ticks) (eqb-true _ (s .ticks) (p .0));
-        feeders = failing-nowhere _ 16 (eqb-true _ 16 (p .1));
+        feeders = failing-nowhere _ dacs (eqb-true _ dacs (p .1));
         writers = failing-nowhere _ (writersOf s o₁ o₂) (eqb-true _ (writersOf s o₁ o₂) (r .1));
-        words = failing-nowhere _ 64 (eqb-true _ 64 (q .1));
+        words = failing-nowhere _ quadrantWords (eqb-true _ quadrantWords (q .1));
       }
 
   fails-none : NoneFails → agrees s o₁ o₂ ≡ true
@@ -146,9 +137,9 @@ module _ (s : Settings) (o₁ o₂ : List ℕ) (is₁ : IsOrder (s .ticks) o₁)
   fails-none q =
       and-both _ _
       (and-both _ _
-      (and-both _ _ (eq-eqb _ (s .ticks) (nowhere-failing _ (s .ticks) (q .neighbours))) (eq-eqb _ 16 (nowhere-failing _ 16 (q .feeders))))
+      (and-both _ _ (eq-eqb _ (s .ticks) (nowhere-failing _ (s .ticks) (q .neighbours))) (eq-eqb _ dacs (nowhere-failing _ dacs (q .feeders))))
       (eq-eqb _ (writersOf s o₁ o₂) (nowhere-failing _ (writersOf s o₁ o₂) (q .writers))))
-      (eq-eqb _ 64 (nowhere-failing _ 64 (q .words)))
+      (eq-eqb _ quadrantWords (nowhere-failing _ quadrantWords (q .words)))
 
   pub from-points : agrees s o₁ o₂ ≡ true → Agreeing s o₁ o₂
   from-points e =
@@ -164,5 +155,5 @@ module _ (s : Settings) (o₁ o₂ : List ℕ) (is₁ : IsOrder (s .ticks) o₁)
   to-points ag =
       fails-none (record { neighbours = neighbours-to ag; feeders = feeders-to ag; writers = writers-to ag; words = words-to ag })
 
-pub points-agree : (s : Settings) (o₁ o₂ : List ℕ) → IsOrder (s .ticks) o₁ → IsOrder (s .ticks) o₂ → (agrees s o₁ o₂ ≡ true) ↔ Agreeing s o₁ o₂
+pub points-agree : (s : Settings) (o₁ o₂ : Order) → IsOrder (s .ticks) o₁ → IsOrder (s .ticks) o₂ → (agrees s o₁ o₂ ≡ true) ↔ Agreeing s o₁ o₂
 points-agree s o₁ o₂ is₁ is₂ = (from-points s o₁ o₂ is₁ is₂, to-points s o₁ o₂ is₁ is₂)

@@ -1,3 +1,1 @@
 pub mod Agreed
-pub mod Alike
-pub mod Compared

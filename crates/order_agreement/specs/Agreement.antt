@@ -2,11 +2,12 @@
 -- Assumes nothing.
 use Prim.Native.Nat.{ℕ, _+_, _<_}
 use mathlib.Core.Bool.{Bool, true, _&&_}
-use mathlib.Core.List.{List, map}
+use mathlib.Core.List.{map}
 use mathlib.Core.Path.{_≡_}
 use lib.Dec.{eqb}
 use Rattle.modes.specs.Modes.{wait, writeData, writeDAC, free, adds, replaces}
-use Rattle.layout.specs.Machine.{ticksOf, runModeAt, gsumAt, gfmAt, dacNumberAt}
+use Rattle.layout.specs.Layout.{dacs, quadrantWords}
+use Rattle.layout.specs.Machine.{Machine, Order, ticksOf, runModeAt, gsumAt, gfmAt, dacNumberAt}
 use Rattle.order_lists.specs.Sequences.{keep, lastOf, placeOf, before}
 
 -- What the four points look at: how many generators there are, how far below its lower neighbour stands, and of each generator
@@ -26,7 +27,7 @@ pub record Settings : Type 0 where
 
 -- A machine's: the lower neighbour of g is g-1; 1001 waits; 1110 and 1101 can trigger; a DAC is fed by the 0010 generators with its number;
 -- 0011 writes data; GFM tells apart what is sent; a word's generators are those with its GSUM; 0111 replaces; adding ones are those whose run mode has adding on.
-abbrev pub settingsOf : List ℕ → Settings
+abbrev pub settingsOf : Machine → Settings
 settingsOf m =
     record {
       ticks = ticksOf m;
@@ -50,35 +51,35 @@ module _ (s : Settings) where
   addsToWord w g = s .onWord w g && s .adding g
 
   -- The last 0111 of a word in an order, and its place among all 0111s.
-  abbrev pub lastReplacing : ℕ → List ℕ → ℕ
+  abbrev pub lastReplacing : ℕ → Order → ℕ
   lastReplacing w order = lastOf (replacesWord w) order
 
-  abbrev pub placeReplacing : ℕ → List ℕ → ℕ
+  abbrev pub placeReplacing : ℕ → Order → ℕ
   placeReplacing w order = placeOf (lastReplacing w order) (keep (s .replacing) order)
 
   -- Whether g stands after the last 0111 of a word.
-  abbrev pub afterReplacing : ℕ → ℕ → List ℕ → Bool
+  abbrev pub afterReplacing : ℕ → ℕ → Order → Bool
   afterReplacing w g order = before (lastReplacing w order) g order
 
   -- A word with a 0111 has the same last one, at the same place among all 0111s, and the same set of adding generators on that word after it.
-  pub record SameWord (w : ℕ) (o₁ o₂ : List ℕ) : Type 0 where
+  pub record SameWord (w : ℕ) (o₁ o₂ : Order) : Type 0 where
     pub last : lastReplacing w o₁ ≡ lastReplacing w o₂
     pub place : placeReplacing w o₁ ≡ placeReplacing w o₂
     pub adders : (g : ℕ) → g < s .ticks → addsToWord w g ≡ true → afterReplacing w g o₁ ≡ afterReplacing w g o₂
 
   -- Two orders agree: the four points.
-  pub record Agreeing (o₁ o₂ : List ℕ) : Type 0 where
+  pub record Agreeing (o₁ o₂ : Order) : Type 0 where
     -- Each generator that waits and whose lower neighbour can trigger stands on the same side of it in both.
     pub neighbours : (g : ℕ) → s .distance + g < s .ticks → s .waits (s .distance + g) ≡ true → s .triggering g ≡ true
         → before g (s .distance + g) o₁ ≡ before g (s .distance + g) o₂
     -- Each fed DAC is fed last through the same source.
-    pub feeders : (d g : ℕ) → d < 16 → g < s .ticks → s .feeds d g ≡ true
+    pub feeders : (d g : ℕ) → d < dacs → g < s .ticks → s .feeds d g ≡ true
         → s .source (lastOf (s .feeds d) o₁) ≡ s .source (lastOf (s .feeds d) o₂)
     -- The writing generators, in order, give the same list of sources.
     pub writers : map (s .source) (keep (s .writes) o₁) ≡ map (s .source) (keep (s .writes) o₂)
     -- Each word with a 0111 is the same.
-    pub words : (w g : ℕ) → w < 64 → g < s .ticks → replacesWord w g ≡ true → SameWord w o₁ o₂
+    pub words : (w g : ℕ) → w < quadrantWords → g < s .ticks → replacesWord w g ≡ true → SameWord w o₁ o₂
 
 -- Two orders of a machine's generators agree on the four points.
-abbrev pub Agree : List ℕ → List ℕ → List ℕ → Type 0
+abbrev pub Agree : Machine → Order → Order → Type 0
 Agree m o₁ o₂ = Agreeing (settingsOf m) o₁ o₂

@@ -2,26 +2,19 @@
 -- Assumes nothing.
 use mathlib.Core.Path.{_≡_, refl, sym, ap, _∙_}
 use mathlib.Core.Logic.{_≢_}
-use mathlib.Core.Bool.{Bool, true, false, cond, _||_, or-assoc, or-true, true≢false, false≢true}
+use mathlib.Core.Bool.{Bool, true, false, cond, _||_, true≢false, false≢true}
 use mathlib.Core.List.{List, [], _∷_, _++_}
 use Prim.Native.Nat.{ℕ, zero, suc, _+_, _≤_, _<_}
 use native.Mathlib.Omega.{arith}
 use native.Mathlib.Nat.{not-suc-le-zero, le-of-suc-le-suc}
-use borrow.Author.Tests.{eqb-true, eq-eqb, ne-eqb}
+use borrow.Author.Tests.{eqb-true, eq-eqb}
 use lib.Dec.{eqb}
 use lib.ListN.{length, getD}
 use Rattle.lists.specs.Lists.{count}
+use Rattle.lists.proofs.Counts.{count-first}
 use Rattle.order_lists.specs.Sequences.{keep, some, lastOf}
 
--- A number counts once more where it is the first entry.
-pub count-first : (g : ℕ) (xs : List ℕ) → count g (g ∷ xs) ≡ suc (count g xs)
-unfolding count
-count-first g xs = rw (eq-eqb g g refl) (omega arith)
-
-pub count-next : (g x : ℕ) (xs : List ℕ) → x ≢ g → count g (x ∷ xs) ≡ count g xs
-unfolding count
-count-next g x xs n = rw (ne-eqb x g n) (omega arith)
-
+-- A number counts as often in two lists joined as in both.
 pub count-append : (g : ℕ) (xs ys : List ℕ) → count g (xs ++ ys) ≡ count g xs + count g ys
 unfolding count
 count-append g [] ys = omega arith
@@ -30,9 +23,6 @@ count-append g (x ∷ xs) ys = omega (arith, count-append g xs ys)
 -- A list that is cut at x, which stands there once.
 pub none-in-front : (a : List ℕ) (x : ℕ) (b : List ℕ) → count x (a ++ (x ∷ b)) ≤ 1 → count x a ≡ 0
 none-in-front a x b once = omega (arith, count-append x a (x ∷ b), count-first x b)
-
-pub none-behind : (a : List ℕ) (x : ℕ) (b : List ℕ) → count x (a ++ (x ∷ b)) ≤ 1 → count x b ≡ 0
-none-behind a x b once = omega (arith, count-append x a (x ∷ b), count-first x b)
 
 -- An entry of a list is there.
 pub count-entry : (xs : List ℕ) (i : ℕ) → i < length xs → 1 ≤ count (getD xs i 0) xs
@@ -57,27 +47,11 @@ keep-append p (x ∷ xs) ys = go (p x) (keep-append p xs ys)
     go true ih = ap (λ (l : List ℕ). x ∷ l) ih
     go false ih = ih
 
-pub some-append : (p : ℕ → Bool) (xs ys : List ℕ) → some p (xs ++ ys) ≡ (some p xs || some p ys)
-unfolding some
-some-append p [] ys = refl
-some-append p (x ∷ xs) ys = ap (λ (b : Bool). p x || b) (some-append p xs ys) ∙ sym (or-assoc (p x) (some p xs) (some p ys))
-
 -- Two tests that are equal at each entry.
 pub keep-same : (p q : ℕ → Bool) (xs : List ℕ) → ((i : ℕ) → i < length xs → p (getD xs i 0) ≡ q (getD xs i 0)) → keep p xs ≡ keep q xs
 unfolding keep
 keep-same p q [] h = refl
 keep-same p q (x ∷ xs) h = rw (h 0 (omega arith), keep-same p q xs (λ i l. h (suc i) (omega arith)))
-
-pub some-same : (p q : ℕ → Bool) (xs : List ℕ) → ((i : ℕ) → i < length xs → p (getD xs i 0) ≡ q (getD xs i 0)) → some p xs ≡ some q xs
-unfolding some
-some-same p q [] h = refl
-some-same p q (x ∷ xs) h = rw (h 0 (omega arith), some-same p q xs (λ i l. h (suc i) (omega arith)))
-
-pub last-same : (p q : ℕ → Bool) (xs : List ℕ) → ((i : ℕ) → i < length xs → p (getD xs i 0) ≡ q (getD xs i 0)) → lastOf p xs ≡ lastOf q xs
-unfolding lastOf
-last-same p q [] h = refl
-last-same p q (x ∷ xs) h =
-    rw (h 0 (omega arith), some-same p q xs (λ i l. h (suc i) (omega arith)), last-same p q xs (λ i l. h (suc i) (omega arith)))
 
 -- Each number that passes is kept as often as it is there, and no other.
 pub keep-count : (p : ℕ → Bool) (g : ℕ) (xs : List ℕ) → count g (keep p xs) ≡ cond (p g) (count g xs) 0
@@ -102,15 +76,6 @@ keep-count p g (x ∷ xs) = go (p x) (p g) (eqb x g) refl refl refl (keep-count 
     go false false c e f q ih = ih
 
 -- Where no entry passes.
-pub none-kept : (p : ℕ → Bool) (xs : List ℕ) → some p xs ≡ false → keep p xs ≡ []
-unfolding keep some
-none-kept p [] e = refl
-none-kept p (x ∷ xs) e = go (p x) e (none-kept p xs)
-  where
-    go : (b : Bool) → (b || some p xs) ≡ false → (some p xs ≡ false → keep p xs ≡ []) → cond b (x ∷ keep p xs) (keep p xs) ≡ []
-    go true n ih = absurd (true≢false n)
-    go false n ih = ih n
-
 pub some-first : (p : ℕ → Bool) (x : ℕ) (xs : List ℕ) → some p (x ∷ xs) ≡ false → (p x ≡ false) × (some p xs ≡ false)
 unfolding some
 some-first p x xs e = go (p x) e
@@ -181,7 +146,3 @@ cut-at-last p (x ∷ xs) e = go (some p xs) refl (p x) refl e (cut-at-last p xs)
     go false q false r l ih = absurd (true≢false (sym l))
 
 -- The last one that passes of a list that is cut at one that passes, with none behind it.
-pub last-cut : (p : ℕ → Bool) (a : List ℕ) (x : ℕ) (b : List ℕ) → p x ≡ true → some p b ≡ false → lastOf p (a ++ (x ∷ b)) ≡ x
-unfolding some lastOf
-last-cut p [] x b e n = rw (n, e)
-last-cut p (y ∷ a) x b e n = rw (some-append p a (x ∷ b), e, or-true (some p a)) (last-cut p a x b e n)

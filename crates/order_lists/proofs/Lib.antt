@@ -4,3 +4,4 @@ pub mod Orders
 pub mod Mapped
 pub mod Failing
 pub mod Loops
+pub mod Totals

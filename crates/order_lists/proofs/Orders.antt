@@ -10,8 +10,9 @@ use borrow.Author.Tests.{eqb-true, eqb-false}
 use lib.Dec.{eqb}
 use lib.ListN.{length, getD}
 use Rattle.lists.specs.Lists.{count, countBelow}
+use Rattle.lists.proofs.Counts.{count-first, count-next}
 use Rattle.order_lists.specs.Sequences.{keep, some, lastOf}
-use Rattle.order_lists.proofs.Entries.{count-first, count-next, keep-same, some-same, last-same, some-entry, none-entry, last-passes, last-entry}
+use Rattle.order_lists.proofs.Entries.{count-entry, keep-count, keep-same, some-entry, none-entry, last-passes, last-entry}
 use Rattle.order_lists.proofs.Places.{there-within}
 
 -- How many of the numbers below n that pass a test stand in a list, each as often as it stands there.
@@ -99,11 +100,15 @@ module _ (t : ℕ) (order : List ℕ) (once : (k : ℕ) → k < t → count k or
   pub keep-order-same : (p q : ℕ → Bool) → ((k : ℕ) → k < t → p k ≡ q k) → keep p order ≡ keep q order
   keep-order-same p q f = keep-same p q order (λ i l. f (getD order i 0) (below i l))
 
-  pub some-order-same : (p q : ℕ → Bool) → ((k : ℕ) → k < t → p k ≡ q k) → some p order ≡ some q order
-  some-order-same p q f = some-same p q order (λ i l. f (getD order i 0) (below i l))
-
-  pub last-order-same : (p q : ℕ → Bool) → ((k : ℕ) → k < t → p k ≡ q k) → lastOf p order ≡ lastOf q order
-  last-order-same p q f = last-same p q order (λ i l. f (getD order i 0) (below i l))
+  -- What is kept is below t.
+  pub keep-below : (p : ℕ → Bool) (i : ℕ) → i < length (keep p order) → getD (keep p order) i 0 < t
+  keep-below p i h =
+      let x = getD (keep p order) i 0 in
+      there-below x (there (p x) (count x order) (rw (keep-count p x order) at (count-entry (keep p order) i h)))
+    where
+      there : (b : Bool) (n : ℕ) → 1 ≤ cond b n 0 → 1 ≤ n
+      there true n l = l
+      there false n l = absurd (not-suc-le-zero l)
 
   -- As many are kept as pass below t.
   pub length-keep : (p : ℕ → Bool) → length (keep p order) ≡ countBelow p t

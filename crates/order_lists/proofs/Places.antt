@@ -2,17 +2,18 @@
 -- Assumes nothing.
 use mathlib.Core.Path.{_≡_, refl, ap, _∙_}
 use mathlib.Core.Logic.{_≢_}
-use mathlib.Core.Bool.{Bool, true, false, cond, not}
+use mathlib.Core.Bool.{Bool, true, false, cond}
 use mathlib.Core.List.{List, [], _∷_, _++_}
 use Prim.Native.Nat.{ℕ, zero, suc, _+_, _≤_, _<_}
 use native.Mathlib.Omega.{arith}
 use native.Mathlib.Nat.{not-suc-le-zero, le-of-suc-le-suc, add-zero}
-use borrow.Author.Tests.{eqb-true, eqb-false, eq-eqb, ne-eqb, ltb-true, ltb-false, lt-ltb, le-ltb}
+use borrow.Author.Tests.{eqb-true, eqb-false, eq-eqb, ne-eqb, lt-ltb, le-ltb}
 use lib.Dec.{eqb}
 use lib.ListN.{length, getD}
 use Rattle.lists.specs.Lists.{count}
+use Rattle.lists.proofs.Counts.{count-first, count-next}
 use Rattle.order_lists.specs.Sequences.{keep, placeOf, before}
-use Rattle.order_lists.proofs.Entries.{count-first, count-next, count-append, count-entry, keep-first, keep-append, keep-count}
+use Rattle.order_lists.proofs.Entries.{count-append, count-entry, keep-first, keep-append, keep-count}
 
 -- A number stands inside a list where it is there, and its place holds it; one that is not there has the place past the end.
 pub place-inside : (g : ℕ) (xs : List ℕ) → 1 ≤ count g xs → placeOf g xs < length xs
@@ -32,15 +33,6 @@ place-absent g (x ∷ xs) h = go (eqb x g) h (place-absent g xs)
     go : (b : Bool) → cond b 1 0 + count g xs ≡ 0 → (count g xs ≡ 0 → placeOf g xs ≡ length xs) → cond b 0 (suc (placeOf g xs)) ≡ suc (length xs)
     go true l ih = absurd (omega arith)
     go false l ih = omega (arith, ih (omega arith))
-
-pub place-most : (g : ℕ) (xs : List ℕ) → placeOf g xs ≤ length xs
-unfolding placeOf
-place-most g [] = omega arith
-place-most g (x ∷ xs) = go (eqb x g) (place-most g xs)
-  where
-    go : (b : Bool) → placeOf g xs ≤ length xs → cond b 0 (suc (placeOf g xs)) ≤ suc (length xs)
-    go true ih = omega arith
-    go false ih = omega arith
 
 pub place-holds : (g : ℕ) (xs : List ℕ) → 1 ≤ count g xs → getD xs (placeOf g xs) 0 ≡ g
 unfolding placeOf count
@@ -102,17 +94,9 @@ pub before-from : (g h : ℕ) (xs : List ℕ) → placeOf g xs < placeOf h xs �
 unfolding before
 before-from g h xs l = lt-ltb (placeOf g xs) (placeOf h xs) l
 
-pub before-places : (g h : ℕ) (xs : List ℕ) → before g h xs ≡ true → placeOf g xs < placeOf h xs
-unfolding before
-before-places g h xs e = ltb-true (placeOf g xs) (placeOf h xs) e
-
 pub not-before-from : (g h : ℕ) (xs : List ℕ) → placeOf h xs ≤ placeOf g xs → before g h xs ≡ false
 unfolding before
 not-before-from g h xs l = le-ltb (placeOf g xs) (placeOf h xs) l
-
-pub not-before-places : (g h : ℕ) (xs : List ℕ) → before g h xs ≡ false → placeOf h xs ≤ placeOf g xs
-unfolding before
-not-before-places g h xs e = ltb-false (placeOf g xs) (placeOf h xs) e
 
 pub before-itself : (g : ℕ) (xs : List ℕ) → before g g xs ≡ false
 before-itself g xs = not-before-from g g xs (omega arith)

@@ -1,6 +1,6 @@
 -- Entries of a list, by a test and by their place, and the lowest number at which a test fails.
 -- Assumes nothing.
-use Prim.Native.Nat.{ℕ, zero, suc}
+use Prim.Native.Nat.{ℕ, zero, suc, _+_}
 use mathlib.Core.Bool.{Bool, false, cond, _||_}
 use mathlib.Core.List.{List, [], _∷_}
 use lib.Dec.{eqb, ltb}
@@ -37,3 +37,8 @@ before g h xs = ltb (placeOf g xs) (placeOf h xs)
 unfoldable pub firstFailing : (ℕ → Bool) → ℕ → ℕ
 firstFailing p zero = zero
 firstFailing p (suc n) = cond (ltb (firstFailing p n) n) (firstFailing p n) (cond (p n) (suc n) n)
+
+-- The sum of f at the entries of a list.
+unfoldable pub total : (ℕ → ℕ) → List ℕ → ℕ
+total f [] = 0
+total f (x ∷ xs) = f x + total f xs

@@ -1,22 +1,26 @@
--- The second and the third point by what is held of the orders are these points.
+-- The second and the third point by what two traces hold are these points, as the traces hold the GFMs that the points compare.
 -- Assumes nothing.
 use mathlib.Core.Path.{_≡_, refl, ap, _∙_}
 use mathlib.Core.Bool.{Bool, true, false, cond}
 use mathlib.Core.List.{List}
-use Prim.Native.Nat.{ℕ}
+use Prim.Native.Nat.{ℕ, _≤_}
+use native.Mathlib.Omega.{arith}
 use lib.Dec.{eqb}
+use Rattle.lists.proofs.Counts.{count-below-le}
+use Rattle.layout.specs.Layout.{generators, dacs}
+use Rattle.layout.specs.Machine.{Machine, Order, ticksOf}
 use Rattle.order_lists.specs.Sequences.{some, lastOf, firstFailing, latest}
 use Rattle.order_lists.proofs.Orders.{some-orders}
 use Rattle.order_lists.proofs.Loops.{failing-same}
 use Rattle.order.specs.Order.{IsOrder}
 use Rattle.order_agreement.specs.Agreement.{settingsOf}
 use Rattle.order_agreement.specs.Points.{feederSame, feederPoint, writerSame, writerPoint}
-use Rattle.order_traces.specs.Traces.{Fed, Written}
+use Rattle.order_traces.specs.Traces.{Traceable, traceOf}
+use Rattle.order_traces.proofs.Holds.{trace-holds}
 use Rattle.order_points.specs.Loops.{sameAt}
-use Rattle.layout.specs.Machine.{ticksOf}
 
 -- What two orders hold of their last entries that pass.
-pub latest-same : (t : ℕ) (o₁ o₂ : List ℕ) → IsOrder t o₁ × IsOrder t o₂ → (p : ℕ → Bool) (f : ℕ → ℕ)
+latest-same : (t : ℕ) (o₁ o₂ : Order) → IsOrder t o₁ × IsOrder t o₂ → (p : ℕ → Bool) (f : ℕ → ℕ)
     → eqb (latest p f o₁ 0) (latest p f o₂ 0) ≡ cond (some p o₁) (eqb (f (lastOf p o₁)) (f (lastOf p o₂))) true
 unfolding latest
 latest-same t o₁ o₂ (a, b) p f =
@@ -26,17 +30,29 @@ latest-same t o₁ o₂ (a, b) p f =
     go true = refl
     go false = refl
 
-module _ (m o₁ o₂ held₁ held₂ : List ℕ) where
-  pub feeders-held : IsOrder (ticksOf m) o₁ × IsOrder (ticksOf m) o₂ → Fed m o₁ held₁ × Fed m o₂ held₂
-      → firstFailing (sameAt held₁ held₂) 16 ≡ feederPoint (settingsOf m) o₁ o₂
+module _ (m : Machine) (o₁ o₂ : Order) (ready : Traceable m) (ordered : IsOrder (ticksOf m) o₁ × IsOrder (ticksOf m) o₂) where
+  pub feeders-held : {held₁ held₂ : List ℕ} → (held₁ ≡ traceOf m o₁ .fed) × (held₂ ≡ traceOf m o₂ .fed)
+      → firstFailing (sameAt held₁ held₂) dacs ≡ feederPoint (settingsOf m) o₁ o₂
   unfolding feederPoint sameAt
-  feeders-held ordered (a, b) =
-      failing-same (sameAt held₁ held₂) (feederSame (settingsOf m) o₁ o₂) 16
-      (λ d h. rw (a .feeder d h, b .feeder d h) (latest-same (ticksOf m) o₁ o₂ ordered (settingsOf m .feeds d) (settingsOf m .source)))
+  feeders-held (e₁, e₂) =
+      rw (e₁, e₂)
+      (failing-same (sameAt (traceOf m o₁ .fed) (traceOf m o₂ .fed)) (feederSame (settingsOf m) o₁ o₂) dacs
+      (λ d h. rw (trace-holds m o₁ ready (ordered .0) .feeder d h, trace-holds m o₂ ready (ordered .1) .feeder d h)
+      (latest-same (ticksOf m) o₁ o₂ ordered (settingsOf m .feeds d) (settingsOf m .source))))
 
-  pub writers-held : (n : ℕ) → Written m o₁ held₁ n × Written m o₂ held₂ n
-      → firstFailing (sameAt held₁ held₂) n ≡ writerPoint (settingsOf m) o₁ o₂
+  -- Both orders have as many writers, which are at most as many as there are generators.
+  same-writers : traceOf m o₁ .counts .writes ≡ traceOf m o₂ .counts .writes
+  same-writers = rw (trace-holds m o₁ ready (ordered .0) .writers, trace-holds m o₂ ready (ordered .1) .writers) refl
+
+  pub few-writers : {n : ℕ} → n ≡ traceOf m o₁ .counts .writes → n ≤ generators
+  few-writers e =
+      omega (arith, e, trace-holds m o₁ ready (ordered .0) .writers, count-below-le (settingsOf m .writes) (ticksOf m), ready .ticks)
+
+  pub writers-held : {held₁ held₂ : List ℕ} {n : ℕ} → (held₁ ≡ traceOf m o₁ .written) × (held₂ ≡ traceOf m o₂ .written)
+      → n ≡ traceOf m o₁ .counts .writes → firstFailing (sameAt held₁ held₂) n ≡ writerPoint (settingsOf m) o₁ o₂
   unfolding writerPoint sameAt
-  writers-held n (a, b) =
-      failing-same (sameAt held₁ held₂) (writerSame (settingsOf m) o₁ o₂) n (λ i h. rw (a .source i h, b .source i h))
-      ∙ ap (firstFailing (writerSame (settingsOf m) o₁ o₂)) (a .number)
+  writers-held (e₁, e₂) e =
+      rw (e₁, e₂, e)
+      (failing-same (sameAt (traceOf m o₁ .written) (traceOf m o₂ .written)) (writerSame (settingsOf m) o₁ o₂) (traceOf m o₁ .counts .writes)
+      (λ i h. rw (trace-holds m o₁ ready (ordered .0) .source i h, trace-holds m o₂ ready (ordered .1) .source i (rw same-writers at h)))
+      ∙ ap (firstFailing (writerSame (settingsOf m) o₁ o₂)) (trace-holds m o₁ ready (ordered .0) .writers))

@@ -1,47 +1,59 @@
--- The four points as the code asks them: the tests on the arrays that hold what they need of two orders.
+-- The four points as the code asks them: the tests on the traces of two orders.
 -- Readers need only the points, to which laws join these. Assumes nothing.
-use Prim.Native.Nat.{ℕ, _-_, _<_, _≤_}
-use mathlib.Core.Bool.{Bool, true, cond, _&&_, not}
+use Prim.Native.Nat.{ℕ, zero, suc, _-_, _<_, _≤_}
+use mathlib.Core.Bool.{Bool, true, cond, _&&_, not, Bool·beq}
 use mathlib.Core.List.{List}
-use mathlib.Core.Path.{_≡_}
 use lib.Dec.{eqb, ltb, leb}
-use lib.ListN.{getD}
-use Rattle.lists.specs.Lists.{allBelow}
-use Rattle.layout.specs.Machine.{ticksOf}
+use lib.ListN.{getD, set}
+use Rattle.lists.specs.Lists.{zeros}
+use Rattle.layout.specs.Layout.{generators, quadrantWords}
+use Rattle.layout.specs.Machine.{Machine, Order, gsumAt}
 use Rattle.order_agreement.specs.Agreement.{settingsOf, addsToWord}
-use Rattle.order_agreement.specs.Points.{same}
+use Rattle.order_traces.specs.Traces.{Replaced, traceOf}
 
--- Whether g stands before h by the places held.
+-- The places of the generators in two orders.
+pub record Sides : Type 0 where
+  pub first : List ℕ
+  pub second : List ℕ
+
+abbrev pub sidesOf : Machine → Order → Order → Sides
+sidesOf m o₁ o₂ = record { first = traceOf m o₁ .place; second = traceOf m o₂ .place }
+
+-- Whether g stands before h.
 abbrev pub earlier : List ℕ → ℕ → ℕ → Bool
-earlier at g h = ltb (getD at g 0) (getD at h 0)
+earlier place g h = ltb (getD place g 0) (getD place h 0)
 
--- Whether g and h stand in the same sequence by the places held of two orders.
-abbrev pub sideBy : List ℕ → List ℕ → ℕ → ℕ → Bool
-sideBy at₁ at₂ g h = same (earlier at₁ g h) (earlier at₂ g h)
+-- Whether g and h stand in the same sequence in both orders.
+abbrev pub sideBy : Sides → ℕ → ℕ → Bool
+sideBy s g h = Bool·beq (earlier (s .first) g h) (earlier (s .second) g h)
 
--- The first point at generator g by the places held.
-unfoldable pub neighbourBy : List ℕ → List ℕ → List ℕ → ℕ → Bool
-neighbourBy m at₁ at₂ g =
+-- The first point at generator g.
+unfoldable pub neighbourBy : Machine → Sides → ℕ → Bool
+neighbourBy m sides g =
     let s = settingsOf m in
-    cond (leb (s .distance) g && s .waits g && s .triggering (g - s .distance)) (sideBy at₁ at₂ (g - s .distance) g) true
+    cond (leb (s .distance) g && s .waits g && s .triggering (g - s .distance)) (sideBy sides (g - s .distance) g) true
 
 -- Whether two arrays hold the same number.
 unfoldable pub sameAt : List ℕ → List ℕ → ℕ → Bool
 sameAt held₁ held₂ i = eqb (getD held₁ i 0) (getD held₂ i 0)
 
--- Whether g, if it adds to word w, stands on the same side of the word's last 0111 in both orders, by the places held.
-unfoldable pub adderBy : List ℕ → List ℕ → List ℕ → List ℕ → ℕ → ℕ → Bool
-adderBy m at₁ at₂ last w g =
-    cond (addsToWord (settingsOf m) w g && not (eqb (getD last w 0) 0)) (sideBy at₁ at₂ (getD last w 0 - 1) g) true
-
 -- An array of one more than a generator's number, or 0, for each word.
-pub record Low (last : List ℕ) : Type 0 where
-  pub low : (w : ℕ) → w < 64 → getD last w 0 ≤ 256
+pub record LastsWithin (last : List ℕ) : Type 0 where
+  pub within : (w : ℕ) → w < quadrantWords → getD last w 0 ≤ generators
 
--- An array that has 0 at the words of which all adding generators stand on the same side.
-pub record Marked (m at₁ at₂ last marks : List ℕ) : Type 0 where
-  pub mark : (w : ℕ) → w < 64 → eqb (getD marks w 0) 0 ≡ allBelow (adderBy m at₁ at₂ last w) (ticksOf m)
+-- Whether g, if it adds to word w, stands on the same side of the word's last 0111 in both orders.
+unfoldable pub adderBy : Machine → Sides → List ℕ → ℕ → ℕ → Bool
+adderBy m sides last w g =
+    cond (addsToWord (settingsOf m) w g && not (eqb (getD last w 0) 0)) (sideBy sides (getD last w 0 - 1) g) true
 
--- The fourth point at word w by what is held.
-unfoldable pub wordBy : List ℕ → List ℕ → List ℕ → List ℕ → List ℕ → ℕ → Bool
-wordBy last₁ last₂ place₁ place₂ marks w = sameAt last₁ last₂ w && sameAt place₁ place₂ w && eqb (getD marks w 0) 0
+-- A mark for the word of g, if g adds to it on another side; and the marks of all generators below n.
+abbrev pub markedBy : Machine → Sides → List ℕ → ℕ → List ℕ → List ℕ
+markedBy m sides last g marks = cond (adderBy m sides last (gsumAt m g) g) marks (set marks (gsumAt m g) 1)
+
+unfoldable pub marksOf : Machine → Sides → List ℕ → ℕ → List ℕ
+marksOf m sides last zero = zeros quadrantWords
+marksOf m sides last (suc n) = markedBy m sides last n (marksOf m sides last n)
+
+-- The fourth point at word w.
+unfoldable pub wordBy : Replaced → Replaced → List ℕ → ℕ → Bool
+wordBy r₁ r₂ marks w = sameAt (r₁ .last) (r₂ .last) w && sameAt (r₁ .among) (r₂ .among) w && eqb (getD marks w 0) 0

@@ -1,4 +1,4 @@
--- What arrays that hold places and last entries of an order learn from one entry more.
+-- What one entry more of an order changes in arrays that hold places and last entries: the entry itself, and nothing elsewhere.
 -- Assumes nothing.
 use mathlib.Core.Path.{_≡_, refl, sym, _∙_}
 use mathlib.Core.Bool.{Bool, true, false, cond, _||_, _&&_}
@@ -17,6 +17,7 @@ use Rattle.order_lists.proofs.Entries.{keep-count}
 use Rattle.order_lists.proofs.Places.{place-absent, place-holds, place-of-entry}
 use Rattle.order_lists.proofs.Orders.{there-once}
 use Rattle.order_lists.proofs.Loops.{kept-next}
+use Rattle.layout.specs.Machine.{Order}
 use Rattle.order.specs.Order.{IsOrder}
 
 -- A number that is set where a test passes.
@@ -40,7 +41,7 @@ map-inside f (x ∷ xs) zero h = refl
 map-inside f (x ∷ xs) (suc n) h = map-inside f xs n (le-of-suc-le-suc h)
 
 -- One entry more of a list whose last entry that passes is held, and the end.
-module _ (p : ℕ → Bool) (f : ℕ → ℕ) (order : List ℕ) where
+module _ (p : ℕ → Bool) (f : ℕ → ℕ) (order : Order) where
   pub latest-next : (i v : ℕ) → i < length order
       → latest p f (drop (i + 1) order) (cond (p (getD order i 0)) (f (getD order i 0)) v) ≡ latest p f (drop i order) v
   unfolding latest some lastOf
@@ -60,14 +61,14 @@ module _ (p : ℕ → Bool) (f : ℕ → ℕ) (order : List ℕ) where
   latest-end i v h = rw (drop-of-length-le order {i = i} h)
 
 -- A place inside a list holds its number.
-pub place-here : (g : ℕ) (order : List ℕ) → placeOf g order < length order → getD order (placeOf g order) 0 ≡ g
+pub place-here : (g : ℕ) (order : Order) → placeOf g order < length order → getD order (placeOf g order) 0 ≡ g
 place-here g order h = go (count g order) refl
   where
     go : (n : ℕ) → count g order ≡ n → getD order (placeOf g order) 0 ≡ g
     go zero e = absurd (omega (arith, place-absent g order e))
     go (suc n) e = place-holds g order (omega arith)
 
-module _ (t : ℕ) (order : List ℕ) (o : IsOrder t order) (i : ℕ) (inside : i < length order) where
+module _ (t : ℕ) (order : Order) (o : IsOrder t order) (i : ℕ) (inside : i < length order) where
   -- The place of the entry at i is i.
   pub entry-place : placeOf (getD order i 0) order ≡ i
   entry-place = place-of-entry order i inside (there-once t order (o .once) (o .below) (getD order i 0))

@@ -1,3 +1,3 @@
 pub mod Arrays
 pub mod Steps
-pub mod Walk
+pub mod Holds

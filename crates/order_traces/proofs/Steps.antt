@@ -1,44 +1,89 @@
--- A step of the walk over an order, by the run modes that the code tells apart.
+-- A step of a trace by the run modes that the code tells apart, and the entries left with the trace so far: together they are the whole trace.
 -- Assumes nothing.
 use mathlib.Core.Path.{_≡_, refl, sym, _∙_}
-use mathlib.Core.Bool.{false}
-use mathlib.Core.List.{List}
-use Prim.Native.Nat.{ℕ, _+_}
-use lib.Dec.{eqb}
-use lib.ListN.{set}
+use mathlib.Core.Logic.{_≢_}
+use mathlib.Core.Bool.{Bool, true, false, cond}
+use Prim.Native.Nat.{ℕ, _+_, _≤_, _<_}
+use native.Mathlib.Omega.{arith}
+use native.Mathlib.Numerals.{add-one}
 use borrow.Author.Tests.{ne-eqb}
-use Rattle.layout.specs.Machine.{runModeAt, gsumAt, gfmAt, dacNumberAt}
-use Rattle.order.specs.declared.Counts.{Counts}
-use Rattle.order_traces.specs.Traces.{Step}
+use lib.Dec.{eqb}
+use lib.ListN.{length, getD, set, drop, drop-of-length-le}
+use lib.Seq.{drop-cons}
+use Rattle.layout.specs.Machine.{Machine, Order, runModeAt, gfmAt, dacNumberAt}
+use Rattle.modes.specs.Modes.{readData, writeData, writeDAC}
+use Rattle.order_traces.specs.Traces.{Replaced, Trace, untraced, replacedBy, traceStep, traceFrom, traceOf}
 
-module _ (m : List ℕ) (i g : ℕ) (at fed written last place : List ℕ) (done : Counts) {run : ℕ} (is : run ≡ runModeAt m g) where
+module _ (m : Machine) (i g : ℕ) (t : Trace) {run : ℕ} (is : run ≡ runModeAt m g) where
   -- 0010 feeds a DAC.
-  pub step-feeds : {d v : ℕ} → run ≡ 2 → d ≡ dacNumberAt m g → v ≡ gfmAt m g
-      → Step m i g at (set at g i) fed (set fed d v) written written last last place place done done
+  pub step-feeds : {d v : ℕ} → run ≡ writeDAC → d ≡ dacNumberAt m g → v ≡ gfmAt m g
+      → record { place = set (t .place) g i; fed = set (t .fed) d v; written = t .written; replaced = t .replaced; counts = t .counts } ≡ traceStep m i g t
+  unfolding traceStep
   step-feeds r ed ev =
-      let e : runModeAt m g ≡ 2 = sym is ∙ r in
-      record { places = refl; feeds = rw (e, ed, ev); writes = rw e; lasts = rw e; among = rw e; readers = rw e; writers = rw e }
+      let e : runModeAt m g ≡ writeDAC = sym is ∙ r in
+      rw (e, ed, ev) refl
 
   -- 0011 writes data.
-  pub step-writes : {v : ℕ} → run ≡ 3 → v ≡ gfmAt m g
-      → Step m i g at (set at g i) fed fed written (set written (done .writes) v) last last place place done (record { reads = done .reads; writes = done .writes + 1 })
+  pub step-writes : {v : ℕ} → run ≡ writeData → v ≡ gfmAt m g
+      → record {
+        place = set (t .place) g i;
+        fed = t .fed;
+        written = set (t .written) (t .counts .writes) v;
+        replaced = t .replaced;
+        counts = record { reads = t .counts .reads; writes = t .counts .writes + 1 };
+      }
+      ≡ traceStep m i g t
+  unfolding traceStep
   step-writes r ev =
-      let e : runModeAt m g ≡ 3 = sym is ∙ r in
-      record { places = refl; feeds = rw e; writes = rw (e, ev); lasts = rw e; among = rw e; readers = rw e; writers = rw e }
+      let e : runModeAt m g ≡ writeData = sym is ∙ r in
+      rw (e, ev) refl
 
   -- 0111 reads data and replaces a word.
-  pub step-replaces : {last' place' : List ℕ} → run ≡ 7
-      → (last' ≡ set last (gsumAt m g) (g + 1)) × (place' ≡ set place (gsumAt m g) (done .reads))
-      → Step m i g at (set at g i) fed fed written written last last' place place' done (record { reads = done .reads + 1; writes = done .writes })
-  step-replaces r (el, ep) =
-      let e : runModeAt m g ≡ 7 = sym is ∙ r in
-      record { places = refl; feeds = rw e; writes = rw e; lasts = rw e el; among = rw e ep; readers = rw e; writers = rw e }
+  pub step-replaces : {u : Replaced} → run ≡ readData → u ≡ replacedBy m g (t .counts .reads) (t .replaced)
+      → record {
+        place = set (t .place) g i;
+        fed = t .fed;
+        written = t .written;
+        replaced = u;
+        counts = record { reads = t .counts .reads + 1; writes = t .counts .writes };
+      }
+      ≡ traceStep m i g t
+  unfolding traceStep
+  step-replaces r eu =
+      let e : runModeAt m g ≡ readData = sym is ∙ r in
+      rw (e, eu) refl
 
   -- All others.
-  pub step-past : (run ≡ 2 → ⊥) → (run ≡ 3 → ⊥) → (run ≡ 7 → ⊥)
-      → Step m i g at (set at g i) fed fed written written last last place place done done
+  pub step-past : run ≢ writeDAC → run ≢ writeData → run ≢ readData
+      → record { place = set (t .place) g i; fed = t .fed; written = t .written; replaced = t .replaced; counts = t .counts } ≡ traceStep m i g t
+  unfolding traceStep
   step-past h2 h3 h7 =
-      let e2 : eqb (runModeAt m g) 2 ≡ false = rw (← is) (ne-eqb run 2 h2) in
-      let e3 : eqb (runModeAt m g) 3 ≡ false = rw (← is) (ne-eqb run 3 h3) in
-      let e7 : eqb (runModeAt m g) 7 ≡ false = rw (← is) (ne-eqb run 7 h7) in
-      record { places = refl; feeds = rw e2; writes = rw e3; lasts = rw e7; among = rw e7; readers = rw e7; writers = rw e3 }
+      let e2 : eqb (runModeAt m g) writeDAC ≡ false = rw (← is) (ne-eqb run writeDAC h2) in
+      let e3 : eqb (runModeAt m g) writeData ≡ false = rw (← is) (ne-eqb run writeData h3) in
+      let e7 : eqb (runModeAt m g) readData ≡ false = rw (← is) (ne-eqb run readData h7) in
+      rw (e2, e3, e7) refl
+
+-- Each count grows by one at most.
+one-more : (b : Bool) (n : ℕ) → cond b (n + 1) n ≤ n + 1
+one-more true n = omega arith
+one-more false n = omega arith
+
+pub counts-next : (m : Machine) (i g : ℕ) (t : Trace) {u : Trace} → u ≡ traceStep m i g t
+    → (u .counts .reads ≤ t .counts .reads + 1) × (u .counts .writes ≤ t .counts .writes + 1)
+unfolding traceStep
+counts-next m i g t e =
+    rw e (one-more (eqb (runModeAt m g) readData) (t .counts .reads), one-more (eqb (runModeAt m g) writeData) (t .counts .writes))
+
+-- None yet, one entry more, and all.
+pub traced-none : (m : Machine) (order : Order) {t : Trace} → t ≡ untraced → traceFrom m 0 order t ≡ traceOf m order
+unfolding traceOf
+traced-none m order e = rw e
+
+pub traced-next : (m : Machine) (order : Order) (i : ℕ) (t : Trace) {g : ℕ} {u : Trace} → i < length order → g ≡ getD order i 0
+    → u ≡ traceStep m i g t → traceFrom m (i + 1) (drop (i + 1) order) u ≡ traceFrom m i (drop i order) t
+unfolding traceFrom
+traced-next m order i t h eg eu = rw (drop-cons order i 0 h, add-one i, eu, eg)
+
+pub traced-all : (m : Machine) (order : Order) (i : ℕ) (t : Trace) → length order ≤ i → traceFrom m i (drop i order) t ≡ t
+unfolding traceFrom
+traced-all m order i t h = rw (drop-of-length-le order {i = i} h)

@@ -1,41 +1,52 @@
-// What an order of the generators leaves for the four points to look at.
+// What an order of the generators leaves for the four points to look at, in arrays.
 ghost use mathlib.Core.Path.{_≡_};
-ghost use Prim.Native.Nat.{_+_, _<_, _≤_};
-ghost use lib.ListN.{set};
-ghost use Rattle.layout.specs.Machine.{ticksOf, gsumAt};
-ghost use Rattle.lists.specs.Lists.{zeros};
+ghost use Prim.Native.Nat.{_<_};
+ghost use Rattle.layout.specs.Layout.{generators};
+ghost use Rattle.layout.specs.Machine.{ticksOf};
 ghost use Rattle.order.specs.Order.{IsOrder};
-ghost use Rattle.order_traces.specs.Traces.{Ready, Step, Trace};
+ghost use Rattle.order_traces.specs.Traces.{Traceable, untraced, replacedBy, traceStep, traceOf};
 use order::Counts;
 
+// A number for each generator: its place in an order.
+pub type GeneratorPlaces = [u8; layout::GENERATORS];
+
+// A number for each DAC: the GFM of its last feeder.
+pub type Feeders = [u32; layout::DACS];
+
+// The GFMs of the generators that write data, in order.
+pub type Writers = [u32; layout::GENERATORS];
+
+// A number for each sum word: one more than its last 0111, or the place of that one among all 0111s.
+pub type SumWords = [u32; layout::QUADRANT_WORDS];
+
 // A 0111 is its word's last yet, and n 0111s stand before it.
-fn replace(m: &[u32], last: &mut [u32; 64], place: &mut [u32; 64], n: usize, g: usize)
-    requires { ⌜ Ready (now m) ⌝ }
-    requires { ⌜ (g < 256) × (n < 256) ⌝ }
-    ensures { λ r. ⌜ (now (last .exit) ≡ set (now (last .entry)) (gsumAt (now (m .entry)) g) (g + 1)) × (now (place .exit) ≡ set (now (place .entry)) (gsumAt (now (m .entry)) g) n) ⌝ }
+fn replace(m: &[u32], last: &mut SumWords, among: &mut SumWords, n: usize, g: usize)
+    requires { ⌜ Traceable (now m) ⌝ }
+    requires { ⌜ (g < generators) × (n < generators) ⌝ }
+    ensures { λ r. ⌜ record { last = now (last .exit); among = now (among .exit) } ≡ replacedBy (now (m .entry)) g n (record { last = now (last .entry); among = now (among .entry) }) ⌝ }
 {
     let w = layout::gsum(m, g);
     last[w] = (g + 1) as u32;
-    place[w] = n as u32;
+    among[w] = n as u32;
 }
 
 // Generator g at place i of an order.
 fn step(
     m: &[u32],
-    at: &mut [u8; 256],
-    fed: &mut [u32; 16],
-    written: &mut [u32; 256],
-    last: &mut [u32; 64],
-    place: &mut [u32; 64],
+    place: &mut GeneratorPlaces,
+    fed: &mut Feeders,
+    written: &mut Writers,
+    last: &mut SumWords,
+    among: &mut SumWords,
     done: Counts,
     i: usize,
     g: usize,
 ) -> Counts
-    requires { ⌜ Ready (now m) ⌝ }
-    requires { ⌜ (i < 256) × (g < 256) × (done .reads < 256) × (done .writes < 256) ⌝ }
-    ensures { λ r. ⌜ Step (now (m .entry)) i g (now (at .entry)) (now (at .exit)) (now (fed .entry)) (now (fed .exit)) (now (written .entry)) (now (written .exit)) (now (last .entry)) (now (last .exit)) (now (place .entry)) (now (place .exit)) done r ⌝ }
+    requires { ⌜ Traceable (now m) ⌝ }
+    requires { ⌜ (i < generators) × (g < generators) × (done .reads < generators) × (done .writes < generators) ⌝ }
+    ensures { λ r. ⌜ record { place = now (place .exit); fed = now (fed .exit); written = now (written .exit); replaced = record { last = now (last .exit); among = now (among .exit) }; counts = r } ≡ traceStep (now (m .entry)) i g (record { place = now (place .entry); fed = now (fed .entry); written = now (written .entry); replaced = record { last = now (last .entry); among = now (among .entry) }; counts = done }) ⌝ }
 {
-    at[g] = i as u8;
+    place[g] = i as u8;
     let run = layout::run_mode(m, g);
     if run == modes::WRITE_DAC {
         let d = layout::dac_number(m, g);
@@ -52,7 +63,7 @@ fn step(
     }
     if run == modes::READ_DATA {
         let n = done.reads;
-        replace(m, last, place, n, g);
+        replace(m, last, among, n, g);
         return Counts {
             reads: n + 1,
             writes: done.writes,
@@ -61,21 +72,20 @@ fn step(
     done
 }
 
-// The trace of an order: the place of each generator; of each DAC the GFM of the last feeder; the GFMs of the generators that write data, and
-// how many they are; of each word one more than its last 0111, and its place among all 0111s.
+// The trace of an order, in arrays of zeros; how many generators read and write data.
 pub fn trace(
     m: &[u32],
     order: &[u32],
-    at: &mut [u8; 256],
-    fed: &mut [u32; 16],
-    written: &mut [u32; 256],
-    last: &mut [u32; 64],
-    place: &mut [u32; 64],
-) -> usize
-    requires { ⌜ Ready (now m) ⌝ }
+    place: &mut GeneratorPlaces,
+    fed: &mut Feeders,
+    written: &mut Writers,
+    last: &mut SumWords,
+    among: &mut SumWords,
+) -> Counts
+    requires { ⌜ Traceable (now m) ⌝ }
     requires { ⌜ IsOrder (ticksOf (now m)) (now order) ⌝ }
-    requires { ⌜ (now at ≡ zeros 256) × (now fed ≡ zeros 16) × (now written ≡ zeros 256) × (now last ≡ zeros 64) × (now place ≡ zeros 64) ⌝ }
-    ensures { λ r. ⌜ Trace (now (m .entry)) (now (order .entry)) (now (at .exit)) (now (fed .exit)) (now (written .exit)) (now (last .exit)) (now (place .exit)) r ⌝ }
+    requires { ⌜ record { place = now place; fed = now fed; written = now written; replaced = record { last = now last; among = now among }; counts = record { reads = 0; writes = 0 } } ≡ untraced ⌝ }
+    ensures { λ r. ⌜ record { place = now (place .exit); fed = now (fed .exit); written = now (written .exit); replaced = record { last = now (last .exit); among = now (among .exit) }; counts = r } ≡ traceOf (now (m .entry)) (now (order .entry)) ⌝ }
 {
     let mut done = Counts {
         reads: 0,
@@ -84,9 +94,9 @@ pub fn trace(
     let mut i: usize = 0;
     while i < order.len() {
         let g = layout::wide(order[i]);
-        let next = step(m, at, fed, written, last, place, done, i, g);
+        let next = step(m, place, fed, written, last, among, done, i, g);
         done = next;
         i += 1;
     }
-    done.writes
+    done
 }

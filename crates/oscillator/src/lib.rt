@@ -4,6 +4,7 @@ ghost use mathlib.Core.Path.{_≡_};
 ghost use Rattle.words.specs.Words.{signed};
 ghost use Rattle.sine.specs.Sine.{quarter};
 ghost use Rattle.oscillator.specs.Oscillator.{sawtooth, square, pulse, sineWave, Wave};
+use sine::Quarter;
 use words::SignMagnitude;
 
 // K itself, but 0 at -4,096.
@@ -51,14 +52,15 @@ pub fn pulse(left: bool) -> SignMagnitude
 }
 
 // The sine of K, shifted right GM places.
-pub fn sine_wave(table: &[u16; 2048], k: u32, gm: u32) -> SignMagnitude
+pub fn sine_wave(table: &Quarter, k: u32, gm: u32) -> SignMagnitude
     requires { ⌜ now table ≡ quarter ⌝ }
     requires { ⌜ (k < 2 ^ 13) × (gm < 2 ^ 4) ⌝ }
     ensures { λ r. ⌜ Wave (sineWave k gm) r ⌝ }
 {
-    let magnitude = sine::magnitude(table, k);
+    let whole = sine::magnitude(table, k);
+    let magnitude = whole >> gm;
     SignMagnitude {
         negative: sine::is_negative(k),
-        magnitude: magnitude >> gm,
+        magnitude,
     }
 }

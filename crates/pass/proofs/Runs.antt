@@ -1,31 +1,29 @@
 -- The stages of a pass, one after the other, are the pass.
 -- Assumes nothing.
-use mathlib.Core.Path.{_≡_, ap, _∙_}
-use mathlib.Core.List.{List}
+use mathlib.Core.Path.{_≡_, refl, _∙_}
 use Prim.Native.Nat.{ℕ, _+_, _/_, _%_, _^_}
 use lib.Dec.{lit≤}
 use lib.ListN.{set}
 use Rattle.words.proofs.Residues.{wrapped}
-use Rattle.sums.specs.Sums.{sumsOf, closed}
-use Rattle.layout.specs.Machine.{ticksOf}
-use Rattle.pass_generators.specs.declared.Items.{Items}
-use Rattle.pass_generators.specs.GeneratorStage.{steps, begun}
-use Rattle.pass_generators.specs.Loops.{held, Taken}
-use Rattle.pass_modifiers.specs.ModifierStage.{wordsAfter, modifierThisAfter}
-use Rattle.pass.specs.Pass.{answered, counted, completed, ran}
 use Rattle.layout.specs.Widths.{counterBits}
+use Rattle.layout.specs.Machine.{Machine, Sums, ticksOf}
+use Rattle.sums.specs.Sums.{modifierThis, sumsOf, closed}
+use Rattle.pass_model.specs.Generators.{of1978, begun, Taken, takenBy}
+use Rattle.pass_model.specs.Modifiers.{modifiedBy}
+use Rattle.pass_model.specs.Pass.{Call, counted, completed, generatorsTaken, finished, ran}
 
-module _ (m order items places words : List ℕ) (s₀ s : List (List ℕ)) (n : ℕ) (places' : List ℕ) (items' : Items) where
-  pub ran-by : {after last done : List ℕ} {t : List (List ℕ)} →
-      n ≡ ticksOf m → s₀ ≡ sumsOf m → Taken items order m words s₀ s places places' items' →
-      (after ≡ wordsAfter words s (n / 2)) × (t ≡ set s 2 (modifierThisAfter words s (n / 2))) → last ≡ closed after t → done ≡ counted last →
-      answered 0 (items' .reads) (items' .writes) done places' ≡ ran m order items places
-  unfolding ran completed begun
-  ran-by {after} {last} {done} {t} en es taken (ea, et) el ed =
-      rw (← state) (ap (λ (l : List ℕ). answered 0 (items' .reads) (items' .writes) l places') (rw (ed, el, ea, et, en)))
+-- What the generators leave is t; after them come the modifiers, the end of sum memory and the counter.
+module _ (m : Machine) (call : Call) (t : Taken) (n : ℕ) (s₀ : Sums) where
+  pub ran-by : {modified last done : Machine} {s : Sums} →
+      n ≡ ticksOf m → s₀ ≡ sumsOf m → t ≡ takenBy of1978 (call .items) (begun m s₀ (call .places)) (call .order) →
+      (modified ≡ modifiedBy (t .words) (t .sums) (n / 2) .words) × (s ≡ set (t .sums) modifierThis (modifiedBy (t .words) (t .sums) (n / 2) .this)) →
+      last ≡ closed modified s → done ≡ counted last →
+      record { number = 0; read = t .reads; written = t .writes; machine = done; places = t .places } ≡ ran m call
+  unfolding ran generatorsTaken finished completed
+  ran-by en es et (em, eq) el ed = rw (← taken, ed, el, em, eq, en)
     where
-      state : held words s (taken .triggered) places' items' ≡ steps items (begun m places) order
-      state = taken .all ∙ rw es
+      taken : t ≡ generatorsTaken m call
+      taken = et ∙ rw es
 
 -- The counter's code: a wrapping add at 32 bits, r, and a remainder.
 pub count-code : (n : ℕ) {r : ℕ} → r ≡ (n + 1) % 2 ^ 32 → r % 2 ^ counterBits ≡ (n + 1) % 2 ^ counterBits

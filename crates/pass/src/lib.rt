@@ -1,10 +1,9 @@
 // A pass by an order of the generators.
 ghost use mathlib.Core.Path.{_≡_};
 ghost use Prim.Native.Nat.{_≤_};
-ghost use lib.ListN.{length, getD};
 ghost use Rattle.layout.specs.Machine.{Reaches, ticksOf};
+ghost use Rattle.pass_model.specs.Pass.{counted, ran, passRefusal, passOf};
 ghost use Rattle.pass_generators.specs.Loops.{Ready, Numbers};
-ghost use Rattle.pass.specs.Pass.{counted, ran, passRefusal, passOf, answered};
 use pass_generators::Items;
 
 // What a pass answers: the number of the refusing question or 0, and the items read and written.
@@ -20,7 +19,7 @@ fn count(m: &mut [u32])
     ensures { λ r. ⌜ now (m .exit) ≡ counted (now (m .entry)) ⌝ }
 {
     let at = layout::COUNTER_AT;
-    m[at] = std::num::wrapping_add_u32(m[at], 1) % 1048576;
+    m[at] = std::num::wrapping_add_u32(m[at], 1) % layout::COUNTER_LIMIT;
 }
 
 // The pass itself: generators in the order, modifiers by number, the end of sum memory, the counter.
@@ -28,7 +27,7 @@ fn run(m: &mut [u32], order: &[u32], items: &[u32], places: &mut [u32]) -> Items
     requires { ⌜ Ready (now m) ⌝ }
     requires { ⌜ Numbers (now order) ⌝ }
     requires { ⌜ ticksOf (now m) ≤ 256 ⌝ }
-    ensures { λ r. ⌜ answered 0 (r .reads) (r .writes) (now (m .exit)) (now (places .exit)) ≡ ran (now (m .entry)) (now (order .entry)) (now (items .entry)) (now (places .entry)) ⌝ }
+    ensures { λ r. ⌜ record { number = 0; read = r .reads; written = r .writes; machine = now (m .exit); places = now (places .exit) } ≡ ran (now (m .entry)) (record { order = now (order .entry); items = now (items .entry); places = now (places .entry) }) ⌝ }
 {
     let t = layout::ticks(m);
     let mut s = sums::load(m);
@@ -41,7 +40,7 @@ fn run(m: &mut [u32], order: &[u32], items: &[u32], places: &mut [u32]) -> Items
 
 // The first question of a pass that is answered no, or 0.
 fn refusal(m: &[u32], order: &[u32], items: &[u32], places: &[u32]) -> u32
-    ensures { λ r. ⌜ r ≡ passRefusal (now (m .entry)) (now (order .entry)) (now (items .entry)) (now (places .entry)) ⌝ }
+    ensures { λ r. ⌜ r ≡ passRefusal (now (m .entry)) (record { order = now (order .entry); items = now (items .entry); places = now (places .entry) }) ⌝ }
 {
     let first = machine::refusal(m);
     if first != 0 {
@@ -63,7 +62,7 @@ fn refusal(m: &[u32], order: &[u32], items: &[u32], places: &[u32]) -> u32
 
 // A pass. A refusal leaves the machine and the written places as they were.
 pub fn pass(m: &mut [u32], order: &[u32], items: &[u32], places: &mut [u32]) -> Passed
-    ensures { λ r. ⌜ answered (r .number) (r .read) (r .written) (now (m .exit)) (now (places .exit)) ≡ passOf (now (m .entry)) (now (order .entry)) (now (items .entry)) (now (places .entry)) ⌝ }
+    ensures { λ r. ⌜ record { number = r .number; read = r .read; written = r .written; machine = now (m .exit); places = now (places .exit) } ≡ passOf (now (m .entry)) (record { order = now (order .entry); items = now (items .entry); places = now (places .entry) }) ⌝ }
 {
     let number = refusal(m, order, items, places);
     if number != 0 {

@@ -1,5 +1,5 @@
 pub mod Words
-pub mod Steps
-pub mod Puts
 pub mod Parts
+pub mod Steps
+pub mod Readiness
 pub mod Runs

@@ -2,20 +2,18 @@
 -- Assumes nothing.
 use mathlib.Core.Path.{_≡_, refl, sym, ap, _∙_}
 use mathlib.Core.List.{List, _++_, append-nil}
-use Prim.Native.Nat.{ℕ, zero, suc, _+_, _-_, _<_, _≤_}
-use native.Mathlib.Omega.{arith}
-use lib.Dec.{eqb}
-use lib.ListN.{length, getD, set, take, drop, take-append-drop}
+use Prim.Native.Nat.{ℕ, _+_, _-_, _≤_}
+use lib.ListN.{length, set, take, drop, take-append-drop}
 use lib.Seq.{length-take-le}
-use Rattle.sums.proofs.Blocks.{set-behind, part-from, part-rest}
+use Rattle.sums.proofs.Blocks.{set-behind, part-rest}
+use Rattle.lists.proofs.Parts.{part-from}
 use Rattle.layout.specs.Layout.{generatorAt}
 use Rattle.generator.specs.declared.Generator.{Generator}
 use Rattle.generator.specs.Generator.{stored}
-use Rattle.pass_generators.specs.GeneratorStage.{putGenerator, told}
 
 -- Four words set behind p.
 behind : (p q : List ℕ) (u : Generator) →
-    p ++ stored q u ≡ set (set (set (set (p ++ q) (length p + 1) (u .gj)) (length p + 2) (u .gk)) (length p + 6) (u .gq)) (length p + 10) (u .gmode)
+    p ++ stored q 0 u ≡ set (set (set (set (p ++ q) (length p + 1) (u .gj)) (length p + 2) (u .gk)) (length p + 6) (u .gq)) (length p + 10) (u .gmode)
 unfolding stored
 behind p q u =
     rw (
@@ -26,19 +24,10 @@ behind p q u =
     )
 
 pub put-back : (m : List ℕ) (g : ℕ) (u : Generator) → generatorAt g ≤ length m →
-    take (generatorAt g) m ++ (stored (take (length m - generatorAt g) (drop (generatorAt g) m)) u ++ drop (length m - generatorAt g) (drop (generatorAt g) m))
-    ≡ putGenerator m g u
-unfolding putGenerator
+    take (generatorAt g) m ++ (stored (take (length m - generatorAt g) (drop (generatorAt g) m)) 0 u ++ drop (length m - generatorAt g) (drop (generatorAt g) m))
+    ≡ stored m (generatorAt g) u
+unfolding stored
 put-back m g u h =
     rw (part-from m (generatorAt g), part-rest m (generatorAt g), append-nil)
     (behind (take (generatorAt g) m) (drop (generatorAt g) m) u
     ∙ rw (length-take-le (generatorAt g) m h, take-append-drop (generatorAt g) m))
-
--- The lower neighbour of a generator that is not 0.
-pub told-below : (triggered : List ℕ) (g : ℕ) → 0 < g → eqb (getD triggered (g - 1) 0) 1 ≡ told triggered g
-unfolding told
-told-below triggered zero h = absurd (omega arith)
-told-below triggered (suc g) h = rw back
-  where
-    back : suc g - 1 ≡ g
-    back = omega arith

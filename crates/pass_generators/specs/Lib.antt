@@ -1,2 +1,1 @@
-pub mod GeneratorStage
 pub mod Loops

@@ -1,59 +1,68 @@
--- What the code of the generators' stage asks and answers.
--- Assumes nothing.
-use Prim.Native.Nat.{ℕ, _+_, _%_, _^_, _<_, _≤_}
+-- What the code of the generators' stage asks, and a turn by the ways that the code takes: envelope on, and nothing on.
+-- Laws join them to a step, which alone a reader has to believe. Assumes nothing.
+use Prim.Native.Nat.{ℕ, suc, _+_, _%_, _^_, _<_, _≤_}
 use mathlib.Core.Bool.{Bool, false, cond}
 use mathlib.Core.List.{List}
-use mathlib.Core.Path.{_≡_}
-use lib.ListN.{length, getD, replicate}
+use lib.Dec.{eqb}
+use lib.ListN.{length, getD, set}
 use Rattle.words.specs.Words.{sum}
+use Rattle.layout.specs.Layout.{generatorAt, dacAt, GJ, GK, GQ, GMODE}
+use Rattle.layout.specs.Widths.{gjBits, gkBits, gqBits, gmodeBits}
+use Rattle.layout.specs.Machine.{Machine, Order, Items, Places, Sums, Reaches}
+use Rattle.modes.specs.Modes.{adds, writeData, writeDAC}
 use Rattle.sums.specs.Sums.{sumAt, putSum}
-use Rattle.layout.specs.Layout.{generatorAt, GJ, GK, GQ, GMODE}
 use Rattle.generator.specs.declared.Generator.{Generator}
-use Rattle.generator.specs.Generator.{pOf, after}
-use Rattle.pass_generators.specs.declared.Items.{Items}
-use Rattle.pass_generators.specs.GeneratorStage.{State, putGenerator, putDAC, sent, writtenBy, summed, readBy, fired, steps}
-use Rattle.layout.specs.Machine.{Reaches}
+use Rattle.generator.specs.Generator.{stored, runMode, pOf, triggers, after}
 
 -- The registers of generator g that a turn can change are within their widths.
-pub record Low (words : List ℕ) (g : ℕ) : Type 0 where
-  pub gj-low : getD words (generatorAt g + GJ) 0 < 2 ^ 28
-  pub gk-low : getD words (generatorAt g + GK) 0 < 2 ^ 20
-  pub gq-low : getD words (generatorAt g + GQ) 0 < 2 ^ 24
-  pub gmode-low : getD words (generatorAt g + GMODE) 0 < 2 ^ 10
+pub record Low (words : Machine) (g : ℕ) : Type 0 where
+  pub gj-low : getD words (generatorAt g + GJ) 0 < 2 ^ gjBits
+  pub gk-low : getD words (generatorAt g + GK) 0 < 2 ^ gkBits
+  pub gq-low : getD words (generatorAt g + GQ) 0 < 2 ^ gqBits
+  pub gmode-low : getD words (generatorAt g + GMODE) 0 < 2 ^ gmodeBits
 
 -- A machine whose generators can be taken.
-pub record Ready (words : List ℕ) : Type 0 where
+pub record Ready (words : Machine) : Type 0 where
   pub reaches : Reaches words
   pub low : (g : ℕ) → g < 256 → Low words g
 
 -- An order of numbers below 256, at most 256 of them.
-pub record Numbers (order : List ℕ) : Type 0 where
+pub record Numbers (order : Order) : Type 0 where
   pub most : length order ≤ 256
   pub below : (i : ℕ) → i < length order → getD order i 0 < 256
 
--- The state that the code's arrays and counts hold.
-abbrev pub held : List ℕ → List (List ℕ) → List ℕ → List ℕ → Items → State
-held words sums triggered places items =
-    record { words = words; sums = sums; triggered = triggered; places = places; reads = items .reads; writes = items .writes }
-
--- What a generator whose envelope is on changes.
-pub record Sounds (items : List ℕ) (words₀ words : List ℕ) (sums₀ sums : List (List ℕ)) (triggered₀ triggered : List ℕ) (reads₀ reads g : ℕ) (u : Generator) (f : ℕ) : Type 0 where
-  pub puts : words ≡ putGenerator words₀ g (after u f false)
-  pub adds : sums ≡ summed sums₀ u (pOf u f) (getD items reads₀ 0)
-  pub fires : triggered ≡ fired triggered₀ g u
-  pub reads-on : reads ≡ readBy reads₀ u
-
--- What a generator with nothing on changes: it may send F.
-pub record Sends (words₀ words places₀ places : List ℕ) (writes₀ writes : ℕ) (u : Generator) (f : ℕ) : Type 0 where
-  pub feeds : words ≡ putDAC words₀ u f
-  pub sends : places ≡ sent places₀ writes₀ u f
-  pub writes-on : writes ≡ writtenBy writes₀ u
+-- What a generator whose envelope is on can change: the machine's words, sum memory, who has triggered, how many items were read.
+pub record Sounding : Type 0 where
+  pub words : Machine
+  pub sums : Sums
+  pub triggered : List ℕ
+  pub reads : ℕ
 
 -- What is heard in sum memory: P is added, or replaces the word together with a read item.
-unfoldable pub heard : List (List ℕ) → Bool → ℕ → ℕ → ℕ → List (List ℕ)
+unfoldable pub heard : Sums → Bool → ℕ → ℕ → ℕ → Sums
 heard s adding gsum p item = cond adding (putSum s gsum (sum 20 (sumAt s gsum) p)) (putSum s gsum (sum 20 p (item % 2 ^ 20)))
 
--- What the generators of an order leave.
-pub record Taken (items order words₀ words : List ℕ) (sums₀ sums : List (List ℕ)) (places₀ places : List ℕ) (done : Items) : Type 0 where
-  pub triggered : List ℕ
-  pub all : held words sums triggered places done ≡ steps items (held words₀ sums₀ (replicate 256 0) places₀ (record { reads = 0; writes = 0 })) order
+-- Generator g, u with its envelope on, is taken.
+unfoldable pub sounded : Items → Sounding → ℕ → Generator → ℕ → Sounding
+sounded items v g u f =
+    record {
+      words = stored (v .words) (generatorAt g) (after u f false);
+      sums = heard (v .sums) (adds (runMode u)) (u .gsum) (pOf u f) (getD items (v .reads) 0);
+      triggered = cond (triggers u) (set (v .triggered) g 1) (v .triggered);
+      reads = cond (adds (runMode u)) (v .reads) (v .reads + 1);
+    }
+
+-- What a generator with nothing on can change: the machine's words, the places for written items, how many were written.
+pub record Sending : Type 0 where
+  pub words : Machine
+  pub places : Places
+  pub writes : ℕ
+
+-- A generator with nothing on is taken: it may send F.
+unfoldable pub sent : Sending → Generator → ℕ → Sending
+sent v u f =
+    record {
+      words = cond (eqb (runMode u) writeDAC) (set (v .words) (dacAt (u .go % 2 ^ 4)) f) (v .words);
+      places = cond (eqb (runMode u) writeData) (set (v .places) (v .writes) f) (v .places);
+      writes = cond (eqb (runMode u) writeData) (suc (v .writes)) (v .writes);
+    }

@@ -6,13 +6,24 @@ ghost use Prim.Native.Nat.{_+_, _<_, _^_};
 ghost use lib.ListN.{getD, set};
 ghost use Rattle.layout.specs.Machine.{Reaches};
 ghost use Rattle.sine.specs.Sine.{quarter};
-ghost use Rattle.exponential.specs.Exponential.{entries};
+ghost use Rattle.exponential.specs.Exponential.{tableSize, entries};
 ghost use Rattle.modes.specs.Modes.{rows, switchesOf, envelopeOn, wait};
-ghost use Rattle.generator.specs.Generator.{Ranged, runMode, after};
-ghost use Rattle.pass_generators.specs.GeneratorStage.{generatorOf, putGenerator, told, step, steps};
-ghost use Rattle.pass_generators.specs.Loops.{Low, Ready, Numbers, held, heard, Sounds, Sends, Taken};
+ghost use Rattle.layout.specs.Layout.{generatorAt};
+ghost use Rattle.generator.specs.Generator.{Ranged, stored, runMode, after};
+ghost use Rattle.pass_model.specs.Generators.{of1978, generatorOf, told, step, begun, takenBy};
+ghost use Rattle.pass_generators.specs.Loops.{Low, Ready, Numbers, heard, sounded, sent};
+use exponential::Entries;
 use generator::Generator;
+use modes::Rows;
 use modes::Switches;
+use sine::Quarter;
+use sums::Sums;
+
+// A 1 for each generator that was taken and triggered.
+type Triggered = [u8; layout::GENERATORS];
+
+// How far below a generator its lower neighbour stands.
+const DISTANCE: usize = 1;
 
 // How many items were read and written.
 pub struct Items {
@@ -34,7 +45,7 @@ fn generator_at(m: &[u32], g: usize) -> Generator
 fn put_generator_at(m: &mut [u32], g: usize, unit: Generator)
     requires { ⌜ Reaches (now m) ⌝ }
     requires { ⌜ g < 256 ⌝ }
-    ensures { λ r. ⌜ now (m .exit) ≡ putGenerator (now (m .entry)) g unit ⌝ }
+    ensures { λ r. ⌜ now (m .exit) ≡ stored (now (m .entry)) (generatorAt g) unit ⌝ }
 {
     let at = layout::GENERATOR_WORDS * g;
     unit.store(&mut m[at..]);
@@ -51,23 +62,23 @@ fn item_at(items: &[u32], at: usize) -> u32
 }
 
 // Whether the lower neighbour of g has triggered.
-fn told(triggered: &[u8; 256], g: usize) -> bool
+fn told(triggered: &Triggered, g: usize) -> bool
     requires { ⌜ g < 256 ⌝ }
-    ensures { λ r. ⌜ r ≡ told (now (triggered .entry)) g ⌝ }
+    ensures { λ r. ⌜ r ≡ told (of1978 .distance) (now (triggered .entry)) g ⌝ }
 {
-    if g == 0 {
+    if g < DISTANCE {
         return false;
     }
-    triggered[g - 1] == 1
+    triggered[g - DISTANCE] == 1
 }
 
 // A generator whose envelope is on is taken; the answer is how many items were read.
 fn sound(
     m: &mut [u32],
-    s: &mut [[u32; 64]; 4],
-    triggered: &mut [u8; 256],
-    sine: &[u16; 2048],
-    decay: &[u16; 256],
+    s: &mut Sums,
+    triggered: &mut Triggered,
+    sine: &Quarter,
+    decay: &Entries,
     items: &[u32],
     reads: usize,
     g: usize,
@@ -77,21 +88,21 @@ fn sound(
 ) -> usize
     requires { ⌜ Reaches (now m) ⌝ }
     requires { ⌜ Ranged unit ⌝ }
-    requires { ⌜ (now sine ≡ quarter) × (now decay ≡ entries 256) ⌝ }
+    requires { ⌜ (now sine ≡ quarter) × (now decay ≡ entries tableSize) ⌝ }
     requires { ⌜ (on ≡ switchesOf (runMode unit)) × (envelopeOn (runMode unit) ≡ true) ⌝ }
     requires { ⌜ (f < 2 ^ 20) × (g < 256) × (reads < 256) ⌝ }
-    ensures { λ r. ⌜ Sounds (now (items .entry)) (now (m .entry)) (now (m .exit)) (now (s .entry)) (now (s .exit)) (now (triggered .entry)) (now (triggered .exit)) reads r g unit f ⌝ }
+    ensures { λ r. ⌜ record { words = now (m .exit); sums = now (s .exit); triggered = now (triggered .exit); reads = r } ≡ sounded (now (items .entry)) (record { words = now (m .entry); sums = now (s .entry); triggered = now (triggered .entry); reads = reads }) g unit f ⌝ }
 {
     let sounded = unit.sound(sine, decay, on, f);
-    let after = sounded.unit;
+    let turned = sounded.unit;
     let p = sounded.p;
-    put_generator_at(m, g, after);
+    put_generator_at(m, g, turned);
     mark(triggered, g, sounded.triggers);
     hear(s, items, reads, on.output, unit.gsum, p)
 }
 
 // Generator g is marked where it triggers.
-fn mark(triggered: &mut [u8; 256], g: usize, triggers: bool)
+fn mark(triggered: &mut Triggered, g: usize, triggers: bool)
     requires { ⌜ g < 256 ⌝ }
     ensures { λ r. ⌜ now (triggered .exit) ≡ cond triggers (set (now (triggered .entry)) g 1) (now (triggered .entry)) ⌝ }
 {
@@ -102,7 +113,7 @@ fn mark(triggered: &mut [u8; 256], g: usize, triggers: bool)
 }
 
 // P goes into sum memory: where the output is 1 it is added, else it replaces a word together with the next read item.
-fn hear(s: &mut [[u32; 64]; 4], items: &[u32], reads: usize, output: u8, gsum: u32, p: u32) -> usize
+fn hear(s: &mut Sums, items: &[u32], reads: usize, output: u8, gsum: u32, p: u32) -> usize
     requires { ⌜ (gsum < 2 ^ 6) × (p < 2 ^ 20) × (reads < 256) ⌝ }
     ensures { λ r. ⌜ (now (s .exit) ≡ heard (now (s .entry)) (eqb output 1) gsum p (getD (now (items .entry)) reads 0)) × (r ≡ cond (eqb output 1) reads (reads + 1)) ⌝ }
 {
@@ -110,17 +121,17 @@ fn hear(s: &mut [[u32; 64]; 4], items: &[u32], reads: usize, output: u8, gsum: u
         sums::add(s, gsum, p);
         return reads;
     }
-    let item = item_at(items, reads) % 1048576;
+    let item = item_at(items, reads) % layout::WORD_LIMIT;
     sums::replace(s, gsum, words::add20(p, item));
     reads + 1
 }
 
 // A generator in 1001 is taken.
-fn wait(m: &mut [u32], triggered: &[u8; 256], g: usize, unit: Generator, f: u32)
+fn wait(m: &mut [u32], triggered: &Triggered, g: usize, unit: Generator, f: u32)
     requires { ⌜ Reaches (now m) ⌝ }
     requires { ⌜ Ranged unit ⌝ }
     requires { ⌜ (runMode unit ≡ wait) × (f < 2 ^ 20) × (g < 256) ⌝ }
-    ensures { λ r. ⌜ now (m .exit) ≡ putGenerator (now (m .entry)) g (after unit f (told (now (triggered .entry)) g)) ⌝ }
+    ensures { λ r. ⌜ now (m .exit) ≡ stored (now (m .entry)) (generatorAt g) (after unit f (told (of1978 .distance) (now (triggered .entry)) g)) ⌝ }
 {
     let told = told(triggered, g);
     let after = unit.wait(f, told);
@@ -131,7 +142,7 @@ fn wait(m: &mut [u32], triggered: &[u8; 256], g: usize, unit: Generator, f: u32)
 fn send(m: &mut [u32], places: &mut [u32], writes: usize, unit: Generator, f: u32) -> usize
     requires { ⌜ Reaches (now m) ⌝ }
     requires { ⌜ writes < 256 ⌝ }
-    ensures { λ r. ⌜ Sends (now (m .entry)) (now (m .exit)) (now (places .entry)) (now (places .exit)) writes r unit f ⌝ }
+    ensures { λ r. ⌜ record { words = now (m .exit); places = now (places .exit); writes = r } ≡ sent (record { words = now (m .entry); places = now (places .entry); writes = writes }) unit f ⌝ }
 {
     let run = unit.gmode / 64;
     if run == modes::WRITE_DAC {
@@ -158,11 +169,11 @@ fn put_item(places: &mut [u32], at: usize, item: u32)
 // One generator is taken.
 fn step(
     m: &mut [u32],
-    s: &mut [[u32; 64]; 4],
-    triggered: &mut [u8; 256],
-    switches: &[[u8; 4]; 16],
-    sine: &[u16; 2048],
-    decay: &[u16; 256],
+    s: &mut Sums,
+    triggered: &mut Triggered,
+    switches: &Rows,
+    sine: &Quarter,
+    decay: &Entries,
     items: &[u32],
     places: &mut [u32],
     done: Items,
@@ -170,9 +181,9 @@ fn step(
 ) -> Items
     requires { ⌜ Reaches (now m) ⌝ }
     requires { ⌜ Low (now m) g ⌝ }
-    requires { ⌜ (now switches ≡ rows) × (now sine ≡ quarter) × (now decay ≡ entries 256) ⌝ }
+    requires { ⌜ (now switches ≡ rows) × (now sine ≡ quarter) × (now decay ≡ entries tableSize) ⌝ }
     requires { ⌜ (g < 256) × (done .reads < 256) × (done .writes < 256) ⌝ }
-    ensures { λ r. ⌜ held (now (m .exit)) (now (s .exit)) (now (triggered .exit)) (now (places .exit)) r ≡ step (now (items .entry)) (held (now (m .entry)) (now (s .entry)) (now (triggered .entry)) (now (places .entry)) done) g ⌝ }
+    ensures { λ r. ⌜ record { words = now (m .exit); sums = now (s .exit); triggered = now (triggered .exit); places = now (places .exit); reads = r .reads; writes = r .writes } ≡ step of1978 (now (items .entry)) (record { words = now (m .entry); sums = now (s .entry); triggered = now (triggered .entry); places = now (places .entry); reads = done .reads; writes = done .writes }) g ⌝ }
 {
     let unit = generator_at(m, g);
     if unit.gmode < 128 {
@@ -210,35 +221,29 @@ fn step(
     }
 }
 
-fn wide(x: u32) -> usize
-    ensures { λ r. ⌜ r ≡ x ⌝ }
-{
-    x as usize
-}
-
 // The generators of an order are taken one after the other, from nothing triggered, read and written.
 pub fn generators(
     m: &mut [u32],
-    s: &mut [[u32; 64]; 4],
+    s: &mut Sums,
     order: &[u32],
     items: &[u32],
     places: &mut [u32],
 ) -> Items
     requires { ⌜ Ready (now m) ⌝ }
     requires { ⌜ Numbers (now order) ⌝ }
-    ensures { λ r. ⌜ Taken (now (items .entry)) (now (order .entry)) (now (m .entry)) (now (m .exit)) (now (s .entry)) (now (s .exit)) (now (places .entry)) (now (places .exit)) r ⌝ }
+    ensures { λ r. ⌜ record { words = now (m .exit); sums = now (s .exit); places = now (places .exit); reads = r .reads; writes = r .writes } ≡ takenBy of1978 (now (items .entry)) (begun (now (m .entry)) (now (s .entry)) (now (places .entry))) (now (order .entry)) ⌝ }
 {
     let switches = modes::table();
     let sine = sine::table();
     let decay = exponential::table();
-    let mut triggered = [0u8; 256];
+    let mut triggered = [0u8; layout::GENERATORS];
     let mut done = Items {
         reads: 0,
         writes: 0,
     };
     let mut i: usize = 0;
     while i < order.len() {
-        let g = wide(order[i]);
+        let g = layout::wide(order[i]);
         let next = step(
             m,
             s,

@@ -3,7 +3,6 @@
 use mathlib.Core.Path.{_≡_, refl, sym, _∙_, ap}
 use mathlib.Core.Logic.{_≢_}
 use mathlib.Core.Bool.{Bool, true, false, cond, _&&_}
-use mathlib.Core.List.{List}
 use Prim.Native.Nat.{ℕ, _+_, _/_, _%_, _^_, _≤_, _<_}
 use native.Mathlib.Omega.{arith}
 use native.Mathlib.Nat.{add-zero}
@@ -15,18 +14,21 @@ use Rattle.layout.specs.Layout.{generatorAt, modifierAt, dxAt, tAt, nAt, counte
 use Rattle.modes.specs.Modes.{wait, runningC}
 use Rattle.machine.specs.Questions.{sound}
 use Rattle.machine.proofs.SoundMachine.{reaches}
-use Rattle.layout.specs.Machine.{ticksOf, runModeAt}
+use Rattle.layout.specs.Machine.{Machine, Order, Items, ticksOf, runModeAt}
+use Rattle.sums.specs.Sums.{sumsOf}
 use Rattle.sums.proofs.Blocks.{Outside, outside-before, outside-after}
 use Rattle.sums.proofs.Memory.{sums-quadrants}
 use Rattle.generator.specs.declared.Generator.{Generator}
 use Rattle.generator.specs.Generator.{runMode, withRunMode, triggers, gmodeAfter, after}
-use Rattle.pass_generators.specs.GeneratorStage.{State, told, step, steps, begun}
-use Rattle.pass_generators.proofs.Puts.{put-gmode}
-use Rattle.pass_modifiers.proofs.Stage.{Elsewhere}
-use Rattle.pass.specs.Pass.{Outcome, ran, passOf}
-use Rattle.pass_laws.proofs.Frames.{takenAt, turned, setting, apart-other, step-length, step-own, step-below, steps-keep, steps-middle, steps-beyond, steps-setting, steps-quadrants}
+use Rattle.pass_model.specs.Generators.{generatorOf, turn1978, of1978, State, told, step, steps, begun}
+use Rattle.pass_model.specs.Pass.{Call, Outcome, ran, passOf}
+use Rattle.pass_model.proofs.Modifiers.{Elsewhere}
+use Rattle.pass_laws.specs.Settings.{SettingsKept}
+use Rattle.pass_laws.proofs.Frames.{broughtAt, setting, apart-other, step-length, step-below, steps-keep, steps-middle, steps-beyond, steps-setting, steps-quadrants}
+use Rattle.pass_laws.proofs.Turns.{step-registers}
+use Rattle.pass_laws.proofs.Turns1978.{sixteen}
 use Rattle.pass_laws.proofs.SoundPuts.{gmode-loaded}
-use Rattle.pass_laws.proofs.Passing.{Passed, generatorsTaken, begun-words, begun-sums, passed, pass-by, refused-machine, ran-machine}
+use Rattle.pass_laws.proofs.Passing.{Admitted, generatorsDone, begun-words, begun-sums, admitted, pass-by, refused-machine, ran-machine}
 use Rattle.pass_laws.proofs.Completing.{completed-word}
 use Rattle.pass_laws.proofs.PassSound.{step-sound}
 
@@ -67,77 +69,45 @@ mode-after u told = go (eqb (runMode u) runningC && triggers u) (eqb (runMode u)
     go false false ea eb = kept-same (u .gmode)
 
 -- Of the turns of an order, on a sound machine.
-record Modes (x k : ℕ) (words : List ℕ) : Type 0 where
+record Modes (x k : ℕ) (words : Machine) : Type 0 where
   is-sound : sound words ≡ true
   reach : 2816 ≤ length words
   kept : ModeKept x (getD words (generatorAt k + GMODE) 0)
 
-turned-gmode : (s : State) (g : ℕ) → turned s g .gmode ≡ gmodeAfter (takenAt s g) (told (s .triggered) g)
-unfolding after
-turned-gmode s g = refl
+turn-gmode : (s : State) (g : ℕ) → broughtAt of1978 s g .unit .gmode ≡ gmodeAfter (generatorOf (s .words) g) (told 1 (s .triggered) g)
+unfolding turn1978 after
+turn-gmode s g = refl
 
-step-mode : (items : List ℕ) (s : State) (g k : ℕ) → g < 256 → k < 256 → sound (s .words) ≡ true → 2816 ≤ length (s .words)
-    → ModeKept (getD (s .words) (generatorAt k + GMODE) 0) (getD (step items s g .words) (generatorAt k + GMODE) 0)
+step-mode : (items : Items) (s : State) (g k : ℕ) → g < 256 → k < 256 → sound (s .words) ≡ true → 2816 ≤ length (s .words)
+    → ModeKept (getD (s .words) (generatorAt k + GMODE) 0) (getD (step of1978 items s g .words) (generatorAt k + GMODE) 0)
 step-mode items s g k h l e r = go (eqb k g) refl
   where
-    own : getD (step items s g .words) (generatorAt g + GMODE) 0 ≡ gmodeAfter (takenAt s g) (told (s .triggered) g)
-    own =
-        step-own items s g (generatorAt g + GMODE) (omega arith)
-        ∙ put-gmode (s .words) g (turned s g) (omega arith)
-        ∙ turned-gmode s g
+    own : getD (step of1978 items s g .words) (generatorAt g + GMODE) 0 ≡ gmodeAfter (generatorOf (s .words) g) (told 1 (s .triggered) g)
+    own = step-registers of1978 items s g h r .gmode ∙ turn-gmode s g
 
-    go : (b : Bool) → eqb k g ≡ b → ModeKept (getD (s .words) (generatorAt k + GMODE) 0) (getD (step items s g .words) (generatorAt k + GMODE) 0)
-    go true q = rw (eqb-true k g q, own, ← (gmode-loaded (s .words) e g h)) (mode-after (takenAt s g) (told (s .triggered) g))
+    go : (b : Bool) → eqb k g ≡ b → ModeKept (getD (s .words) (generatorAt k + GMODE) 0) (getD (step of1978 items s g .words) (generatorAt k + GMODE) 0)
+    go true q = rw (eqb-true k g q, own, ← (gmode-loaded (s .words) e g h)) (mode-after (generatorOf (s .words) g) (told 1 (s .triggered) g))
     go false q =
-        rw (step-below items s g (generatorAt k + GMODE) (omega arith) (apart-other g k 10 (lit< tt) (eqb-false k g q)))
+        rw (step-below of1978 items s g (generatorAt k + GMODE) (omega arith) (apart-other g k 10 (lit< tt) (eqb-false k g q)))
         (kept-same (getD (s .words) (generatorAt k + GMODE) 0))
 
-pub steps-mode : (items order : List ℕ) (s : State) (k : ℕ) → k < 256 → ((i : ℕ) → i < length order → getD order i 0 < 256)
+steps-mode : (items : Items) (order : Order) (s : State) (k : ℕ) → k < 256 → ((i : ℕ) → i < length order → getD order i 0 < 256)
     → sound (s .words) ≡ true → 2816 ≤ length (s .words)
-    → ModeKept (getD (s .words) (generatorAt k + GMODE) 0) (getD (steps items s order .words) (generatorAt k + GMODE) 0)
+    → ModeKept (getD (s .words) (generatorAt k + GMODE) 0) (getD (steps of1978 items s order .words) (generatorAt k + GMODE) 0)
 steps-mode items order s k l below e r =
-    steps-keep items (λ g. g < 256) (λ t. Modes (getD (s .words) (generatorAt k + GMODE) 0) k (t .words)) next order below s
+    steps-keep of1978 items (λ g. g < 256) (λ t. Modes (getD (s .words) (generatorAt k + GMODE) 0) k (t .words)) next order below s
     (record { is-sound = e; reach = r; kept = kept-same (getD (s .words) (generatorAt k + GMODE) 0) }) .kept
   where
     next : (t : State) (g : ℕ) → g < 256 → Modes (getD (s .words) (generatorAt k + GMODE) 0) k (t .words)
-        → Modes (getD (s .words) (generatorAt k + GMODE) 0) k (step items t g .words)
+        → Modes (getD (s .words) (generatorAt k + GMODE) 0) k (step of1978 items t g .words)
     next t g h p =
         record {
           is-sound = step-sound items t g h (p .is-sound);
-          reach = rw (step-length items t g) (p .reach);
+          reach = rw (step-length of1978 items t g) (p .reach);
           kept = kept-on _ _ _ (p .kept) (step-mode items t g k h l (p .is-sound) (p .reach));
         }
 
--- The settings of generator g and of modifier k of a machine r, as they are in m.
-pub record GeneratorKept (m r : List ℕ) (g : ℕ) : Type 0 where
-  pub go : getD r (generatorAt g) 0 ≡ getD m (generatorAt g) 0
-  pub gn : getD r (generatorAt g + GN) 0 ≡ getD m (generatorAt g + GN) 0
-  pub gm : getD r (generatorAt g + GM) 0 ≡ getD m (generatorAt g + GM) 0
-  pub gp : getD r (generatorAt g + GP) 0 ≡ getD m (generatorAt g + GP) 0
-  pub gl : getD r (generatorAt g + GL) 0 ≡ getD m (generatorAt g + GL) 0
-  pub gsum : getD r (generatorAt g + GSUM) 0 ≡ getD m (generatorAt g + GSUM) 0
-  pub gfm : getD r (generatorAt g + GFM) 0 ≡ getD m (generatorAt g + GFM) 0
-  pub gmode : runModeAt m g ≢ wait → runModeAt m g ≢ runningC → getD r (generatorAt g + GMODE) 0 ≡ getD m (generatorAt g + GMODE) 0
-  pub gmodeRest : getD r (generatorAt g + GMODE) 0 % 2 ^ 6 ≡ getD m (generatorAt g + GMODE) 0 % 2 ^ 6
-
-pub record ModifierKept (m r : List ℕ) (k : ℕ) : Type 0 where
-  pub min : getD r (modifierAt k + MIN) 0 ≡ getD m (modifierAt k + MIN) 0
-  pub mrm : getD r (modifierAt k + MRM) 0 ≡ getD m (modifierAt k + MRM) 0
-  pub msum : getD r (modifierAt k + MSUM) 0 ≡ getD m (modifierAt k + MSUM) 0
-  pub mmode : getD r (modifierAt k + MMODE) 0 ≡ getD m (modifierAt k + MMODE) 0
-
--- All settings of a machine.
-pub record SettingsKept (m r : List ℕ) : Type 0 where
-  pub generator : (g : ℕ) → g < 256 → GeneratorKept m r g
-  pub modifier : (k : ℕ) → k < 128 → ModifierKept m r k
-  pub dx : getD r dxAt 0 ≡ getD m dxAt 0
-  pub t : getD r tAt 0 ≡ getD m tAt 0
-  pub n : getD r nAt 0 ≡ getD m nAt 0
-  pub lingering : getD r lingeringAt 0 ≡ getD m lingeringAt 0
-  pub lingerPass : getD r lingerPassAt 0 ≡ getD m lingerPassAt 0
-  pub overrun : getD r overrunAt 0 ≡ getD m overrunAt 0
-
-same-settings : (m : List ℕ) → SettingsKept m m
+same-settings : (m : Machine) → SettingsKept m m
 same-settings m =
     record {
       generator = λ g h. record { go = refl; gn = refl; gm = refl; gp = refl; gl = refl; gsum = refl; gfm = refl; gmode = λ a b. refl; gmodeRest = refl };
@@ -150,21 +120,24 @@ same-settings m =
       overrun = refl;
     }
 
-module _ (m order items places : List ℕ) (p : Passed m order) where
-  abbrev last : List ℕ
-  last = ran m order items places .machine
+module _ (m : Machine) (call : Call) (p : Admitted m (call .order)) where
+  abbrev last : Machine
+  last = ran m call .machine
 
-  abbrev taken : State
-  taken = generatorsTaken m order items places
+  abbrev start : State
+  start = begun m (sumsOf m) (call .places)
+
+  abbrev done : State
+  done = generatorsDone m call
 
   -- From the generators to the end of the pass.
-  completed-at : (i : ℕ) → Elsewhere i (ticksOf m / 2) → Outside i 3840 256 → i ≢ counterAt → getD last i 0 ≡ getD (taken .words) i 0
+  completed-at : (i : ℕ) → Elsewhere i (ticksOf m / 2) → Outside i 3840 256 → i ≢ counterAt → getD last i 0 ≡ getD (done .words) i 0
   completed-at i a o c =
-      rw (ran-machine m order items places)
-      (completed-word (taken .words) (taken .sums) (ticksOf m / 2)
-      (steps-quadrants items order (begun m places) (rw (begun-sums m places) (sums-quadrants m (reaches m (p .whole))))) i a o c)
+      rw (ran-machine m call)
+      (completed-word (done .words) (done .sums) (ticksOf m / 2)
+      (steps-quadrants of1978 (call .items) (call .order) start (rw (begun-sums m (sumsOf m) (call .places)) (sums-quadrants m (reaches m (p .good .whole))))) i a o c)
 
-  generator-word : (i : ℕ) → i < 2816 → getD last i 0 ≡ getD (taken .words) i 0
+  generator-word : (i : ℕ) → i < 2816 → getD last i 0 ≡ getD (done .words) i 0
   generator-word i h =
       completed-at i (record { not-at = λ k j a b e. omega arith }) (outside-before i 3840 256 (omega arith)) (λ e. omega arith)
 
@@ -172,26 +145,26 @@ module _ (m order items places : List ℕ) (p : Passed m order) where
       → getD last (generatorAt g + j) 0 ≡ getD m (generatorAt g + j) 0
   setting-word g j h a b c d e =
       generator-word (generatorAt g + j) (omega (arith, ltb-true j 11 a))
-      ∙ steps-setting items order (begun m places) g j h (setting j a b c d e)
-      ∙ rw (begun-words m places)
+      ∙ steps-setting of1978 (call .items) (call .order) start g j h (setting j a b c d e)
+      ∙ rw (begun-words m (sumsOf m) (call .places))
 
   modifier-word : (k j : ℕ) → k < 128 → 4 ≤ j → j < 8 → getD last (modifierAt k + j) 0 ≡ getD m (modifierAt k + j) 0
   modifier-word k j h a b =
       completed-at (modifierAt k + j) (record { not-at = λ n i c d e. omega arith }) (outside-before (modifierAt k + j) 3840 256 (omega arith)) (λ e. omega arith)
-      ∙ steps-middle items order (begun m places) (p .below) (modifierAt k + j) (omega arith) (omega arith)
-      ∙ rw (begun-words m places)
+      ∙ steps-middle of1978 (call .items) (call .order) start (p .below) (modifierAt k + j) (omega arith) (omega arith)
+      ∙ rw (begun-words m (sumsOf m) (call .places))
 
   control-word : (i : ℕ) → 4112 ≤ i → i ≢ counterAt → getD last i 0 ≡ getD m i 0
   control-word i h c =
       completed-at i (record { not-at = λ n j a b e. omega (arith, p .ticks) }) (outside-after i 3840 256 (omega arith)) c
-      ∙ steps-beyond items order (begun m places) (p .below) i h
-      ∙ rw (begun-words m places)
+      ∙ steps-beyond of1978 (call .items) (call .order) start (p .below) sixteen i h
+      ∙ rw (begun-words m (sumsOf m) (call .places))
 
   mode-word : (g : ℕ) → g < 256 → ModeKept (getD m (generatorAt g + GMODE) 0) (getD last (generatorAt g + GMODE) 0)
   unfolding begun
   mode-word g h =
       rw (generator-word (generatorAt g + GMODE) (omega arith))
-      (steps-mode items order (begun m places) g h (p .below) (p .is-sound) (omega (arith, reaches m (p .whole) .all)))
+      (steps-mode (call .items) (call .order) start g h (p .below) (p .good .is-sound) (omega (arith, reaches m (p .good .whole) .all)))
 
   ran-settings : SettingsKept m last
   ran-settings =
@@ -224,7 +197,7 @@ module _ (m order items places : List ℕ) (p : Passed m order) where
       }
 
 -- A pass keeps the settings.
-pub pass-settings : (m order items places : List ℕ) → SettingsKept m (passOf m order items places .machine)
-pass-settings m order items places =
-    pass-by m order items places (λ (r : Outcome). SettingsKept m (r .machine))
-    (rw (refused-machine m order items places) (same-settings m)) (λ n. ran-settings m order items places (passed m order items places n))
+pub pass-settings : (m : Machine) (call : Call) → SettingsKept m (passOf m call .machine)
+pass-settings m call =
+    pass-by m call (λ (r : Outcome). SettingsKept m (r .machine))
+    (rw (refused-machine m call) (same-settings m)) (λ n. ran-settings m call (admitted m call n))

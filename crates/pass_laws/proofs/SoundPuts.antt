@@ -2,7 +2,7 @@
 -- Assumes nothing.
 use mathlib.Core.Path.{_≡_, refl, _∙_, ap}
 use mathlib.Core.Bool.{Bool, true, false, _&&_}
-use mathlib.Core.List.{List, []}
+use mathlib.Core.List.{[]}
 use Prim.Native.Nat.{ℕ, _+_, _-_, _*_, _/_, _%_, _^_, _≤_, _<_}
 use native.Mathlib.Omega.{arith}
 use native.Mathlib.Nat.{mod-eq-of-lt}
@@ -11,10 +11,12 @@ use lib.Dec.{eqb, ltb, lit<}
 use lib.ListN.{length, getD, set}
 use lib.Seq.{getD-drop}
 use Rattle.lists.specs.Lists.{isOneOf}
-use Rattle.lists.proofs.Below.{and-second, and-both}
+use Rattle.lists.proofs.Below.{and-second}
+use Rattle.lists.proofs.Choices.{of-cond}
 use Rattle.modes.specs.Modes.{builtRun, builtOscillator, wait, runningC}
 use Rattle.layout.specs.Layout.{machineLength, generatorAt, modifierAt, quadrantAt, dacAt, counterAt, GJ, GK, GQ, GMODE, M1, L0, L1}
-use Rattle.machine.specs.Questions.{bits, goodGmode, regions, testAt, sound}
+use Rattle.machine.specs.Questions.{goodGmode, regions, testAt, sound}
+use Rattle.machine.proofs.Words.{gmode-from, gmode-oscillator}
 use Rattle.machine.proofs.Regions.{region, start, unit-test}
 use Rattle.machine.proofs.SoundMachine.{sound-at, sound-from, sound-set, sound-generator}
 use Rattle.sums.specs.Sums.{generatorThis, modifierThis, fAt, closed}
@@ -22,25 +24,24 @@ use Rattle.sums.proofs.Blocks.{Outside, outside-before, outside-after}
 use Rattle.sums.proofs.Memory.{Quadrants, word-low}
 use Rattle.sums.proofs.Closing.{closed-outside, closed-generator-this, closed-generator-last, closed-modifier-this, closed-modifier-last}
 use Rattle.generator.specs.declared.Generator.{Generator}
-use Rattle.generator.specs.Generator.{loaded, runMode, withRunMode, triggers, gmodeAfter}
-use Rattle.pass_generators.specs.GeneratorStage.{generatorOf, putGenerator}
+use Rattle.generator.specs.Generator.{loaded, stored, runMode, withRunMode, triggers, gmodeAfter}
 use Rattle.modifier.specs.declared.Modifier.{Modifier}
-use Rattle.modifier.specs.Modifier.{Ranged as RangedModifier}
-use Rattle.pass_modifiers.specs.ModifierStage.{putModifier}
-use Rattle.pass.specs.Pass.{counted}
-use Rattle.pass_laws.proofs.Frames.{of-cond}
-use Rattle.layout.specs.Machine.{Reaches}
+use Rattle.modifier.specs.Modifier.{Ranged as RangedModifier, stored as storedModifier}
+use Rattle.pass_model.specs.Generators.{generatorOf}
+use Rattle.pass_model.specs.Pass.{counted}
+use Rattle.layout.specs.Machine.{Machine, Sums, Reaches}
+use Rattle.layout.specs.Widths.{counterBits}
 
 -- A word that passes the test of its register is put there.
-pub sound-put : (m : List ℕ) → sound m ≡ true → (k u j i v : ℕ) → u < region regions k .units → j < length (region regions k .tests)
-    → i ≡ start regions k + (length (region regions k .tests) * u + j) → i < machineLength → getD (region regions k .tests) j (λ y. true) v ≡ true
+pub sound-put : (m : Machine) → sound m ≡ true → (k u j i v : ℕ) → u < region regions k .units → j < length (region regions k .tests)
+    → i ≡ start regions k + (length (region regions k .tests) * u + j) → i < machineLength → getD (region regions k .tests) j (λ y. false) v ≡ true
     → sound (set m i v) ≡ true
 sound-put m e k u j i v h l q n p = sound-set m e i v n (ap (λ (at : ℕ). testAt regions at v) q ∙ unit-test regions k u j v h l ∙ p)
 
 -- The registers of generator g that a turn can change.
-pub sound-generator-put : (m : List ℕ) → sound m ≡ true → (g : ℕ) → g < 256 → (u : Generator)
-    → u .gj < 2 ^ 28 → u .gk < 2 ^ 20 → u .gq < 2 ^ 24 → goodGmode (u .gmode) ≡ true → sound (putGenerator m g u) ≡ true
-unfolding putGenerator regions
+pub sound-generator-put : (m : Machine) → sound m ≡ true → (g : ℕ) → g < 256 → (u : Generator)
+    → u .gj < 2 ^ 28 → u .gk < 2 ^ 20 → u .gq < 2 ^ 24 → goodGmode (u .gmode) ≡ true → sound (stored m (generatorAt g) u) ≡ true
+unfolding stored regions
 sound-generator-put m e g h u gj gk gq mode =
     let m1 = set m (generatorAt g + GJ) (u .gj) in
     let e1 = sound-put m e 0 g 1 (generatorAt g + GJ) (u .gj) h (lit< tt) (omega arith) (omega arith) (lt-ltb (u .gj) (2 ^ 28) gj) in
@@ -51,13 +52,13 @@ sound-generator-put m e g h u gj gk gq mode =
     sound-put m3 e3 0 g 10 (generatorAt g + GMODE) (u .gmode) h (lit< tt) (omega arith) (omega arith) mode
 
 -- A DAC word.
-pub sound-dac-put : (m : List ℕ) → sound m ≡ true → (d v : ℕ) → d < 16 → v < 2 ^ 20 → sound (set m (dacAt d) v) ≡ true
+pub sound-dac-put : (m : Machine) → sound m ≡ true → (d v : ℕ) → d < 16 → v < 2 ^ 20 → sound (set m (dacAt d) v) ≡ true
 unfolding regions
 sound-dac-put m e d v h l = sound-put m e 3 d 0 (dacAt d) v h (lit< tt) (omega arith) (omega arith) (lt-ltb v (2 ^ 20) l)
 
 -- M0, M1, L0 and L1 of a modifier.
-pub sound-modifier-put : (m : List ℕ) → sound m ≡ true → (k : ℕ) → k < 128 → (u : Modifier) → RangedModifier u → sound (putModifier m k u) ≡ true
-unfolding putModifier regions
+pub sound-modifier-put : (m : Machine) → sound m ≡ true → (k : ℕ) → k < 128 → (u : Modifier) → RangedModifier u → sound (storedModifier m (modifierAt k) u) ≡ true
+unfolding storedModifier regions
 sound-modifier-put m e k h u r =
     let m1 = set m (modifierAt k) (u .m0) in
     let e1 = sound-put m e 1 k 0 (modifierAt k) (u .m0) h (lit< tt) (omega arith) (omega arith) (lt-ltb (u .m0) (2 ^ 30) (r .m0-low)) in
@@ -68,11 +69,11 @@ sound-modifier-put m e k h u r =
     sound-put m3 e3 1 k 3 (modifierAt k + L1) (u .l1) h (lit< tt) (omega arith) (omega arith) (lt-ltb (u .l1) (2 ^ 20) (r .l1-low))
 
 -- The counter.
-pub sound-counted : (m : List ℕ) → sound m ≡ true → sound (counted m) ≡ true
+pub sound-counted : (m : Machine) → sound m ≡ true → sound (counted m) ≡ true
 unfolding counted regions
 sound-counted m e =
-    sound-put m e 4 0 3 counterAt ((getD m counterAt 0 + 1) % 2 ^ 20) (lit< tt) (lit< tt) refl (lit< tt)
-    (lt-ltb ((getD m counterAt 0 + 1) % 2 ^ 20) (2 ^ 20) (omega arith))
+    sound-put m e 4 0 3 counterAt ((getD m counterAt 0 + 1) % 2 ^ counterBits) (lit< tt) (lit< tt) refl (lit< tt)
+    (lt-ltb ((getD m counterAt 0 + 1) % 2 ^ counterBits) (2 ^ 20) (omega arith))
 
 -- A word of sum memory.
 sum-passes : (i v : ℕ) → 3840 ≤ i → i < 4096 → v < 2 ^ 20 → testAt regions i v ≡ true
@@ -83,7 +84,7 @@ sum-passes i v a b l =
     ap (λ (at : ℕ). testAt regions at v) q ∙ unit-test regions 2 u 0 v (omega arith) (lit< tt) ∙ lt-ltb v (2 ^ 20) l
 
 -- The end of a pass, where the words of both this-pass quadrants have 20 bits.
-pub sound-closed : (m : List ℕ) (s : List (List ℕ)) → sound m ≡ true → Reaches m → Quadrants s
+pub sound-closed : (m : Machine) (s : Sums) → sound m ≡ true → Reaches m → Quadrants s
     → ((i : ℕ) → i < 64 → getD (getD s generatorThis []) i 0 < 2 ^ 20) → ((i : ℕ) → i < 64 → getD (getD s modifierThis []) i 0 < 2 ^ 20)
     → sound (closed m s) ≡ true
 sound-closed m s e r k low₀ low₂ = sound-from (closed m s) (λ i h. passes i h (ltb i 3840) (ltb i 3904) (ltb i 3968) (ltb i 4032) (ltb i 4096) refl refl refl refl refl)
@@ -119,7 +120,7 @@ sound-closed m s e r k low₀ low₂ = sound-from (closed m s) (λ i h. passes i
     passes i h false false false false false ea eb ec ed ef = outside i h (outside-after i 3840 256 (ltb-false i 4096 ef))
 
 -- F has 20 bits.
-pub f-low : (s : List (List ℕ)) (gfm : ℕ) → fAt s gfm < 2 ^ 20
+pub f-low : (s : Sums) (gfm : ℕ) → fAt s gfm < 2 ^ 20
 unfolding fAt
 f-low s gfm = word-low _ _
 
@@ -130,9 +131,7 @@ good-run r x h b good =
     let low : y < 2 ^ 10 = omega arith in
     let top : y / 2 ^ 6 ≡ r = omega arith in
     let rest : y % 2 ^ 4 ≡ x % 2 ^ 4 = omega arith in
-    and-both (bits 10 y && builtRun (y / 2 ^ 6)) (builtOscillator (y % 2 ^ 4))
-    (and-both (bits 10 y) (builtRun (y / 2 ^ 6)) (lt-ltb y (2 ^ 10) low) (ap builtRun top ∙ b))
-    (ap builtOscillator rest ∙ and-second (bits 10 x && builtRun (x / 2 ^ 6)) (builtOscillator (x % 2 ^ 4)) good)
+    gmode-from y low (ap builtRun top ∙ b) (ap builtOscillator rest ∙ gmode-oscillator x good)
 
 pub good-after : (u : Generator) (told : Bool) → goodGmode (u .gmode) ≡ true → goodGmode (gmodeAfter u told) ≡ true
 unfolding gmodeAfter builtRun isOneOf
@@ -141,15 +140,11 @@ good-after u told good =
     (of-cond (λ (x : ℕ). goodGmode x ≡ true) (eqb (runMode u) wait && told) (good-run runningC (u .gmode) (lit< tt) refl good) good)
 
 -- GMODE of a generator that is loaded from a sound machine is the word itself, and good.
-pub gmode-loaded : (m : List ℕ) → sound m ≡ true → (g : ℕ) → g < 256 → generatorOf m g .gmode ≡ getD m (generatorAt g + GMODE) 0
+pub gmode-loaded : (m : Machine) → sound m ≡ true → (g : ℕ) → g < 256 → generatorOf m g .gmode ≡ getD m (generatorAt g + GMODE) 0
 unfolding generatorOf loaded
 gmode-loaded m e g h = rw (getD-drop (generatorAt g) m 10 0) (mod-eq-of-lt (sound-generator m e g h .gmode))
 
-pub gmode-good : (m : List ℕ) → sound m ≡ true → (g : ℕ) → g < 256 → goodGmode (generatorOf m g .gmode) ≡ true
+pub gmode-good : (m : Machine) → sound m ≡ true → (g : ℕ) → g < 256 → goodGmode (generatorOf m g .gmode) ≡ true
 gmode-good m e g h =
     let s = sound-generator m e g h in
-    let x = getD m (generatorAt g + GMODE) 0 in
-    rw (gmode-loaded m e g h)
-    (and-both (bits 10 x && builtRun (x / 2 ^ 6)) (builtOscillator (x % 2 ^ 4))
-    (and-both (bits 10 x) (builtRun (x / 2 ^ 6)) (lt-ltb x (2 ^ 10) (s .gmode)) (s .run))
-    (s .oscillator))
+    rw (gmode-loaded m e g h) (gmode-from (getD m (generatorAt g + GMODE) 0) (s .gmode) (s .run) (s .oscillator))

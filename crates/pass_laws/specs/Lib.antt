@@ -1,1 +1,4 @@
+pub mod Good
+pub mod Registers
 pub mod Passes
+pub mod Settings

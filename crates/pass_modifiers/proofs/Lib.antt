@@ -1,5 +1,2 @@
-pub mod Registers
-pub mod Views
-pub mod Stage
 pub mod Ring
 pub mod Lags

@@ -1,2 +1,1 @@
-pub mod ModifierStage
 pub mod Loops

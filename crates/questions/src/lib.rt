@@ -1,1 +1,1 @@
-// Lists that are given by a rule: definitions and laws alone, no code.
+// Questions that are asked in sequence, and the number of the first that fails: definitions and laws alone, no code.

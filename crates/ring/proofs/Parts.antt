@@ -8,19 +8,20 @@ use native.Mathlib.Omega.{arith}
 use lib.Dec.{lit≤}
 use lib.ListN.{length}
 use lib.Seq.{sets, length-sets}
-use Rattle.bench_text.specs.Text.{refusalLine}
+use Rattle.bench_text.specs.Text.{lineBytes, refusalLine}
 use Rattle.bench_text.proofs.Lines.{refusal-line-length}
-use Rattle.bench_file.specs.BenchFile.{Answer, answer, readOf}
-use Rattle.bench_ringing.specs.Ringing.{Ringing}
-use Rattle.bench_ringing.specs.Gathering.{gathered}
+use Rattle.layout.specs.Layout.{machineLength}
+use Rattle.bench_file.specs.BenchFile.{commandPlaces, Answer, readOf}
+use Rattle.bench_ringing.specs.Steps.{Ringing}
 use Rattle.bench_ringing.proofs.RungFile.{read-count, read-room, read-machine}
-use Rattle.bench_ringing.proofs.Gatherings.{gathered-length, gathered-falls}
+use Rattle.bench_gathering.specs.Gathering.{gathered}
+use Rattle.bench_gathering.proofs.Gatherings.{gathered-length, gathered-falls}
 
 -- What was put into a buffer has room in it.
 put-within : (line bytes : List ℕ) {size : ℕ} {after : List ℕ} → length bytes ≤ length line → size ≡ length bytes → after ≡ sets line 0 bytes → size ≤ length after
 put-within line bytes h es ea = omega (arith, es, ap length ea, length-sets line 0 bytes)
 
-pub refusal-within : (line : List ℕ) (n : ℕ) {size : ℕ} {after : List ℕ} → length line ≡ 64
+pub refusal-within : (line : List ℕ) (n : ℕ) {size : ℕ} {after : List ℕ} → length line ≡ lineBytes
     → (size ≡ length (refusalLine n)) × (after ≡ sets line 0 (refusalLine n)) → size ≤ length after
 refusal-within line n e (es, ea) = put-within line (refusalLine n) (omega (arith, refusal-line-length n)) es ea
 
@@ -28,13 +29,13 @@ pub gathered-within : (out : List ℕ) (r : Ringing) {size : ℕ} {after : List 
     → after ≡ sets out 0 (gathered (length out) r .bytes) → size ≤ length after
 gathered-within out r es ea = put-within out (gathered (length out) r .bytes) (gathered-length (length out) r) es ea
 
-pub read-within : (text m room : List ℕ) {number passes count : ℕ} {m' room' : List ℕ} → length room ≡ 4096
-    → answer number passes count m' room' ≡ readOf text m room → count ≤ length room'
+pub read-within : (text m room : List ℕ) {number passes count : ℕ} {m' room' : List ℕ} → length room ≡ commandPlaces
+    → record { number = number; passes = passes; count = count; machine = m'; room = room' } ≡ readOf text m room → count ≤ length room'
 read-within text m room h e =
     omega (arith, read-count text m room, read-room text m room, ap (λ (a : Answer). a .count) e, ap (λ (a : Answer). length (a .room)) e)
 
-pub read-whole : (text m room : List ℕ) {number passes count : ℕ} {m' room' : List ℕ} → length m ≡ 4119
-    → answer number passes count m' room' ≡ readOf text m room → 4119 ≡ length m'
+pub read-whole : (text m room : List ℕ) {number passes count : ℕ} {m' room' : List ℕ} → length m ≡ machineLength
+    → record { number = number; passes = passes; count = count; machine = m'; room = room' } ≡ readOf text m room → machineLength ≡ length m'
 read-whole text m room h e = sym (ap (λ (a : Answer). length (a .machine)) e ∙ read-machine text m room h)
 
 -- Each part leaves fewer passes.

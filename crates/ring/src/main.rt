@@ -1,23 +1,25 @@
 // Program ring: rings the bench file on standard input and prints a line for each pass, or a refusal.
 ghost use mathlib.Core.Path.{_≡_};
-ghost use lib.ListN.{drop};
-ghost use Rattle.bench_ringing.specs.Ringing.{ringing};
-ghost use Rattle.bench_ringing.specs.Gathering.{gathered};
+ghost use Rattle.bench_ringing.specs.Steps.{ringingAt};
+ghost use Rattle.bench_gathering.specs.Gathering.{gathered};
 use bench_ringing::Progress;
+
+// The buffer for lines that are printed together.
+const OUTPUT_BYTES: usize = 8192;
 
 // Prints the line of a refusal.
 fn refuse(n: u32) {
-    let mut line = [0u8; 64];
+    let mut line = [0u8; bench_text::LINE_BYTES];
     let size = bench_text::refusal_line(&mut line, n);
     io::write_all(1, &line[0..size]);
 }
 
-// Rings as many passes as a buffer of 8,192 bytes has room for, and prints them.
+// Rings as many passes as the buffer has room for, and prints them.
 fn ring_part(at: Progress, m: &mut [u32], commands: &[u32]) -> Progress
-    ensures { λ r. ⌜ ringing (r .passes) (now (m .exit)) (drop (r .taken) (now (commands .entry))) ≡ gathered 8192 (ringing (at .passes) (now (m .entry)) (drop (at .taken) (now (commands .entry)))) .next ⌝ }
+    ensures { λ r. ⌜ ringingAt r (now (m .exit)) (now (commands .entry)) ≡ gathered 8192 (ringingAt at (now (m .entry)) (now (commands .entry))) .next ⌝ }
 {
-    let mut out = [0u8; 8192];
-    let next = bench_ringing::gather(at, m, commands, &mut out);
+    let mut out = [0u8; OUTPUT_BYTES];
+    let next = bench_gathering::gather(at, m, commands, &mut out);
     let passes = next.passes;
     let taken = next.taken;
     let length = next.length;
@@ -44,8 +46,8 @@ fn ring_all(m: &mut [u32], commands: &[u32], passes: u32) {
 
 // Rings a text.
 fn ring(text: &[u8]) {
-    let mut m = [0u32; 4119];
-    let mut room = [0u32; 4096];
+    let mut m = [0u32; layout::MACHINE_LENGTH];
+    let mut room = [0u32; bench_file::COMMAND_PLACES];
     let file = bench_file::read(text, &mut m, &mut room);
     if file.number != 0 {
         refuse(file.number);
@@ -57,7 +59,7 @@ fn ring(text: &[u8]) {
 
 // One byte more than a file may have is read, so that a longer one is told apart.
 fn main() {
-    let mut text = [0u8; 65537];
+    let mut text = [0u8; bench_lines::FILE_BYTES + 1];
     let n = io::read_full(0, &mut text);
     ring(&text[..n]);
 }

@@ -3,8 +3,10 @@ ghost use mathlib.Core.Path.{_≡_};
 ghost use Prim.Native.Nat.{_<_};
 ghost use Rattle.sine.specs.Sine.{quarter, indexOf, negative, magnitude};
 
+pub type Quarter = [u16; 2048];
+
 // The quarter sine: entry j at place j.
-const QUARTER: [u16; 2048] = [
+const SINE: Quarter = [
     1,
     4,
     7,
@@ -2056,10 +2058,10 @@ const QUARTER: [u16; 2048] = [
 ];
 
 // The quarter table, which a caller copies once and hands to `magnitude`.
-pub fn table() -> [u16; 2048]
+pub fn table() -> Quarter
     ensures { λ r. ⌜ r ≡ quarter ⌝ }
 {
-    QUARTER
+    SINE
 }
 
 // The place in the quarter table for K read unsigned, k.
@@ -2090,7 +2092,7 @@ fn wide(x: u16) -> u32
 }
 
 // The magnitude of the sine of k.
-pub fn magnitude(t: &[u16; 2048], k: u32) -> u32
+pub fn magnitude(t: &Quarter, k: u32) -> u32
     requires { ⌜ (now t ≡ quarter) × (k < 8192) ⌝ }
     ensures { λ r. ⌜ r ≡ magnitude k ⌝ }
 {

@@ -5,11 +5,14 @@ ghost use Prim.Native.Nat.{_≤_, _<_, _^_};
 ghost use mathlib.Core.Bool.{true};
 ghost use lib.ListN.{length};
 ghost use Rattle.sine.specs.Sine.{quarter};
-ghost use Rattle.exponential.specs.Exponential.{entries};
+ghost use Rattle.exponential.specs.Exponential.{tableSize, entries};
 ghost use Rattle.modes.specs.Modes.{rows, switchesOf, envelopeOn};
 ghost use Rattle.generator.specs.Generator.{Ranged, runMode};
+use exponential::Entries;
 use generator::Generator;
+use modes::Rows;
 use modes::Switches;
+use sine::Quarter;
 use std::num;
 
 // The words of the input after the first two.
@@ -59,13 +62,13 @@ fn sound_at(
     unit: Generator,
     on: Switches,
     sums: &mut [u32; 64],
-    sine: &[u16; 2048],
-    decay: &[u16; 256],
+    sine: &Quarter,
+    decay: &Entries,
 ) -> u32
     requires { ⌜ (length (now m) ≡ 2816) × (n < 256) ⌝ }
     requires { ⌜ Ranged unit ⌝ }
     requires { ⌜ (on ≡ switchesOf (runMode unit)) × (envelopeOn (runMode unit) ≡ true) ⌝ }
-    requires { ⌜ (now sine ≡ quarter) × (now decay ≡ entries 256) ⌝ }
+    requires { ⌜ (now sine ≡ quarter) × (now decay ≡ entries tableSize) ⌝ }
 {
     let f = sum_at(sums, unit.gfm);
     let sounded = unit.sound(sine, decay, on, f);
@@ -82,12 +85,12 @@ fn turn_at(
     m: &mut [u32],
     n: usize,
     sums: &mut [u32; 64],
-    sine: &[u16; 2048],
-    decay: &[u16; 256],
-    modes: &[[u8; 4]; 16],
+    sine: &Quarter,
+    decay: &Entries,
+    modes: &Rows,
 ) -> u32
     requires { ⌜ (length (now m) ≡ 2816) × (n < 256) ⌝ }
-    requires { ⌜ (now sine ≡ quarter) × (now decay ≡ entries 256) × (now modes ≡ rows) ⌝ }
+    requires { ⌜ (now sine ≡ quarter) × (now decay ≡ entries tableSize) × (now modes ≡ rows) ⌝ }
 {
     let unit = generator_at(m, n);
     let on = modes::switches_of(modes, unit.gmode / 64);
@@ -102,12 +105,12 @@ fn round(
     m: &mut [u32],
     sums: &mut [u32; 64],
     fired: u32,
-    sine: &[u16; 2048],
-    decay: &[u16; 256],
-    modes: &[[u8; 4]; 16],
+    sine: &Quarter,
+    decay: &Entries,
+    modes: &Rows,
 ) -> u32
     requires { ⌜ length (now m) ≡ 2816 ⌝ }
-    requires { ⌜ (now sine ≡ quarter) × (now decay ≡ entries 256) × (now modes ≡ rows) ⌝ }
+    requires { ⌜ (now sine ≡ quarter) × (now decay ≡ entries tableSize) × (now modes ≡ rows) ⌝ }
 {
     let mut fired = fired;
     let mut n: usize = 0;

@@ -7,7 +7,8 @@ use Prim.Native.Nat.{ℕ, zero, suc, _+_, _-_, _≤_, _<_}
 use native.Mathlib.Omega.{arith}
 use native.Mathlib.Nat.{zero-add, add-zero, suc-add, add-suc, not-suc-le-zero}
 use lib.ListN.{length, getD, set, take, drop, length-set, length-drop, take-append-drop, drop-of-length-le}
-use lib.Seq.{sets, getD-set-same, getD-set-other, length-take-le, take-all}
+use lib.Seq.{sets, getD-set-same, getD-set-other, length-take-le}
+use Rattle.lists.proofs.Parts.{part-from}
 
 -- Place j is none of the n places from i on.
 pub record Outside (j i n : ℕ) : Type 0 where
@@ -50,10 +51,7 @@ module _ {A : Type 0} where
   sets-behind p q [] j = refl
   sets-behind p q (v ∷ vs) j = rw (set-behind p q j v, ← add-suc) (sets-behind p (set q j v) vs (suc j))
 
-  -- The part from a place to the end, as it is lent.
-  pub part-from : (m : List A) (at : ℕ) → take (length m - at) (drop at m) ≡ drop at m
-  part-from m at = take-all (length m - at) (drop at m) (omega (arith, length-drop at m))
-
+  -- Behind the part from a place to the end, as it is lent, there is nothing.
   pub part-rest : (m : List A) (at : ℕ) → drop (length m - at) (drop at m) ≡ []
   part-rest m at = drop-of-length-le (drop at m) {i = length m - at} (omega (arith, length-drop at m))
 

@@ -4,8 +4,10 @@ use mathlib.Core.Path.{_≡_, refl, _∙_}
 use mathlib.Core.List.{List, []}
 use Prim.Native.Nat.{ℕ, _+_, _<_}
 use native.Mathlib.Omega.{arith}
-use lib.ListN.{length, getD, replicate, length-replicate, getD-replicate}
+use lib.ListN.{length, getD, replicate}
 use lib.Seq.{sets, length-sets}
+use Rattle.lists.specs.Lists.{zeros}
+use Rattle.lists.proofs.Zeros.{zeros-length, zeros-at}
 use Rattle.layout.specs.Layout.{quadrantAt}
 use Rattle.sums.specs.Sums.{generatorThis, generatorLast, modifierThis, modifierLast, closed}
 use Rattle.sums.proofs.Blocks.{Outside, outside-before, getD-outside, getD-inside}
@@ -23,20 +25,8 @@ pub closed-length : (words : List ℕ) (s : List (List ℕ)) → length (closed 
 unfolding closed
 closed-length words s = simp length-sets
 
--- A quadrant that is cleared.
-zeros : List ℕ
-zeros = replicate 64 0
-
-zeros-length : length zeros ≡ 64
-unfolding zeros
-zeros-length = length-replicate {A = ℕ} 64 0
-
-zeros-word : (i : ℕ) → i < 64 → getD zeros i 0 ≡ 0
-unfolding zeros
-zeros-word i h = getD-replicate {A = ℕ} 64 i 0 0 h
-
 closed-is : (words : List ℕ) (s : List (List ℕ)) →
-    closed words s ≡ sets (sets (sets (sets words 3840 zeros) 3904 (getD s 0 [])) 3968 zeros) 4032 (getD s 2 [])
+    closed words s ≡ sets (sets (sets (sets words 3840 (zeros 64)) 3904 (getD s 0 [])) 3968 (zeros 64)) 4032 (getD s 2 [])
 unfolding closed zeros
 closed-is words s = refl
 
@@ -52,9 +42,9 @@ module _ (words : List ℕ) (s : List (List ℕ)) (k : Quadrants s) where
   closed-outside j o =
       rw (closed-is words s)
       (getD-outside (getD s 2 []) _ 4032 j 0 (record { out = λ n h e. o .out (192 + n) (omega (arith, modifiers)) (omega arith) })
-      ∙ getD-outside zeros _ 3968 j 0 (record { out = λ n h e. o .out (128 + n) (omega (arith, zeros-length)) (omega arith) })
+      ∙ getD-outside (zeros 64) _ 3968 j 0 (record { out = λ n h e. o .out (128 + n) (omega (arith, zeros-length 64)) (omega arith) })
       ∙ getD-outside (getD s 0 []) _ 3904 j 0 (record { out = λ n h e. o .out (64 + n) (omega (arith, generators)) (omega arith) })
-      ∙ getD-outside zeros words 3840 j 0 (record { out = λ n h e. o .out n (omega (arith, zeros-length)) (omega arith) }))
+      ∙ getD-outside (zeros 64) words 3840 j 0 (record { out = λ n h e. o .out n (omega (arith, zeros-length 64)) (omega arith) }))
 
   module _ (r : Reaches words) (i : ℕ) (h : i < 64) where
     -- Both this-pass quadrants are cleared.
@@ -62,24 +52,24 @@ module _ (words : List ℕ) (s : List (List ℕ)) (k : Quadrants s) where
     closed-generator-this =
         rw (closed-is words s)
         (getD-outside (getD s 2 []) _ 4032 (3840 + i) 0 (outside-before (3840 + i) 4032 _ (omega arith))
-        ∙ getD-outside zeros _ 3968 (3840 + i) 0 (outside-before (3840 + i) 3968 _ (omega arith))
+        ∙ getD-outside (zeros 64) _ 3968 (3840 + i) 0 (outside-before (3840 + i) 3968 _ (omega arith))
         ∙ getD-outside (getD s 0 []) _ 3904 (3840 + i) 0 (outside-before (3840 + i) 3904 _ (omega arith))
-        ∙ getD-inside zeros words 3840 i 0 (omega (arith, r .all, zeros-length)) (omega (arith, zeros-length))
-        ∙ zeros-word i h)
+        ∙ getD-inside (zeros 64) words 3840 i 0 (omega (arith, r .all, zeros-length 64)) (omega (arith, zeros-length 64))
+        ∙ zeros-at 64 i h)
 
     pub closed-modifier-this : getD (closed words s) (quadrantAt modifierThis + i) 0 ≡ 0
     closed-modifier-this =
         rw (closed-is words s)
         (getD-outside (getD s 2 []) _ 4032 (3968 + i) 0 (outside-before (3968 + i) 4032 _ (omega arith))
-        ∙ getD-inside zeros _ 3968 i 0 (simp length-sets (omega (arith, r .all, zeros-length))) (omega (arith, zeros-length))
-        ∙ zeros-word i h)
+        ∙ getD-inside (zeros 64) _ 3968 i 0 (simp length-sets (omega (arith, r .all, zeros-length 64))) (omega (arith, zeros-length 64))
+        ∙ zeros-at 64 i h)
 
     -- Both last quadrants are what this pass has left.
     pub closed-generator-last : getD (closed words s) (quadrantAt generatorLast + i) 0 ≡ getD (getD s generatorThis []) i 0
     closed-generator-last =
         rw (closed-is words s)
         (getD-outside (getD s 2 []) _ 4032 (3904 + i) 0 (outside-before (3904 + i) 4032 _ (omega arith))
-        ∙ getD-outside zeros _ 3968 (3904 + i) 0 (outside-before (3904 + i) 3968 _ (omega arith))
+        ∙ getD-outside (zeros 64) _ 3968 (3904 + i) 0 (outside-before (3904 + i) 3968 _ (omega arith))
         ∙ getD-inside (getD s 0 []) _ 3904 i 0 (simp length-sets (omega (arith, r .all, generators))) (omega (arith, generators)))
 
     pub closed-modifier-last : getD (closed words s) (quadrantAt modifierLast + i) 0 ≡ getD (getD s modifierThis []) i 0

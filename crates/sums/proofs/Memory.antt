@@ -10,7 +10,7 @@ use native.Mathlib.Omega.{arith}
 use lib.Dec.{eqb}
 use lib.Pow.{pow-pos}
 use lib.ListN.{length, getD, set, take, drop, length-set, length-drop}
-use lib.Seq.{length-take-le, getD-take, getD-drop, getD-set-same, getD-set-other}
+use lib.Seq.{length-take-le, getD-take, getD-drop, getD-set-other}
 use Rattle.layout.specs.Layout.{quadrantAt}
 use Rattle.words.specs.Words.{sum, Word}
 use Rattle.sums.specs.Sums.{quadrantOf, sumsOf, wordAt, sumAt, putSum, fAt}
@@ -97,18 +97,6 @@ put-quadrants s i v k = record {
   four = put-length s i v ∙ k .four;
   each = λ q h. put-quadrant-length s i v q ∙ k .each q h;
 }
-
--- F is kept, and so is each other word of generator-this.
-pub put-f : (s : List (List ℕ)) (i v gfm : ℕ) → fAt (putSum s i v) gfm ≡ fAt s gfm
-put-f s i v gfm = f-only (putSum s i v) s gfm (put-other s i v 1 (λ e. omega arith)) (put-other s i v 3 (λ e. omega arith))
-
-pub put-sum : (s : List (List ℕ)) (i v : ℕ) → i < length (getD s 0 []) → sumAt (putSum s i v) i ≡ v % 2 ^ 20
-unfolding sumAt wordAt
-put-sum s i v h = rw (put-this s i v, getD-set-same (getD s 0 []) i v 0 h)
-
-pub put-sum-other : (s : List (List ℕ)) (i j v : ℕ) → j ≢ i → sumAt (putSum s i v) j ≡ sumAt s j
-unfolding sumAt wordAt
-put-sum-other s i j v h = rw (put-this s i v, getD-set-other (getD s 0 []) i j v 0 h)
 
 -- The code's store, of a value r at the place i, and of a sum.
 pub put-code : (s : List (List ℕ)) (g v : ℕ) {i r : ℕ} → i ≡ g → r ≡ v → set s 0 (set (getD s 0 []) i r) ≡ putSum s g v

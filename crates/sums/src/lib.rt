@@ -8,61 +8,74 @@ ghost use Rattle.layout.specs.Machine.{Reaches};
 ghost use Rattle.words.specs.Words.{sum, Word};
 ghost use Rattle.sums.specs.Sums.{sumsOf, wordAt, sumAt, putSum, fAt, closed};
 
+// A quadrant, and sum memory: the quadrants by number.
+pub type Quadrant = [u32; layout::QUADRANT_WORDS];
+
+pub type Sums = [Quadrant; layout::QUADRANTS];
+
+pub const GENERATOR_THIS: usize = 0;
+
+pub const GENERATOR_LAST: usize = 1;
+
+pub const MODIFIER_THIS: usize = 2;
+
+pub const MODIFIER_LAST: usize = 3;
+
 // The word at a place of a quadrant.
-pub fn word_at(q: &[u32; 64], i: usize) -> u32
+pub fn word_at(q: &Quadrant, i: usize) -> u32
     requires { ⌜ i < 64 ⌝ }
     ensures { λ r. ⌜ Word (wordAt (now (q .entry)) i) r ⌝ }
 {
-    q[i] % 1048576
+    q[i] % layout::WORD_LIMIT
 }
 
 // The word at a place of quadrant k.
-pub fn quadrant_word(s: &[[u32; 64]; 4], k: usize, i: usize) -> u32
+pub fn quadrant_word(s: &Sums, k: usize, i: usize) -> u32
     requires { ⌜ (k < 4) × (i < 64) ⌝ }
     ensures { λ r. ⌜ Word (wordAt (getD (now (s .entry)) k []) i) r ⌝ }
 {
-    s[k][i] % 1048576
+    s[k][i] % layout::WORD_LIMIT
 }
 
 // F: the word that GFM names.
-pub fn f_at(s: &[[u32; 64]; 4], gfm: u32) -> u32
+pub fn f_at(s: &Sums, gfm: u32) -> u32
     requires { ⌜ gfm < 2 ^ 7 ⌝ }
     ensures { λ r. ⌜ Word (fAt (now (s .entry)) gfm) r ⌝ }
 {
     let i = (gfm % 64) as usize;
     if gfm / 64 == 0 {
-        return quadrant_word(s, 1, i);
+        return quadrant_word(s, GENERATOR_LAST, i);
     }
-    quadrant_word(s, 3, i)
+    quadrant_word(s, MODIFIER_LAST, i)
 }
 
 // P is added into generator-this word gsum.
-pub fn add(s: &mut [[u32; 64]; 4], gsum: u32, p: u32)
+pub fn add(s: &mut Sums, gsum: u32, p: u32)
     requires { ⌜ (gsum < 2 ^ 6) × (p < 2 ^ 20) ⌝ }
     ensures { λ r. ⌜ now (s .exit) ≡ putSum (now (s .entry)) gsum (sum 20 (sumAt (now (s .entry)) gsum) p) ⌝ }
 {
     let i = (gsum % 64) as usize;
-    let v = words::add20(quadrant_word(s, 0, i), p);
-    s[0][i] = v;
+    let sum = words::add20(quadrant_word(s, GENERATOR_THIS, i), p);
+    s[GENERATOR_THIS][i] = sum;
 }
 
 // Generator-this word gsum is replaced.
-pub fn replace(s: &mut [[u32; 64]; 4], gsum: u32, v: u32)
+pub fn replace(s: &mut Sums, gsum: u32, v: u32)
     requires { ⌜ gsum < 2 ^ 6 ⌝ }
     ensures { λ r. ⌜ now (s .exit) ≡ putSum (now (s .entry)) gsum v ⌝ }
 {
     let i = (gsum % 64) as usize;
-    s[0][i] = v;
+    s[GENERATOR_THIS][i] = v;
 }
 
 // The 64 words that a part of the machine starts with.
-fn quadrant(m: &[u32]) -> [u32; 64]
+fn quadrant(m: &[u32]) -> Quadrant
     requires { ⌜ 64 ≤ length (now m) ⌝ }
     ensures { λ r. ⌜ r ≡ take 64 (now (m .entry)) ⌝ }
 {
-    let mut w = [0u32; 64];
+    let mut w = [0u32; layout::QUADRANT_WORDS];
     let mut i: usize = 0;
-    while i < 64 {
+    while i < layout::QUADRANT_WORDS {
         w[i] = m[i];
         i += 1;
     }
@@ -70,7 +83,7 @@ fn quadrant(m: &[u32]) -> [u32; 64]
 }
 
 // The 64 words of the machine from a place on.
-fn quadrant_at(m: &[u32], at: usize) -> [u32; 64]
+fn quadrant_at(m: &[u32], at: usize) -> Quadrant
     requires { ⌜ at + 64 ≤ length (now m) ⌝ }
     ensures { λ r. ⌜ r ≡ take 64 (drop at (now (m .entry))) ⌝ }
 {
@@ -78,7 +91,7 @@ fn quadrant_at(m: &[u32], at: usize) -> [u32; 64]
 }
 
 // The sum memory of a machine.
-pub fn load(m: &[u32]) -> [[u32; 64]; 4]
+pub fn load(m: &[u32]) -> Sums
     requires { ⌜ Reaches (now m) ⌝ }
     ensures { λ r. ⌜ r ≡ sumsOf (now (m .entry)) ⌝ }
 {
@@ -95,14 +108,14 @@ fn put_quadrant(m: &mut [u32], w: &[u32])
     ensures { λ r. ⌜ now (m .exit) ≡ sets (now (m .entry)) 0 (now (w .entry)) ⌝ }
 {
     let mut k: usize = 0;
-    while k < 64 {
+    while k < layout::QUADRANT_WORDS {
         m[k] = w[k];
         k += 1;
     }
 }
 
 // A quadrant is written from a place of the machine on.
-fn put_quadrant_at(m: &mut [u32], at: usize, w: &[u32; 64])
+fn put_quadrant_at(m: &mut [u32], at: usize, w: &Quadrant)
     requires { ⌜ at + 64 ≤ length (now m) ⌝ }
     ensures { λ r. ⌜ now (m .exit) ≡ sets (now (m .entry)) at (now (w .entry)) ⌝ }
 {
@@ -110,13 +123,13 @@ fn put_quadrant_at(m: &mut [u32], at: usize, w: &[u32; 64])
 }
 
 // The end of a pass: both this-pass quadrants are copied to last, and cleared.
-pub fn close(m: &mut [u32], s: &[[u32; 64]; 4])
+pub fn close(m: &mut [u32], s: &Sums)
     requires { ⌜ Reaches (now m) ⌝ }
     ensures { λ r. ⌜ now (m .exit) ≡ closed (now (m .entry)) (now (s .entry)) ⌝ }
 {
-    let zeros = [0u32; 64];
+    let zeros = [0u32; layout::QUADRANT_WORDS];
     put_quadrant_at(m, layout::GENERATOR_THIS_AT, &zeros);
-    put_quadrant_at(m, layout::GENERATOR_LAST_AT, &s[0]);
+    put_quadrant_at(m, layout::GENERATOR_LAST_AT, &s[GENERATOR_THIS]);
     put_quadrant_at(m, layout::MODIFIER_THIS_AT, &zeros);
-    put_quadrant_at(m, layout::MODIFIER_LAST_AT, &s[2]);
+    put_quadrant_at(m, layout::MODIFIER_LAST_AT, &s[MODIFIER_THIS]);
 }

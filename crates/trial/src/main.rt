@@ -5,20 +5,23 @@ ghost use mathlib.Core.Bool.{true};
 ghost use Prim.Native.Nat.{_+_, _*_, _≤_, _<_, _^_};
 ghost use lib.ListN.{length};
 ghost use Rattle.sine.specs.Sine.{quarter};
-ghost use Rattle.exponential.specs.Exponential.{entries};
+ghost use Rattle.exponential.specs.Exponential.{tableSize, entries};
 ghost use Rattle.modes.specs.Modes.{rows, switchesOf, envelopeOn};
 ghost use Rattle.generator.specs.Generator.{Ranged, runMode};
 ghost use Rattle.modifier.specs.Modifier.{Ranged as InRange};
+use exponential::Entries;
 use generator::Generator;
+use modes::Rows;
 use modes::Switches;
 use modifier::Modifier;
+use sine::Quarter;
 
 fn flag(b: bool) -> u32 {
     if b { 1 } else { 0 }
 }
 
 // Whether the sine of k is negative, and its magnitude.
-fn sine_of(x: &[u32; 16], sine: &[u16; 2048]) -> [u32; 16]
+fn sine_of(x: &[u32; 16], sine: &Quarter) -> [u32; 16]
     requires { ⌜ now sine ≡ quarter ⌝ }
 {
     let k = x[1] % 8192;
@@ -29,8 +32,8 @@ fn sine_of(x: &[u32; 16], sine: &[u16; 2048]) -> [u32; 16]
 }
 
 // The exponential of the high bits of GQ.
-fn exponential_of(x: &[u32; 16], decay: &[u16; 256]) -> [u32; 16]
-    requires { ⌜ now decay ≡ entries 256 ⌝ }
+fn exponential_of(x: &[u32; 16], decay: &Entries) -> [u32; 16]
+    requires { ⌜ now decay ≡ entries tableSize ⌝ }
 {
     let mut r = [0u32; 16];
     r[0] = exponential::exponential(decay, x[1] % 16777216);
@@ -74,17 +77,11 @@ fn registers(unit: Generator) -> [u32; 16] {
 }
 
 // The turn of a generator whose envelope is on: its words afterwards, P, and whether it triggers.
-fn sounded(
-    unit: Generator,
-    on: Switches,
-    f: u32,
-    sine: &[u16; 2048],
-    decay: &[u16; 256],
-) -> [u32; 16]
+fn sounded(unit: Generator, on: Switches, f: u32, sine: &Quarter, decay: &Entries) -> [u32; 16]
     requires { ⌜ Ranged unit ⌝ }
     requires { ⌜ f < 2 ^ 20 ⌝ }
     requires { ⌜ (on ≡ switchesOf (runMode unit)) × (envelopeOn (runMode unit) ≡ true) ⌝ }
-    requires { ⌜ (now sine ≡ quarter) × (now decay ≡ entries 256) ⌝ }
+    requires { ⌜ (now sine ≡ quarter) × (now decay ≡ entries tableSize) ⌝ }
 {
     let after = unit.sound(sine, decay, on, f);
     let mut r = registers(after.unit);
@@ -94,13 +91,8 @@ fn sounded(
 }
 
 // A generator's turn with F, told whether its lower neighbour has triggered.
-fn generator_turn(
-    x: &[u32; 16],
-    sine: &[u16; 2048],
-    decay: &[u16; 256],
-    modes: &[[u8; 4]; 16],
-) -> [u32; 16]
-    requires { ⌜ (now sine ≡ quarter) × (now decay ≡ entries 256) × (now modes ≡ rows) ⌝ }
+fn generator_turn(x: &[u32; 16], sine: &Quarter, decay: &Entries, modes: &Rows) -> [u32; 16]
+    requires { ⌜ (now sine ≡ quarter) × (now decay ≡ entries tableSize) × (now modes ≡ rows) ⌝ }
 {
     let unit = generator_of(x);
     let run = unit.gmode / 64;
@@ -163,8 +155,8 @@ fn sums(x: &[u32; 16]) -> [u32; 16] {
 }
 
 // The answer to a request.
-fn answer(x: &[u32; 16], sine: &[u16; 2048], decay: &[u16; 256], modes: &[[u8; 4]; 16]) -> [u32; 16]
-    requires { ⌜ (now sine ≡ quarter) × (now decay ≡ entries 256) × (now modes ≡ rows) ⌝ }
+fn answer(x: &[u32; 16], sine: &Quarter, decay: &Entries, modes: &Rows) -> [u32; 16]
+    requires { ⌜ (now sine ≡ quarter) × (now decay ≡ entries tableSize) × (now modes ≡ rows) ⌝ }
 {
     let operation = x[0];
     match operation {
@@ -208,12 +200,12 @@ fn answer_at(
     input: &[u8],
     output: &mut [u8],
     n: usize,
-    sine: &[u16; 2048],
-    decay: &[u16; 256],
-    modes: &[[u8; 4]; 16],
+    sine: &Quarter,
+    decay: &Entries,
+    modes: &Rows,
 )
     requires { ⌜ (64 * n + 64 ≤ length (now input)) × (64 * n + 64 ≤ length (now output)) ⌝ }
-    requires { ⌜ (now sine ≡ quarter) × (now decay ≡ entries 256) × (now modes ≡ rows) ⌝ }
+    requires { ⌜ (now sine ≡ quarter) × (now decay ≡ entries tableSize) × (now modes ≡ rows) ⌝ }
 {
     let x = request_at(input, n);
     let r = answer(&x, sine, decay, modes);
@@ -225,12 +217,12 @@ fn answer_all(
     input: &[u8],
     output: &mut [u8],
     count: usize,
-    sine: &[u16; 2048],
-    decay: &[u16; 256],
-    modes: &[[u8; 4]; 16],
+    sine: &Quarter,
+    decay: &Entries,
+    modes: &Rows,
 )
     requires { ⌜ (64 * count ≤ length (now input)) × (64 * count ≤ length (now output)) ⌝ }
-    requires { ⌜ (now sine ≡ quarter) × (now decay ≡ entries 256) × (now modes ≡ rows) ⌝ }
+    requires { ⌜ (now sine ≡ quarter) × (now decay ≡ entries tableSize) × (now modes ≡ rows) ⌝ }
 {
     let mut n: usize = 0;
     while n < count {
@@ -240,8 +232,8 @@ fn answer_all(
 }
 
 // Reads requests, answers them, and says whether there may be more.
-fn answer_some(sine: &[u16; 2048], decay: &[u16; 256], modes: &[[u8; 4]; 16]) -> bool
-    requires { ⌜ (now sine ≡ quarter) × (now decay ≡ entries 256) × (now modes ≡ rows) ⌝ }
+fn answer_some(sine: &Quarter, decay: &Entries, modes: &Rows) -> bool
+    requires { ⌜ (now sine ≡ quarter) × (now decay ≡ entries tableSize) × (now modes ≡ rows) ⌝ }
 {
     let mut input = io::large_buffer();
     let mut output = io::large_buffer();

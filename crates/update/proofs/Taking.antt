@@ -12,7 +12,7 @@ use borrow.Author.Tests.{eq-eqb, ne-eqb}
 use lib.Dec.{eqb}
 use lib.ListN.{length, getD, drop, drop-of-length-le}
 use lib.Seq.{drop-cons}
-use Rattle.command_control.specs.Built.{commandRefusal}
+use Rattle.command_built.specs.Built.{commandRefusal}
 use Rattle.command.specs.Command.{done, waits, afterCommand, takenWaiting}
 use Rattle.command.proofs.Turns.{refused-leaves, passed-waits, passed-does}
 use Rattle.update.specs.Update.{outcome, takenBy}

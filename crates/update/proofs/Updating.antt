@@ -2,18 +2,19 @@
 -- Assumes nothing.
 use mathlib.Core.Path.{_≡_, refl, ap, sym, _∙_}
 use mathlib.Core.Logic.{_≢_}
-use mathlib.Core.Bool.{Bool, true, false, cond}
+use mathlib.Core.Bool.{true, false}
 use mathlib.Core.List.{List, [], _∷_}
 use Prim.Native.Nat.{ℕ, zero, suc, _+_, _-_, _*_, _≤_}
 use native.Mathlib.Omega.{arith}
 use borrow.Author.Tests.{eq-eqb, ne-eqb}
 use lib.Dec.{eqb}
 use lib.ListN.{length, drop, take, set, length-drop}
-use lib.Seq.{take-all}
+use Rattle.lists.proofs.Choices.{of-cond}
+use Rattle.lists.proofs.Parts.{part-from}
 use Rattle.layout.specs.Layout.{lingeringAt}
 use Rattle.machine.specs.Questions.{question1, question2}
 use Rattle.machine.proofs.SoundMachine.{reaches}
-use Rattle.command_control.specs.Built.{commandRefusal}
+use Rattle.command_built.specs.Built.{commandRefusal}
 use Rattle.command.specs.Command.{done, waits}
 use Rattle.update.specs.Update.{Outcome, outcome, mostCommands, stillLingering, takenBy, updateOf, takenCount, tailAt}
 use Rattle.machine.proofs.Asked.{machine-passes}
@@ -34,7 +35,7 @@ module _ (m cs : List ℕ) where
     unfolding updateOf
     update-lingers s = rw (eq-eqb (asked (question1 m ∷ question2 m ∷ [])) 0 e, s)
 
-    pub update-takes : {o : Outcome} → stillLingering m ≡ false → o ≡ takenBy (mostCommands m) (set m lingeringAt 0) cs → o ≡ updateOf m cs
+    update-takes : {o : Outcome} → stillLingering m ≡ false → o ≡ takenBy (mostCommands m) (set m lingeringAt 0) cs → o ≡ updateOf m cs
     unfolding updateOf
     update-takes s q = rw (eq-eqb (asked (question1 m ∷ question2 m ∷ [])) 0 e, s) q
 
@@ -52,32 +53,28 @@ tail-more c cs left t =
     let z : suc (length cs) - length left ≡ suc (length cs - length left) = omega arith in
     record { shorter = omega arith; is-tail = rw z (t .is-tail) }
 
-tail-by : (b : Bool) (cs : List ℕ) (x y : Outcome) → Tail cs (x .left) → Tail cs (y .left) → Tail cs (cond b x y .left)
-tail-by true cs x y p q = p
-tail-by false cs x y p q = q
+-- What an outcome leaves is a tail.
+abbrev Leaves : List ℕ → Outcome → Type 0
+Leaves cs o = Tail cs (o .left)
 
-taken-tail : (k : ℕ) (m cs : List ℕ) → Tail cs (takenBy k m cs .left)
+taken-tail : (k : ℕ) (m cs : List ℕ) → Leaves cs (takenBy k m cs)
 unfolding takenBy
 taken-tail zero m cs = whole cs
 taken-tail (suc k) m [] = whole []
 taken-tail (suc k) m (c ∷ cs) =
-    tail-by (eqb (commandRefusal c) 0) (c ∷ cs)
-    (cond (waits m c) (outcome 0 (done m c) cs) (takenBy k (done m c) cs))
-    (outcome (commandRefusal c) m (c ∷ cs))
-    (tail-by (waits m c) (c ∷ cs) (outcome 0 (done m c) cs) (takenBy k (done m c) cs) (tail-more c cs cs (whole cs)) (tail-more c cs _ (taken-tail k (done m c) cs)))
+    of-cond (Leaves (c ∷ cs)) (eqb (commandRefusal c) 0)
+    (of-cond (Leaves (c ∷ cs)) (waits m c) (tail-more c cs cs (whole cs)) (tail-more c cs _ (taken-tail k (done m c) cs)))
     (whole (c ∷ cs))
 
-update-tail : (m cs : List ℕ) → Tail cs (updateOf m cs .left)
+update-tail : (m cs : List ℕ) → Leaves cs (updateOf m cs)
 unfolding updateOf
 update-tail m cs =
-    let n = asked (question1 m ∷ question2 m ∷ []) in
-    let takes = takenBy (mostCommands m) (set m lingeringAt 0) cs in
-    tail-by (eqb n 0) cs (cond (stillLingering m) (outcome 0 m cs) takes) (outcome n m cs)
-    (tail-by (stillLingering m) cs (outcome 0 m cs) takes (whole cs) (taken-tail (mostCommands m) (set m lingeringAt 0) cs))
+    of-cond (Leaves cs) (eqb (asked (question1 m ∷ question2 m ∷ [])) 0)
+    (of-cond (Leaves cs) (stillLingering m) (whole cs) (taken-tail (mostCommands m) (set m lingeringAt 0) cs))
     (whole cs)
 
 -- What is left is the commands from the count on.
-pub taken-rest : (m cs : List ℕ) → drop (takenCount m cs) cs ≡ updateOf m cs .left
+taken-rest : (m cs : List ℕ) → drop (takenCount m cs) cs ≡ updateOf m cs .left
 taken-rest m cs = update-tail m cs .is-tail
 
 -- Where the part handed back begins.
@@ -85,12 +82,8 @@ module _ (place : ℕ × ℕ) (m cs : List ℕ) {n : ℕ} {l : List ℕ} where
   pub place-whole : outcome n l cs ≡ updateOf m cs → place ≡ tailAt place (takenCount m cs)
   place-whole e = ap (λ (k : ℕ). (place .0, k)) (omega (arith, ap (λ (o : Outcome). length (o .left)) e))
 
-  pub place-tail : (r : ℕ) → r ≤ length cs → outcome n l (drop r cs) ≡ updateOf m cs → (place .0, r * 4 + place .1) ≡ tailAt place (takenCount m cs)
+  place-tail : (r : ℕ) → r ≤ length cs → outcome n l (drop r cs) ≡ updateOf m cs → (place .0, r * 4 + place .1) ≡ tailAt place (takenCount m cs)
   place-tail r h e = ap (λ (k : ℕ). (place .0, k)) (omega (arith, ap (λ (o : Outcome). length (o .left)) e, length-drop r cs))
-
--- The part from place r on, as a slice has it.
-pub part-from : (cs : List ℕ) (r : ℕ) → take (length cs - r) (drop r cs) ≡ drop r cs
-part-from cs r = take-all (length cs - r) (drop r cs) (omega (arith, length-drop r cs))
 
 -- The commands taken and the part handed back, together.
 pub update-ran : (place : ℕ × ℕ) (m cs : List ℕ) {most r n : ℕ} {l : List ℕ} → asked (question1 m ∷ question2 m ∷ []) ≡ 0 → stillLingering m ≡ false →

@@ -2,34 +2,35 @@
 -- Assumes nothing.
 use Prim.Native.Nat.{ℕ, zero, suc, _+_, _-_, _*_}
 use mathlib.Core.Bool.{Bool, cond, not, _&&_}
-use mathlib.Core.List.{List, [], _∷_}
+use mathlib.Core.List.{[], _∷_}
 use lib.Dec.{eqb}
 use lib.ListN.{length, getD, set}
-use Rattle.layout.specs.Layout.{tAt, nAt, counterAt, lingeringAt, lingerPassAt}
-use Rattle.machine.specs.Questions.{question1, question2}
-use Rattle.command_control.specs.Built.{commandRefusal}
-use Rattle.command.specs.Command.{done, waits}
+use Rattle.layout.specs.Layout.{nAt, counterAt, lingeringAt, lingerPassAt}
+use Rattle.layout.specs.Machine.{Machine, Commands, ticksOf}
 use Rattle.questions.specs.Questions.{asked}
+use Rattle.machine.specs.Questions.{question1, question2}
+use Rattle.command_built.specs.Built.{commandRefusal}
+use Rattle.command.specs.Command.{done, waits}
 
 -- What an update answers and leaves: the number of the refusing question or 0, the machine, and the part of the commands not taken.
 pub record Outcome : Type 0 where
   pub number : ℕ
-  pub machine : List ℕ
-  pub left : List ℕ
+  pub machine : Machine
+  pub left : Commands
 
-abbrev pub outcome : ℕ → List ℕ → List ℕ → Outcome
+abbrev pub outcome : ℕ → Machine → Commands → Outcome
 outcome number machine left = record { number = number; machine = machine; left = left }
 
 -- At most N-T-8 commands, none if that is negative.
-abbrev pub mostCommands : List ℕ → ℕ
-mostCommands m = getD m nAt 0 - getD m tAt 0 - 8
+abbrev pub mostCommands : Machine → ℕ
+mostCommands m = getD m nAt 0 - ticksOf m - 8
 
 -- Whether it is lingering and the counter isn't the Linger pass.
-unfoldable pub stillLingering : List ℕ → Bool
+unfoldable pub stillLingering : Machine → Bool
 stillLingering m = eqb (getD m lingeringAt 0) 1 && not (eqb (getD m counterAt 0) (getD m lingerPassAt 0))
 
 -- At most k commands are taken, until one waits, the words end or one is refused; a waiting one is taken, a refused one is not.
-unfoldable pub takenBy : ℕ → List ℕ → List ℕ → Outcome
+unfoldable pub takenBy : ℕ → Machine → Commands → Outcome
 takenBy zero m cs = outcome 0 m cs
 takenBy (suc k) m [] = outcome 0 m []
 takenBy (suc k) m (c ∷ cs) =
@@ -38,7 +39,7 @@ takenBy (suc k) m (c ∷ cs) =
     (outcome (commandRefusal c) m (c ∷ cs))
 
 -- The update: questions 1 and 2; nothing while lingering goes on; else lingering ends, and commands are taken, their most by N and T as it begins.
-unfoldable pub updateOf : List ℕ → List ℕ → Outcome
+unfoldable pub updateOf : Machine → Commands → Outcome
 updateOf m cs =
     let n = asked (question1 m ∷ question2 m ∷ []) in
     cond (eqb n 0)
@@ -46,7 +47,7 @@ updateOf m cs =
     (outcome n m cs)
 
 -- How many commands an update takes.
-abbrev pub takenCount : List ℕ → List ℕ → ℕ
+abbrev pub takenCount : Machine → Commands → ℕ
 takenCount m cs = length cs - length (updateOf m cs .left)
 
 -- Where the part of a run of 32-bit words begins that starts k words after the run: a place is a block of memory and a byte in it.

@@ -22,7 +22,7 @@ fn most_commands(m: &[u32]) -> usize
     ensures { λ r. ⌜ r ≡ mostCommands (now (m .entry)) ⌝ }
 {
     let n = m[layout::N_AT] as usize;
-    let busy = m[layout::T_AT] as usize + 8;
+    let busy = layout::ticks(m) + 8;
     if n < busy {
         return 0;
     }

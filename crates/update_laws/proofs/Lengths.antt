@@ -1,99 +1,122 @@
--- A command and an update keep the length of the machine's run of words.
+-- A command and an update keep the length of the machine's run of words: each step is made of words put in their places.
 -- Assumes nothing.
 use mathlib.Core.Path.{_≡_, refl, _∙_}
 use mathlib.Core.Bool.{Bool}
 use mathlib.Core.List.{List, [], _∷_}
-use Prim.Native.Nat.{ℕ, zero, suc, _/_}
-use lib.Dec.{eqb}
+use Prim.Native.Nat.{ℕ, zero, suc}
+use lib.Dec.{eqb, ltb}
 use lib.ListN.{length, set, length-set}
+use Rattle.lists.proofs.Choices.{of-cond}
 use Rattle.layout.specs.Layout.{lingeringAt}
-use Rattle.machine.specs.Questions.{question1, question2}
-use Rattle.command_load.specs.Fields.{field, flag, dataOf, codeOf}
-use Rattle.command_load.specs.Loads.{loadedUnless, clearedIf, loadedRight, loadedLeft, loadedAdjusted, loadedGQ, loadedGJ, loadedGP, loadedGN, loadedGL, loadedGK, loadedGMODE, loadedGO, loadedMM, loadedML, loadedMMODE, loadedMRM, loaded}
+use Rattle.layout.specs.Machine.{runModeAt}
 use Rattle.questions.specs.Questions.{asked}
 use Rattle.modes.specs.Modes.{pause, wait}
-use Rattle.command_control.specs.Control.{releasedOne, releasedBelow, released, miscellany, counterSet, behind, waitsFor, lingered, timed, ticksSet}
-use Rattle.command_control.specs.Built.{commandRefusal}
+use Rattle.machine.specs.Questions.{question1, question2}
+use Rattle.command_fields.specs.Fields.{field, flag, dataOf, code3, code4, code5}
+use Rattle.command_load.specs.Loads.{loadedUnless, clearedIf, loadedData, loadedRight, loadedLeft, loadedAdjusted, loadedTwo, loadedThenCleared}
+use Rattle.command_generator.specs.GeneratorLoads.{loadedGQ, loadedGJ, loadedGP, loadedGN, loadedGL, loadedGK, loadedGMODE, loadedGO, afterGeneratorLoad}
+use Rattle.command_modifier.specs.ModifierLoads.{loadedMM, loadedML, loadedMMODE, loadedMRM, afterModifierLoad}
+use Rattle.command_misc.specs.Misc.{releasedOne, releasedBelow, released, miscellany}
+use Rattle.command_timer.specs.Timer.{counterSet, behind, waitsFor, lingered, ttOf, timed, ticksSet}
+use Rattle.command_built.specs.Built.{commandRefusal}
 use Rattle.command.specs.Command.{done, waits, afterCommand}
 use Rattle.update.specs.Update.{Outcome, mostCommands, stillLingering, takenBy, updateOf}
-use Rattle.update_laws.proofs.Choices.{of-cond}
-use Rattle.layout.specs.Machine.{runModeAt}
 
 -- A run of n words.
 record Long (n : ℕ) (m : List ℕ) : Type 0 where
   is : length m ≡ n
 
-set-long : (n : ℕ) (m : List ℕ) → Long n m → (i v : ℕ) → Long n (set m i v)
-set-long n m e i v = record { is = length-set m i v ∙ e .is }
+module _ (n : ℕ) where
+  set-long : (m : List ℕ) → Long n m → (i v : ℕ) → Long n (set m i v)
+  set-long m e i v = record { is = length-set m i v ∙ e .is }
 
-unless-long : (n : ℕ) (b : Bool) (m : List ℕ) → Long n m → (i v : ℕ) → Long n (loadedUnless b m i v)
-unfolding loadedUnless
-unless-long n b m e i v = of-cond (Long n) b e (set-long n m e i v)
+  -- The shapes of a load.
+  unless-long : (b : Bool) (m : List ℕ) → Long n m → (i v : ℕ) → Long n (loadedUnless b m i v)
+  unfolding loadedUnless
+  unless-long b m e i v = of-cond (Long n) b e (set-long m e i v)
 
-cleared-long : (n : ℕ) (b : Bool) (m : List ℕ) → Long n m → (i : ℕ) → Long n (clearedIf b m i)
-unfolding clearedIf
-cleared-long n b m e i = of-cond (Long n) b (set-long n m e i 0) e
+  cleared-long : (b : Bool) (m : List ℕ) → Long n m → (i : ℕ) → Long n (clearedIf b m i)
+  unfolding clearedIf
+  cleared-long b m e i = of-cond (Long n) b (set-long m e i 0) e
 
-adjusted-long : (n w : ℕ) (b : Bool) (m : List ℕ) → Long n m → (i c : ℕ) → Long n (loadedAdjusted w b m i c)
-unfolding loadedAdjusted loadedLeft loadedRight
-adjusted-long n w b m e i c = of-cond (Long n) b (set-long n _ (set-long n m e i _) _ _) (set-long n m e i _)
+  data-long : (m : List ℕ) → Long n m → (c i : ℕ) → Long n (loadedData m c i)
+  unfolding loadedData
+  data-long m e c i = set-long m e i _
 
--- The loads, in the sequence of their codes.
-loaded-long : (n : ℕ) (m : List ℕ) → Long n m → (c : ℕ) → Long n (loaded m c)
-unfolding loaded loadedGQ loadedGJ loadedGP loadedGN loadedGL loadedGK loadedGMODE loadedGO loadedMM loadedML loadedMMODE loadedMRM
-loaded-long n m e c =
-    of-cond (Long n) (eqb (codeOf c / 4) 1) (adjusted-long n 24 _ m e _ c)
-    (of-cond (Long n) (eqb (codeOf c / 4) 2) (adjusted-long n 28 _ m e _ c)
-    (of-cond (Long n) (eqb (codeOf c / 2) 6) (set-long n m e _ _)
-    (of-cond (Long n) (eqb (codeOf c / 2) 7) (unless-long n _ _ (unless-long n _ m e _ _) _ _)
-    (of-cond (Long n) (eqb (codeOf c / 2) 8) (unless-long n _ _ (unless-long n _ m e _ _) _ _)
-    (of-cond (Long n) (eqb (codeOf c / 2) 9) (set-long n m e _ _)
-    (of-cond (Long n) (eqb (codeOf c / 2) 10) (cleared-long n _ _ (unless-long n _ _ (unless-long n _ m e _ _) _ _) _)
-    (of-cond (Long n) (eqb (codeOf c / 2) 11) (set-long n m e _ _)
-    (of-cond (Long n) (eqb (codeOf c / 4) 6) (adjusted-long n 30 _ m e _ c)
-    (of-cond (Long n) (eqb (codeOf c / 2) 14) (set-long n m e _ _)
-    (of-cond (Long n) (eqb (codeOf c) 30) (cleared-long n _ _ (unless-long n _ _ (set-long n m e _ _) _ _) _)
-    (of-cond (Long n) (eqb (codeOf c) 31) (cleared-long n _ _ (unless-long n _ _ (unless-long n _ m e _ _) _ _) _)
-    e)))))))))))
+  adjusted-long : (m : List ℕ) → Long n m → (c i w : ℕ) → Long n (loadedAdjusted m c i w)
+  unfolding loadedAdjusted loadedLeft loadedRight
+  adjusted-long m e c i w = of-cond (Long n) (flag 27 c) (set-long _ (set-long m e i _) _ _) (set-long m e i _)
 
--- MISC, TIMER and TICKS.
-released-long : (n r : ℕ) (m : List ℕ) → Long n m → (k : ℕ) → Long n (releasedBelow r m k)
-unfolding releasedBelow releasedOne
-released-long n r m e zero = e
-released-long n r m e (suc k) =
-    let before = released-long n r m e k in
-    of-cond (Long n) (eqb (runModeAt (releasedBelow r m k) k) r) (set-long n (releasedBelow r m k) before _ _) before
+  two-long : (m : List ℕ) → Long n m → (c i v j w : ℕ) → Long n (loadedTwo m c i v j w)
+  unfolding loadedTwo
+  two-long m e c i v j w = unless-long (flag 5 c) _ (unless-long (flag 4 c) m e i v) j w
 
-miscellany-long : (n : ℕ) (m : List ℕ) → Long n m → (c : ℕ) → Long n (miscellany m c)
-unfolding miscellany released
-miscellany-long n m e c =
-    let first = of-cond (Long n) (eqb (field 29 30 c) 1) (set-long n m e _ (dataOf c)) e in
-    let second = of-cond (Long n) (flag 33 c) (released-long n wait _ first 256) first in
-    of-cond (Long n) (flag 34 c) (released-long n pause _ second 256) second
+  then-cleared-long : (m : List ℕ) → Long n m → (c i v j w k : ℕ) → Long n (loadedThenCleared m c i v j w k)
+  unfolding loadedThenCleared
+  then-cleared-long m e c i v j w k = cleared-long (flag 6 c) _ (two-long m e c i v j w) k
 
-lingered-long : (n : ℕ) (m : List ℕ) → Long n m → (k : ℕ) → Long n (lingered m k)
-unfolding lingered
-lingered-long n m e k =
-    of-cond (Long n) (waitsFor m k) (set-long n _ (set-long n m e _ _) _ _) (of-cond (Long n) (eqb (behind m k) 0) e (set-long n m e _ _))
+  -- The loads, in the sequence of their codes.
+  generator-long : (m : List ℕ) → Long n m → (c : ℕ) → Long n (afterGeneratorLoad m c)
+  unfolding afterGeneratorLoad loadedGQ loadedGJ loadedGP loadedGN loadedGL loadedGK loadedGMODE loadedGO
+  generator-long m e c =
+      of-cond (Long n) (eqb (code3 c) 0b001) (adjusted-long m e c _ _)
+      (of-cond (Long n) (eqb (code3 c) 0b010) (adjusted-long m e c _ _)
+      (of-cond (Long n) (eqb (code4 c) 0b0110) (data-long m e c _)
+      (of-cond (Long n) (eqb (code4 c) 0b0111) (two-long m e c _ _ _ _)
+      (of-cond (Long n) (eqb (code4 c) 0b1000) (two-long m e c _ _ _ _)
+      (of-cond (Long n) (eqb (code4 c) 0b1001) (data-long m e c _)
+      (of-cond (Long n) (eqb (code4 c) 0b1010) (then-cleared-long m e c _ _ _ _ _)
+      (of-cond (Long n) (eqb (code4 c) 0b1011) (data-long m e c _)
+      e)))))))
 
-timed-long : (n : ℕ) (m : List ℕ) → Long n m → (c : ℕ) → Long n (timed m c)
-unfolding timed counterSet
-timed-long n m e c =
-    of-cond (Long n) (eqb (field 31 32 c) 1) (set-long n m e _ _)
-    (of-cond (Long n) (eqb (field 31 32 c) 2) (lingered-long n m e _)
-    (of-cond (Long n) (eqb (field 31 32 c) 3) (lingered-long n _ (set-long n m e _ _) _) e))
+  modifier-long : (m : List ℕ) → Long n m → (c : ℕ) → Long n (afterModifierLoad m c)
+  unfolding afterModifierLoad loadedMM loadedML loadedMMODE loadedMRM
+  modifier-long m e c =
+      of-cond (Long n) (eqb (code3 c) 0b110) (adjusted-long m e c _ _)
+      (of-cond (Long n) (eqb (code4 c) 0b1110) (data-long m e c _)
+      (of-cond (Long n) (eqb (code5 c) 0b11110) (cleared-long (flag 6 c) _ (unless-long (flag 5 c) _ (set-long m e _ _) _ _) _)
+      (of-cond (Long n) (eqb (code5 c) 0b11111) (then-cleared-long m e c _ _ _ _ _)
+      e)))
 
-ticks-long : (n : ℕ) (m : List ℕ) → Long n m → (c : ℕ) → Long n (ticksSet m c)
-unfolding ticksSet
-ticks-long n m e c = of-cond (Long n) (flag 32 c) (set-long n m e _ _) (set-long n m e _ _)
+  -- MISC, TIMER and TICKS.
+  released-long : (r : ℕ) (m : List ℕ) → Long n m → (k : ℕ) → Long n (releasedBelow r m k)
+  unfolding releasedBelow releasedOne
+  released-long r m e zero = e
+  released-long r m e (suc k) =
+      let so-far = released-long r m e k in
+      of-cond (Long n) (eqb (runModeAt (releasedBelow r m k) k) r) (set-long (releasedBelow r m k) so-far _ _) so-far
 
--- A command.
-done-long : (n : ℕ) (m : List ℕ) → Long n m → (c : ℕ) → Long n (done m c)
-unfolding done
-done-long n m e c =
-    of-cond (Long n) (eqb (codeOf c) 0) (miscellany-long n m e c)
-    (of-cond (Long n) (eqb (codeOf c) 2) (timed-long n m e c)
-    (of-cond (Long n) (eqb (codeOf c) 3) (ticks-long n m e c) (loaded-long n m e c)))
+  miscellany-long : (m : List ℕ) → Long n m → (c : ℕ) → Long n (miscellany m c)
+  unfolding miscellany released
+  miscellany-long m e c =
+      let first = of-cond (Long n) (eqb (field 29 30 c) 0b01) (set-long m e _ (dataOf c)) e in
+      let second = of-cond (Long n) (flag 33 c) (released-long wait _ first 256) first in
+      of-cond (Long n) (flag 34 c) (released-long pause _ second 256) second
+
+  lingered-long : (m : List ℕ) → Long n m → (k : ℕ) → Long n (lingered m k)
+  unfolding lingered
+  lingered-long m e k =
+      of-cond (Long n) (waitsFor m k) (set-long _ (set-long m e _ _) _ _) (of-cond (Long n) (eqb (behind m k) 0) e (set-long m e _ _))
+
+  timed-long : (m : List ℕ) → Long n m → (c : ℕ) → Long n (timed m c)
+  unfolding timed counterSet
+  timed-long m e c =
+      of-cond (Long n) (eqb (ttOf c) 0b01) (set-long m e _ _)
+      (of-cond (Long n) (eqb (ttOf c) 0b10) (lingered-long m e _)
+      (of-cond (Long n) (eqb (ttOf c) 0b11) (lingered-long _ (set-long m e _ _) _) e))
+
+  ticks-long : (m : List ℕ) → Long n m → (c : ℕ) → Long n (ticksSet m c)
+  unfolding ticksSet
+  ticks-long m e c = of-cond (Long n) (flag 32 c) (set-long m e _ _) (set-long m e _ _)
+
+  -- A command.
+  done-long : (m : List ℕ) → Long n m → (c : ℕ) → Long n (done m c)
+  unfolding done
+  done-long m e c =
+      of-cond (Long n) (eqb (code5 c) 0b00000) (miscellany-long m e c)
+      (of-cond (Long n) (eqb (code5 c) 0b00010) (timed-long m e c)
+      (of-cond (Long n) (eqb (code5 c) 0b00011) (ticks-long m e c)
+      (of-cond (Long n) (ltb (code5 c) 0b11000) (generator-long m e c) (modifier-long m e c))))
 
 pub command-length : (m : List ℕ) (c : ℕ) → length (afterCommand m c) ≡ length m
 unfolding afterCommand

@@ -1,6 +1,5 @@
-pub mod Choices
 pub mod Lengths
-pub mod Passed
+pub mod Accepted
 pub mod SoundLoads
 pub mod SoundCommands
 pub mod UpdateSound

@@ -1,19 +1,19 @@
--- An update keeps a machine sound.
+-- An update keeps a machine sound: so does the end of lingering and each command.
 -- Assumes nothing.
 use mathlib.Core.Path.{_≡_, refl}
 use mathlib.Core.Bool.{true}
 use mathlib.Core.List.{List, [], _∷_}
 use Prim.Native.Nat.{ℕ, zero, suc}
 use borrow.Author.Tests.{eqb-true}
-use lib.Dec.{eqb, lit<}
+use lib.Dec.{eqb, lit<, lit≤}
 use lib.ListN.{set}
 use Rattle.layout.specs.Layout.{lingeringAt}
 use Rattle.machine.specs.Questions.{question1, question2, regions, sound}
-use Rattle.command_control.specs.Built.{commandRefusal}
+use Rattle.command_built.specs.Built.{commandRefusal}
 use Rattle.command.specs.Command.{done, waits}
 use Rattle.update.specs.Update.{Outcome, mostCommands, stillLingering, takenBy, updateOf}
-use Rattle.update_laws.proofs.Choices.{of-cond, of-test}
-use Rattle.update_laws.proofs.SoundLoads.{Sound, control-put}
+use Rattle.lists.proofs.Choices.{of-cond, of-test}
+use Rattle.update_laws.proofs.SoundLoads.{Sound, control-keeps}
 use Rattle.update_laws.proofs.SoundCommands.{done-sound}
 use Rattle.questions.specs.Questions.{asked}
 
@@ -35,5 +35,5 @@ pub update-sound : (m cs : List ℕ) → sound m ≡ true → sound (updateOf m 
 unfolding updateOf regions
 update-sound m cs e =
     of-cond SoundAfter (eqb (asked (question1 m ∷ question2 m ∷ [])) 0)
-    (of-cond SoundAfter (stillLingering m) e (taken-sound (mostCommands m) (set m lingeringAt 0) cs (control-put m e 4 0 (lit< tt) refl)))
+    (of-cond SoundAfter (stillLingering m) e (taken-sound (mostCommands m) (set m lingeringAt 0) cs (control-keeps lingeringAt 0 (lit≤ tt) (lit< tt) refl m e)))
     e

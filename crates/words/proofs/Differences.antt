@@ -1,11 +1,11 @@
--- An integer as a difference of two numbers, one of which is 0: what sums and products make of the two, and that they tell the integer.
+-- An integer as a difference of two numbers, one of which is 0: what a sum makes of the two, and that they tell the integer.
 -- Assumes nothing.
 use mathlib.Core.Path.{_≡_, refl, ap}
 use mathlib.Core.Bool.{Bool, true, false, cond, not}
-use Prim.Native.Nat.{ℕ, zero, suc, _+_, _-_, _*_, _<_, _≤_}
+use Prim.Native.Nat.{ℕ, zero, suc, _+_, _-_, _<_, _≤_}
 use native.Mathlib.Omega.{arith}
 use lib.Dec.{T, ltb, ltb→lt, nltb→le}
-use lib.IntN.{ℤ, pos, negsuc, negℤ, subℕ, _+ℤ_, _-ℤ_, _*ℤ_}
+use lib.IntN.{ℤ, pos, negsuc, negℤ, subℕ, _+ℤ_, _-ℤ_}
 
 abbrev pub up : ℤ → ℕ
 up (pos n) = n
@@ -39,12 +39,6 @@ neg-down (suc n) = refl
 
 minus-law : (n k : ℕ) → up (pos n -ℤ pos k) + k ≡ down (pos n -ℤ pos k) + n
 minus-law n k = omega (arith, add-law (pos n) (negℤ (pos k)), neg-up k, neg-down k)
-
-pub mul-law : (x y : ℤ) → up (x *ℤ y) + (up x * down y + down x * up y) ≡ down (x *ℤ y) + (up x * up y + down x * down y)
-mul-law (pos a) (pos b) = omega arith
-mul-law (pos a) (negsuc b) = omega (arith, neg-up (a * suc b), neg-down (a * suc b))
-mul-law (negsuc a) (pos b) = omega (arith, neg-up (suc a * b), neg-down (suc a * b))
-mul-law (negsuc a) (negsuc b) = omega arith
 
 -- An integer is n - k, said by its two numbers.
 pub record Difference (z : ℤ) (n k : ℕ) : Type 0 where

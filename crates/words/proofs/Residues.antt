@@ -25,6 +25,11 @@ module _ (m : ℕ) (m-pos : 0 < m) where
           back : (a : ℕ) → a + k + (k * m - k) ≡ a + k * m
           back a = omega (arith, le-mul-of-pos-right k m-pos)
 
+-- A choice between two numbers below a bound is below it.
+pub either-low : (b : Bool) {x y n : ℕ} → x < n → y < n → cond b x y < n
+either-low true h k = h
+either-low false h k = k
+
 pub low-lt : (w : ℕ) (z : ℤ) → lowBits w z < 2 ^ w
 unfolding lowBits
 low-lt w (pos n) = mod-lt n (pow-pos w)
@@ -76,7 +81,7 @@ lower w v n h = ap (λ (k : ℕ). n % 2 ^ k % 2 ^ w) whole ∙ mod-mod-pow n (v 
     whole : v ≡ v - w + w
     whole = omega (arith, h)
 
-low-low : (w v : ℕ) (z : ℤ) → w ≤ v → lowBits v z % 2 ^ w ≡ lowBits w z
+pub low-low : (w v : ℕ) (z : ℤ) → w ≤ v → lowBits v z % 2 ^ w ≡ lowBits w z
 low-low w v z h =
     sym
     (low-is w z (lowBits v z)

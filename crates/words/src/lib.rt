@@ -55,7 +55,7 @@ pub fn leaves20(a: u32, b: u32) -> bool
 }
 
 // A signed word of 20 bits as one of 32 bits.
-fn extend20(b: u32) -> u32
+pub fn extend20(b: u32) -> u32
     requires { ⌜ b < 2 ^ 20 ⌝ }
     ensures { λ r. ⌜ r ≡ extended 20 32 b ⌝ }
 {

@@ -1,4 +1,4 @@
--- `bench_file::load_line` meets its contract.
+-- `bench_file::load_line` meets its contract: each kind of line sets its part.
 -- Assumes nothing.
 use Rattle.bench_file.proofs.Loading as loading
 use borrow.Author.Needs.{needs}
@@ -33,13 +33,19 @@ same-length : tie.Need-same-length
 same-length c = search needs
 
 returns-2 : tie.Need-returns-2
-returns-2 c = let a = c .before .before .before .before .before .before .before .before .before .args in loading.load-word _ (a .count) (a .m .now) (a .room .now) (c .before .before .before .before .before .line .given .1) (c .before .before .put .ensures)
+returns-2 c =
+    let place = c .before .before .before .before .before in
+    let a = place .before .before .before .before .args in
+    loading.load-word _ (a .count) (a .m .now) (a .room .now) (place .line .given .1) (c .before .before .put .ensures)
 
 same-length-2 : tie.Need-same-length-2
 same-length-2 c = search needs
 
 returns-3 : tie.Need-returns-3
-returns-3 c = let a = c .before .before .before .before .before .before .before .before .before .args in loading.load-command _ (a .count) (a .m .now) (a .room .now) (c .before .before .before .before .before .line2 .given .1) (c .before .before .put2 .ensures)
+returns-3 c =
+    let place = c .before .before .before .before .before in
+    let a = place .before .before .before .before .args in
+    loading.load-command _ (a .count) (a .m .now) (a .room .now) (place .line2 .given .1) (c .before .before .put2 .ensures)
 
 returns-4 : tie.Need-returns-4
 returns-4 c = let a = c .before .before .before .before .args in loading.load-other _ (a .count) (a .m .now) (a .room .now) (c .enum-told2 .given .1)

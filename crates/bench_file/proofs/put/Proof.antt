@@ -1,4 +1,4 @@
--- `bench_file::put` meets its contract.
+-- `bench_file::put` meets its contract: a place past the end is set by nothing.
 -- Assumes nothing.
 use mathlib.Core.Path.{sym}
 use lib.Seq.{set-out}

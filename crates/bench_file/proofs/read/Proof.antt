@@ -18,47 +18,50 @@ returns c =
 judge-requires : tie.Need-judge-requires
 judge-requires c κs = sym (c .before .ended .ensures) ∙ not-false _ (c .if1 .left)
 
-complete-requires : tie.Need-complete-requires
-complete-requires c κs = search needs
+fit-requires : tie.Need-fit-requires
+fit-requires c κs = search needs
 
 returns-2 : tie.Need-returns-2
 returns-2 c =
-    let j = c .before .before in
-    let e = j .before in
-    let a = c .before .before .before .before .before .before .args in
+    let judged = c .before .before in
+    let ends = judged .before in
+    let a = ends .before .before .before .args in
     whole.read-unfit
     (a .text .now)
     (a .m .now)
     (a .room .now)
-    (e .before .ended .ensures)
-    (not-false _ (e .if1 .left))
-    (j .judge .ensures)
-    (c .before .complete .ensures)
+    (ends .before .ended .ensures)
+    (not-false _ (ends .if1 .left))
+    (judged .judge .ensures)
+    (c .before .fit .ensures)
     (not-true _ (c .if2 .taken))
 
 fresh-requires : tie.Need-fresh-requires
 fresh-requires c κs = search needs
 
 load-requires : tie.Need-load-requires
-load-requires c κs = let e = c .before .before .before .before .before .before .before in sym (e .before .ended .ensures) ∙ not-false _ (e .if1 .left)
+load-requires c κs =
+    let fits = c .before .before .before .before in
+    let ends = fits .before .before .before in
+    sym (ends .before .ended .ensures) ∙ not-false _ (ends .if1 .left)
 
 returns-3 : tie.Need-returns-3
 returns-3 c =
-    let f = c .before .before .before in
-    let d = f .before .before in
-    let j = d .before .before in
-    let e = j .before in
-    let a = c .before .before .before .before .before .before .before .before .before .before .before .args in
+    let cleared = c .before .before .before in
+    let fits = cleared .before .before in
+    let judged = fits .before .before in
+    let ends = judged .before in
+    let a = ends .before .before .before .args in
     whole.read-fit
     (a .text .now)
     (a .m .now)
     (a .room .now)
-    (e .before .ended .ensures)
-    (not-false _ (e .if1 .left))
-    (j .judge .ensures)
-    (d .before .complete .ensures)
-    (not-false _ (d .if2 .left))
-    (f .fresh .ensures .1 ∙ whole.fresh-run (a .m .now) (f .before .fresh-arg .given .0 .1))
+    (ends .before .ended .ensures)
+    (not-false _ (ends .if1 .left))
+    (judged .judge .ensures)
+    (fits .before .fit .ensures)
+    (not-false _ (fits .if2 .left))
+    (cleared .fresh .ensures .1 ∙ whole.fresh-run (a .m .now) (cleared .before .fresh-arg .given .0 .1))
     (c .load .ensures .0)
     (c .load .ensures .1)
 
@@ -69,7 +72,7 @@ read-spec =
     ended-requires
     returns
     judge-requires
-    complete-requires
+    fit-requires
     returns-2
     fresh-requires
     load-requires

@@ -1,3 +1,5 @@
+-- `bench_ringing::ring_line` meets its contract: the two words are those that a line asks for.
+-- Assumes nothing.
 use Rattle.bench_ringing.specs.Ringing.{lineAfter}
 use borrow.Author.Needs.{needs}
 use Rattle.bench_ringing.proofs.ring_line.Statement.{statement}

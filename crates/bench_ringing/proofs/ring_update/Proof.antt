@@ -1,5 +1,7 @@
+-- `bench_ringing::ring_update` meets its contract: an update of the part of the commands from a place on.
+-- Assumes nothing.
 use borrow.Author.Needs.{needs}
-use Rattle.bench_ringing.proofs.Turns.{update-within, update-from}
+use Rattle.bench_ringing.proofs.Turns.{update-within, update-count, update-from}
 use Rattle.bench_ringing.proofs.ring_update.Statement.{statement}
 use Rattle.bench_ringing.proofs.ring_update.Tie as tie
 
@@ -22,13 +24,26 @@ update-requires : tie.Need-update-requires
 update-requires c κs = search needs
 
 sub-result : tie.Need-sub-result
-sub-result c = update-within (c .before .before .before .before .before .before .before .before .before .args .m .now) (c .before .before .before .before .before .before .before .before .before .args .commands .now) _ (c .before .before .before .before .before .before .before .before .before .args .from) (c .before .before .before .before .before .before .start-of .ensures .0) (c .before .before .before .before .before .before .start-of .ensures .1) (c .before .before .update .ensures .0)
+sub-result c = search needs
+
+sub-result-2 : tie.Need-sub-result-2
+sub-result-2 c =
+    let updated = c .before .before in
+    let part = updated .before .before .before .before in
+    let a = part .before .before .before .args in
+    update-within (a .m .now) (a .commands .now) _ (a .from) (part .start-of .ensures .0) (part .start-of .ensures .1) (updated .update .ensures .0)
 
 same-length : tie.Need-same-length
 same-length c = search needs
 
 returns : tie.Need-returns
-returns c = update-from (c .before .before .before .before .before .before .before .before .before .args .m .now) (c .before .before .before .before .before .before .before .before .before .args .commands .now) _ (c .before .before .before .before .before .before .before .before .before .args .from) (c .before .before .before .before .before .before .start-of .ensures .0) (c .before .before .before .before .before .before .start-of .ensures .1) (c .before .before .update .ensures .0)
+returns c =
+    let updated = c .before .before in
+    let part = updated .before .before .before .before in
+    let a = part .before .before .before .args in (
+      update-count (a .m .now) (a .commands .now) _ (a .from) (part .start-of .ensures .0) (part .start-of .ensures .1) (updated .update .ensures .0),
+      update-from (a .m .now) (a .commands .now) _ (a .from) (part .start-of .ensures .0) (part .start-of .ensures .1) (updated .update .ensures .0),
+    )
 
 pub ring-update-spec : {M : Type 1} → statement M
 ring-update-spec =
@@ -41,5 +56,6 @@ ring-update-spec =
     part-update-end
     update-requires
     sub-result
+    sub-result-2
     same-length
     returns)

@@ -1,3 +1,5 @@
+-- `bench_ringing::start_of` meets its contract: a place past the end counts as the end.
+-- Assumes nothing.
 use native.Mathlib.Omega.{arith}
 use borrow.Author.Needs.{needs}
 use Rattle.bench_ringing.proofs.Turns.{start-end}

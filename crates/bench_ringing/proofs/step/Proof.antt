@@ -1,12 +1,15 @@
-use lib.ListN.{drop}
+-- `bench_ringing::step` meets its contract: with no pass left it does nothing.
+-- Assumes nothing.
+use Rattle.bench_ringing.specs.Steps.{ringingAt}
 use Rattle.bench_ringing.proofs.Turns.{step-none}
 use borrow.Author.Needs.{needs}
 use Rattle.bench_ringing.proofs.step.Statement.{statement}
 use Rattle.bench_ringing.proofs.step.Tie as tie
 
 returns : tie.Need-returns
-returns c = let b = c .before .before .before in
-    step-none (b .args .at .passes) (b .args .m .now) (drop (b .args .at .taken) (b .args .commands .now)) (b .args .line .now) (c .if1 .taken)
+returns c =
+    let a = c .before .before .before .before .args in
+    step-none (ringingAt (a .at) (a .m .now) (a .commands .now)) (a .line .now) (a .at .taken) (c .if1 .taken)
 
 ring-once-requires : tie.Need-ring-once-requires
 ring-once-requires c κs = search needs

@@ -1,4 +1,4 @@
--- `text::put_digits` meets its contract; k falls at each call.
+-- `bench_text::put_digits` meets its contract; k falls at each call.
 -- Assumes nothing.
 use native.Mathlib.Omega.{arith}
 use Rattle.bench_text.proofs.Lines as lines
@@ -116,15 +116,15 @@ pub +put-digits-spec : {M : Type 1} → statement M
     (put-digits-at t)
     put-digits.Post
     (put-digits-returns t)
-    (put-digits-add-line t)
     (put-digits-cast-line t)
+    (put-digits-add-line t)
     (put-digits-element-write-line t)
     (put-digits-add-result t)
     (put-digits-returns-2 t)
     (put-digits-sub-put-digits t)
     (put-digits-put-digits-requires t)
-    (put-digits-add-line-2 t)
     (put-digits-cast-line-2 t)
+    (put-digits-add-line-2 t)
     (put-digits-element-write-line-2 t)
     (put-digits-add-result-2 t)
     (put-digits-returns-3 t)

@@ -1,7 +1,8 @@
--- `text::pass_line` meets its contract: seven texts, one after another.
+-- `bench_text::pass_line` meets its contract: seven texts, one after another.
 -- Assumes nothing.
 use Prim.Native.Nat.{_≤_}
 use native.Mathlib.Omega.{arith}
+use Rattle.bench_bytes.proofs.Puts.{done}
 use Rattle.bench_text.proofs.Lines as lines
 use borrow.Author.Needs.{needs}
 use Rattle.bench_text.proofs.pass_line.Statement.{statement}
@@ -39,7 +40,10 @@ put-requires-2 : tie.Need-put-requires-2
 put-requires-2 c κs = omega (arith, counter-ends (c .before .before))
 
 put-signed-requires : tie.Need-put-signed-requires
-put-signed-requires c κs = omega (arith, left-starts (c .before), c .before .before .before .before .before .before .before .before .before .pre)
+put-signed-requires c κs =
+    let counter = c .before .before .before .before in
+    let start = counter .before .before in
+    omega (arith, left-starts (c .before), start .before .before .before .pre)
 
 slice-aggregate-put-3 : tie.Need-slice-aggregate-put-3
 slice-aggregate-put-3 c = search needs
@@ -48,7 +52,10 @@ put-requires-3 : tie.Need-put-requires-3
 put-requires-3 c κs = omega (arith, left-ends (c .before .before))
 
 put-signed-requires-2 : tie.Need-put-signed-requires-2
-put-signed-requires-2 c κs = omega (arith, right-starts (c .before), c .before .before .before .before .before .before .before .before .before .before .before .before .before .before .pre)
+put-signed-requires-2 c κs =
+    let left = c .before .before .before .before in
+    let counter = left .before .before .before .before .before in
+    omega (arith, right-starts (c .before), counter .before .before .before .before .before .pre)
 
 slice-aggregate-put-4 : tie.Need-slice-aggregate-put-4
 slice-aggregate-put-4 c = search needs
@@ -58,19 +65,25 @@ put-requires-4 c κs = omega (arith, right-ends (c .before .before))
 
 returns : tie.Need-returns
 returns c =
-    let a = c .before .before .before .before .before .before .before .before .before .before .before .before .before .before .before .before .before .before .args in
+    let right = c .before .before .before in
+    let right-text = right .before .before in
+    let left = right-text .before .before .before in
+    let left-text = left .before .before in
+    let counter = left-text .before .before .before in
+    let start = counter .before .before in
+    let a = start .before .before .before .args in
     lines.put-pass
     (a .line .now)
     (a .counter)
     (a .left)
     (a .right)
-    (lines.done (c .before .before .before .before .before .before .before .before .before .before .before .before .before .before .before .put .ensures))
-    (lines.done (c .before .before .before .before .before .before .before .before .before .before .before .before .before .put-digits .ensures))
-    (lines.done (c .before .before .before .before .before .before .before .before .before .before .put2 .ensures))
-    (lines.done (c .before .before .before .before .before .before .before .before .put-signed .ensures))
-    (lines.done (c .before .before .before .before .before .put3 .ensures))
-    (lines.done (c .before .before .before .put-signed2 .ensures))
-    (lines.done (c .put4 .ensures))
+    (done (start .put .ensures))
+    (done (counter .put-digits .ensures))
+    (done (left-text .put2 .ensures))
+    (done (left .put-signed .ensures))
+    (done (right-text .put3 .ensures))
+    (done (right .put-signed2 .ensures))
+    (done (c .put4 .ensures))
 
 pub pass-line-spec : {M : Type 1} → statement M
 pass-line-spec =

@@ -1,5 +1,6 @@
--- `text::put_signed` meets its contract.
+-- `bench_text::put_signed` meets its contract: the digits alone, or a minus sign and then digits.
 -- Assumes nothing.
+use Rattle.bench_bytes.proofs.Puts.{done}
 use Rattle.bench_text.proofs.Lines as lines
 use borrow.Author.Needs.{needs}
 use Rattle.bench_text.proofs.put_signed.Statement.{statement}
@@ -25,8 +26,11 @@ put-digits-requires-2 : tie.Need-put-digits-requires-2
 put-digits-requires-2 c κs = search needs
 
 returns-2 : tie.Need-returns-2
-returns-2 c = let a = c .before .before .before .before .before .before .args in
-    lines.put-negative (a .line .now) (a .at) (a .n) (c .before .before .before .before .before .if1 .left) (lines.done (c .before .before .put .ensures)) (lines.done (c .put-digits2 .ensures))
+returns-2 c =
+    let sign = c .before .before in
+    let test = sign .before .before .before in
+    let a = test .before .args in
+    lines.put-negative (a .line .now) (a .at) (a .n) (test .if1 .left) (done (sign .put .ensures)) (done (c .put-digits2 .ensures))
 
 pub put-signed-spec : {M : Type 1} → statement M
 put-signed-spec =

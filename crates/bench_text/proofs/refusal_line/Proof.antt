@@ -1,6 +1,7 @@
--- `text::refusal_line` meets its contract: three texts, one after another.
+-- `bench_text::refusal_line` meets its contract: three texts, one after another.
 -- Assumes nothing.
 use native.Mathlib.Omega.{arith}
+use Rattle.bench_bytes.proofs.Puts.{done}
 use Rattle.bench_text.proofs.Lines as lines
 use borrow.Author.Needs.{needs}
 use Rattle.bench_text.proofs.refusal_line.Statement.{statement}
@@ -23,8 +24,10 @@ put-requires-2 c κs = omega (arith, lines.digits-end _ _ _ (c .before .before .
 
 returns : tie.Need-returns
 returns c =
-    let a = c .before .before .before .before .before .before .before .before .args in
-    lines.put-refusal (a .line .now) (a .n) (lines.done (c .before .before .before .before .before .put .ensures)) (lines.done (c .before .before .before .put-digits .ensures)) (lines.done (c .put2 .ensures))
+    let digits = c .before .before .before in
+    let start = digits .before .before in
+    let a = start .before .before .before .args in
+    lines.put-refusal (a .line .now) (a .n) (done (start .put .ensures)) (done (digits .put-digits .ensures)) (done (c .put2 .ensures))
 
 pub refusal-line-spec : {M : Type 1} → statement M
 refusal-line-spec =

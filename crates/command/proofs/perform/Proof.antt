@@ -1,9 +1,12 @@
--- `command::perform` meets its contract.
+-- `command::perform` meets its contract: its arms by the code.
 -- Assumes nothing.
-use Rattle.command.proofs.Turns.{does-misc, does-timer, does-ticks, does-load}
+use Rattle.command.proofs.Turns.{does-misc, does-timer, does-ticks, does-generator-load, does-modifier-load}
 use borrow.Author.Needs.{needs}
 use Rattle.command.proofs.perform.Statement.{statement}
 use Rattle.command.proofs.perform.Tie as tie
+
+field-requires : tie.Need-field-requires
+field-requires c κs = search needs
 
 miscellany-requires : tie.Need-miscellany-requires
 miscellany-requires c κs = search needs
@@ -13,9 +16,11 @@ same-length c = search needs
 
 returns : tie.Need-returns
 returns c =
-    let w = c .before .before .before .before in
-    let a = w .before .before .args in
-    does-misc (a .m .now) (a .c) (w .if1 .taken) (c .before .before .miscellany .ensures)
+    let done = c .before .before in
+    let arm = done .before .before in
+    let code = arm .before in
+    let a = code .before .before .args in
+    does-misc (a .m .now) (a .c) (code .field .ensures) (arm .if1 .taken) (done .miscellany .ensures)
 
 timer-requires : tie.Need-timer-requires
 timer-requires c κs = search needs
@@ -25,9 +30,11 @@ same-length-2 c = search needs
 
 returns-2 : tie.Need-returns-2
 returns-2 c =
-    let w = c .before .before .before .before in
-    let a = w .before .before .before .args in
-    does-timer (a .m .now) (a .c) (w .if2 .taken) (c .before .before .timer .ensures)
+    let done = c .before .before in
+    let arm = done .before .before in
+    let code = arm .before .before in
+    let a = code .before .before .args in
+    does-timer (a .m .now) (a .c) (code .field .ensures) (arm .if2 .taken) (done .timer .ensures)
 
 ticks-requires : tie.Need-ticks-requires
 ticks-requires c κs = search needs
@@ -37,9 +44,11 @@ same-length-3 c = search needs
 
 returns-3 : tie.Need-returns-3
 returns-3 c =
-    let w = c .before .before .before .before in
-    let a = w .before .before .before .before .args in
-    does-ticks (a .m .now) (a .c) (w .if3 .taken) (c .before .before .ticks .ensures)
+    let done = c .before .before in
+    let arm = done .before .before in
+    let code = arm .before .before .before in
+    let a = code .before .before .args in
+    does-ticks (a .m .now) (a .c) (code .field .ensures) (arm .if3 .taken) (done .ticks .ensures)
 
 load-requires : tie.Need-load-requires
 load-requires c κs = search needs
@@ -49,14 +58,31 @@ same-length-4 c = search needs
 
 returns-4 : tie.Need-returns-4
 returns-4 c =
-    let w = c .before .before .before .before in
-    let a = w .before .before .before .before .args in
-    does-load (a .m .now) (a .c) (w .before .before .if1 .left) (w .before .if2 .left) (w .if3 .left) (c .before .before .load .ensures)
+    let done = c .before .before in
+    let arm = done .before .before in
+    let code = arm .before .before .before .before in
+    let a = code .before .before .args in
+    does-generator-load (a .m .now) (a .c) (code .field .ensures) (arm .before .before .before .if1 .left) (arm .before .before .if2 .left) (arm .before .if3 .left) (arm .if4 .taken) (done .load .ensures)
+
+load-requires-2 : tie.Need-load-requires-2
+load-requires-2 c κs = search needs
+
+same-length-5 : tie.Need-same-length-5
+same-length-5 c = search needs
+
+returns-5 : tie.Need-returns-5
+returns-5 c =
+    let done = c .before .before in
+    let arm = done .before .before in
+    let code = arm .before .before .before .before in
+    let a = code .before .before .args in
+    does-modifier-load (a .m .now) (a .c) (code .field .ensures) (arm .before .before .before .if1 .left) (arm .before .before .if2 .left) (arm .before .if3 .left) (arm .if4 .left) (done .load2 .ensures)
 
 pub perform-spec : {M : Type 1} → statement M
 perform-spec =
     tie.close
     (tie.spec
+    field-requires
     miscellany-requires
     same-length
     returns
@@ -68,4 +94,7 @@ perform-spec =
     returns-3
     load-requires
     same-length-4
-    returns-4)
+    returns-4
+    load-requires-2
+    same-length-5
+    returns-5)

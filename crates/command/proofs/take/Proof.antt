@@ -1,8 +1,8 @@
--- `command::take` meets its contract.
+-- `command::take` meets its contract: refused, or done.
 -- Assumes nothing.
 use mathlib.Core.Path.{_≡_, sym, _∙_}
 use mathlib.Core.Logic.{_≢_}
-use Rattle.command_control.specs.Built.{commandRefusal}
+use Rattle.command_built.specs.Built.{commandRefusal}
 use Rattle.command.proofs.Turns.{refused-waits, refused-leaves, passed-waits, passed-does}
 use borrow.Author.Needs.{needs}
 use Rattle.command.proofs.take.Statement.{statement}

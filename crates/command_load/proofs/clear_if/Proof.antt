@@ -1,3 +1,5 @@
+-- `command_load::clear_if` meets its contract: its two arms.
+-- Assumes nothing.
 use Rattle.command_load.specs.Loads.{clearedIf}
 use borrow.Author.Needs.{needs}
 use Rattle.command_load.proofs.clear_if.Statement.{statement}

@@ -1,3 +1,5 @@
+-- `command_load::load_unless` meets its contract: its two arms.
+-- Assumes nothing.
 use Rattle.command_load.specs.Loads.{loadedUnless}
 use borrow.Author.Needs.{needs}
 use Rattle.command_load.proofs.load_unless.Statement.{statement}

@@ -1,3 +1,5 @@
+-- `envelope::decayed` meets its contract: each arm is its case of overflow and switch.
+-- Assumes nothing.
 use borrow.Author.Tests.{eq-eqb, ne-eqb}
 use Rattle.envelope.specs.Envelope.{decayed}
 use borrow.Author.Needs.{needs}

@@ -1,3 +1,5 @@
+-- `envelope::enveloped` meets its contract: the magnitude is rounded first and signed last.
+-- Assumes nothing.
 use mathlib.Core.Path.{ap, _∙_}
 use Rattle.words.specs.Words.{lowBits}
 use native.Mathlib.Omega.{arith}

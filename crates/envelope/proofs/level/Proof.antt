@@ -1,3 +1,5 @@
+-- `envelope::level` meets its contract: each arm is its side of the definition, reduced to 12 bits.
+-- Assumes nothing.
 use borrow.Author.Tests.{eq-eqb, ne-eqb}
 use Rattle.envelope.specs.Envelope.{level}
 use Rattle.envelope.proofs.Levels.{q-low}

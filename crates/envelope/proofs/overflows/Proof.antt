@@ -1,3 +1,5 @@
+-- `envelope::overflows` meets its contract: it is the sum's test for its range.
+-- Assumes nothing.
 use Rattle.envelope.specs.Envelope.{overflows}
 use borrow.Author.Needs.{needs}
 use Rattle.envelope.proofs.overflows.Statement.{statement}

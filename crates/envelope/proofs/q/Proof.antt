@@ -1,3 +1,5 @@
+-- `envelope::q` meets its contract: each arm is its side of the definition.
+-- Assumes nothing.
 use borrow.Author.Tests.{le-leb, lt-leb}
 use Rattle.envelope.specs.Envelope.{qOf}
 use borrow.Author.Needs.{needs}

@@ -1,8 +1,9 @@
--- `exponential::exponential` meets its contract.
+-- `exponential::exponential` meets its contract: the table has the entry at H's low bits, and the shift divides it.
 -- Assumes nothing.
 use borrow.Author.Needs.{needs}
 use native.Mathlib.Omega.{arith}
 use lib.Dec.{lit<}
+use Rattle.exponential.specs.Exponential.{tableSize}
 use Rattle.exponential.proofs.Entries.{exponential-at}
 use Rattle.exponential.proofs.exponential.Statement.{statement}
 use Rattle.exponential.proofs.exponential.Tie as tie
@@ -25,7 +26,7 @@ shr-result c = search needs
 returns : tie.Need-returns
 returns c =
     rw (c .wide .ensures, c .before .before .pre .0)
-    (exponential-at 256 _ _ _ (lit< tt) (omega arith) (omega arith))
+    (exponential-at tableSize _ _ _ (lit< tt) (omega arith) (omega arith))
 
 pub exponential-spec : {M : Type 1} → statement M
 exponential-spec =

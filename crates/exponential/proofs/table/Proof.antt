@@ -2,14 +2,14 @@
 -- Assumes nothing.
 use mathlib.Core.Path.{refl}
 use lib.Dec.{lit<}
-use Rattle.exponential.specs.Exponential.{bound}
+use Rattle.exponential.specs.Exponential.{tableSize, bound}
 use Rattle.exponential.proofs.Entries.{right, entries-are}
 use Rattle.exponential.proofs.table.Statement.{statement}
 use Rattle.exponential.proofs.table.Tie as tie
 
 returns : tie.Need-returns
 unfolding right bound
-returns c = entries-are 256 (lit< tt) _ refl tt
+returns c = entries-are tableSize (lit< tt) _ refl tt
 
 pub table-spec : {M : Type 1} → statement M
 table-spec = tie.close (tie.spec returns)

@@ -1,9 +1,11 @@
+-- `host::karvelorn_compare` meets its contract: the answer is compare's, and a truth value becomes 1 or 0.
+-- Assumes nothing.
 use mathlib.Core.Path.{_≡_, refl, ap, _∙_}
 use mathlib.Core.Bool.{Bool, true, false, cond}
 use Prim.Native.Nat.{ℕ}
 use mir.Val.{boolByte}
 use borrow.Author.Needs.{needs}
-use Rattle.order_agreement.specs.Points.{Comparison}
+use Rattle.compare.specs.Compare.{Comparison}
 use Rattle.host.proofs.karvelorn_compare.Statement.{statement}
 use Rattle.host.proofs.karvelorn_compare.Tie as tie
 

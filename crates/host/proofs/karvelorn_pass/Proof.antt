@@ -1,3 +1,5 @@
+-- `host::karvelorn_pass` meets its contract: it hands on what the pass answers.
+-- Assumes nothing.
 use borrow.Author.Needs.{needs}
 use Rattle.host.proofs.karvelorn_pass.Statement.{statement}
 use Rattle.host.proofs.karvelorn_pass.Tie as tie

@@ -1,4 +1,4 @@
--- `traces::dac_number` meets its contract.
+-- `layout::dac_number` meets its contract: the low 4 bits of GO are a number below 16.
 -- Assumes nothing.
 use mathlib.Core.Path.{_≡_}
 use Prim.Native.Nat.{_*_, _%_}

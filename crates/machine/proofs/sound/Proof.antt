@@ -1,58 +1,48 @@
 -- `machine::sound` meets its contract: the sweep's answer is question 2's.
 -- Assumes nothing.
-use borrow.Author.Needs.{needs}
 use mathlib.Core.Path.{sym}
 use Rattle.machine.proofs.Sweep.{sound-swept}
+use borrow.Author.Needs.{needs}
 use Rattle.machine.proofs.sound.Statement.{statement}
 use Rattle.machine.proofs.sound.Tie as tie
 
-generator-columns-requires : tie.Need-generator-columns-requires
-generator-columns-requires c κs = search needs
+words-below-requires : tie.Need-words-below-requires
+words-below-requires c κs = search needs
 
-within-requires : tie.Need-within-requires
-within-requires c κs = search needs
+words-below-requires-2 : tie.Need-words-below-requires-2
+words-below-requires-2 c κs = search needs
 
-modifier-columns-requires : tie.Need-modifier-columns-requires
-modifier-columns-requires c κs = search needs
+generators-within-requires : tie.Need-generators-within-requires
+generators-within-requires c κs = search needs
 
-within-requires-2 : tie.Need-within-requires-2
-within-requires-2 c κs = search needs
-
-ored-requires : tie.Need-ored-requires
-ored-requires c κs = search needs
-
-ored-requires-2 : tie.Need-ored-requires-2
-ored-requires-2 c κs = search needs
+modifiers-within-requires : tie.Need-modifiers-within-requires
+modifiers-within-requires c κs = search needs
 
 controls-within-requires : tie.Need-controls-within-requires
 controls-within-requires c κs = search needs
 
 returns : tie.Need-returns
 returns c =
-    let dacs = c .before in
+    let modifiers = c .before in
+    let generators = modifiers .before in
+    let dacs = generators .before in
     let sums = dacs .before in
-    let modifiers = sums .before in
-    let generators = modifiers .before .before in
     rw (
-      generators .within .ensures,
-      generators .before .generator-columns .ensures,
-      modifiers .within2 .ensures,
-      modifiers .before .modifier-columns .ensures,
-      sums .ored .ensures,
-      dacs .ored2 .ensures,
+      generators .generators-within .ensures,
+      modifiers .modifiers-within .ensures,
+      sums .words-below .ensures,
+      dacs .words-below2 .ensures,
       c .controls-within .ensures,
     )
-    (sym (sound-swept (generators .before .before .before .args .m .now)))
+    (sym (sound-swept (sums .before .before .args .m .now)))
 
 pub sound-spec : {M : Type 1} → statement M
 sound-spec =
     tie.close
     (tie.spec
-    generator-columns-requires
-    within-requires
-    modifier-columns-requires
-    within-requires-2
-    ored-requires
-    ored-requires-2
+    words-below-requires
+    words-below-requires-2
+    generators-within-requires
+    modifiers-within-requires
     controls-within-requires
     returns)

@@ -1,4 +1,4 @@
--- `modes::switches_of` meets its contract.
+-- `modes::switches_of` meets its contract: the row of the table is the definition's, number by number.
 -- Assumes nothing.
 use borrow.Author.Needs.{needs}
 use Rattle.modes.specs.Modes.{row}

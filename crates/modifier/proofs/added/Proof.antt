@@ -1,3 +1,5 @@
+-- `modifier::added` meets its contract: the sum's promise, and its width.
+-- Assumes nothing.
 use borrow.Author.Needs.{needs}
 use Rattle.words.proofs.Residues.{sum-low}
 use Rattle.modifier.proofs.Low.{word-of}

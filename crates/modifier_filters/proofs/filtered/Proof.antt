@@ -1,3 +1,5 @@
+-- `modifier_filters::filtered` meets its contract: the two products' promises, added, are the definition.
+-- Assumes nothing.
 use borrow.Author.Needs.{needs}
 use mathlib.Core.Path.{refl}
 use Rattle.modifier_filters.specs.Filters.{filtered}

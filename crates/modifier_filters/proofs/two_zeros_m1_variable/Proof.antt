@@ -1,3 +1,5 @@
+-- `modifier_filters::two_zeros_m1_variable` meets its contract: the turn's promise goes into that of the variable coefficient.
+-- Assumes nothing.
 use borrow.Author.Needs.{needs}
 use mathlib.Core.Path.{refl}
 use Rattle.modifier_filters.specs.Filters.{twoZeros, m1Variable, twoZerosM1Variable}

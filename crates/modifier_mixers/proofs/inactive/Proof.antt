@@ -1,3 +1,5 @@
+-- `modifier_mixers::inactive` meets its contract: S is 0.
+-- Assumes nothing.
 use borrow.Author.Needs.{needs}
 use mathlib.Core.Path.{refl}
 use Rattle.modifier_mixers.specs.Mixers.{inactive}

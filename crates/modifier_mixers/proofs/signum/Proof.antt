@@ -1,3 +1,5 @@
+-- `modifier_mixers::signum` meets its contract: each arm is its case of the comparison.
+-- Assumes nothing.
 use borrow.Author.Needs.{needs}
 use borrow.Author.Tests.{eq-eqb, ne-eqb}
 use Rattle.words.specs.Words.{lowBits}

@@ -1,3 +1,5 @@
+-- `modifier_modulators::amplitude_modulation` meets its contract: the calls' promises, one after the other, are the definition.
+-- Assumes nothing.
 use borrow.Author.Needs.{needs}
 use Rattle.product.proofs.Widths.{half-low}
 use mathlib.Core.Path.{refl}

@@ -1,3 +1,5 @@
+-- `modifier_modulators::pulser` meets its contract: each way out is its case of the two terms.
+-- Assumes nothing.
 use borrow.Author.Needs.{needs}
 use borrow.Author.Tests.{eq-eqb, ne-eqb}
 use mathlib.Core.Path.{refl}

@@ -1,3 +1,5 @@
+-- `modifier_modulators::triggered_noise` meets its contract: each arm is its side of the test.
+-- Assumes nothing.
 use borrow.Author.Needs.{needs}
 use borrow.Author.Tests.{eq-eqb, ne-eqb}
 use mathlib.Core.Path.{refl}

@@ -1,3 +1,5 @@
+-- `modifier_turn::turn` meets its contract: each arm is its code's line of the definition.
+-- Assumes nothing.
 use borrow.Author.Needs.{needs}
 use borrow.Author.Tests.{ne-eqb}
 use Rattle.modifier_turn.specs.Turn.{turnOf}

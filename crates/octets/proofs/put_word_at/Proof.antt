@@ -1,3 +1,5 @@
+-- `octets::put_word_at` meets its contract: four stores are the definition's bytes.
+-- Assumes nothing.
 use mathlib.Core.Path.{_≡_}
 use Prim.Native.Nat.{ℕ, suc, _+_}
 use native.Mathlib.Numerals.{add-one}

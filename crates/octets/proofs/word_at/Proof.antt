@@ -1,3 +1,5 @@
+-- `octets::word_at` meets its contract: four reads are the definition's bytes.
+-- Assumes nothing.
 use Rattle.octets.specs.Octets.{wordAt}
 use borrow.Author.Needs.{needs}
 use Rattle.octets.proofs.word_at.Statement.{statement}

@@ -1,8 +1,7 @@
 -- `order::in_modes` meets its contract: the counts so far are those of the generators passed.
 -- Assumes nothing.
-use mathlib.Core.Path.{_≡_, refl, sym, ap, _∙_}
+use mathlib.Core.Path.{_≡_, refl, ap, _∙_}
 use mathlib.Core.Bool.{cond}
-use mathlib.Core.List.{List}
 use Prim.Native.Nat.{ℕ, _+_, _-_, _≤_}
 use native.Mathlib.Omega.{arith}
 use lib.Dec.{eqb}
@@ -11,21 +10,21 @@ use Rattle.lists.proofs.Counts.{count-below-next, count-below-le}
 use Rattle.order.specs.Order.{inMode}
 use Rattle.order.proofs.in_modes.Statement.{statement}
 use Rattle.order.proofs.in_modes.Tie as tie
-use Rattle.layout.specs.Machine.{ticksOf, runModeAt}
+use Rattle.layout.specs.Machine.{Machine, ticksOf, runModeAt}
 use Rattle.modes.specs.Modes.{readData, writeData}
 
 -- How many of the first g generators are in a run mode, and one generator more.
-abbrev among : List ℕ → ℕ → ℕ → ℕ
+abbrev among : Machine → ℕ → ℕ → ℕ
 among m r g = countBelow (λ k. eqb (runModeAt m k) r) g
 
-next : (m : List ℕ) (r g n b : ℕ) → n ≡ among m r g → b ≡ cond (eqb (runModeAt m g) r) 1 0 → n + b ≡ among m r (g + 1)
+next : (m : Machine) (r g n b : ℕ) → n ≡ among m r g → b ≡ cond (eqb (runModeAt m g) r) 1 0 → n + b ≡ among m r (g + 1)
 next m r g n b p q = rw (p, q) (count-below-next (λ k. eqb (runModeAt m k) r) g)
 
-fits : (m : List ℕ) (r g n : ℕ) → n ≡ among m r g → n ≤ g
+fits : (m : Machine) (r g n : ℕ) → n ≡ among m r g → n ≤ g
 fits m r g n p = rw p (count-below-le (λ k. eqb (runModeAt m k) r) g)
 
 -- A mode that is read, as a count of 0 or 1.
-one : (m : List ℕ) (g r : ℕ) {run n : ℕ} → run ≡ runModeAt m g → n ≡ cond (eqb run r) 1 0 → n ≡ cond (eqb (runModeAt m g) r) 1 0
+one : (m : Machine) (g r : ℕ) {run n : ℕ} → run ≡ runModeAt m g → n ≡ cond (eqb run r) 1 0 → n ≡ cond (eqb (runModeAt m g) r) 1 0
 one m g r e f = f ∙ ap (λ (x : ℕ). cond (eqb x r) 1 0) e
 
 abbrev Inv-loop : tie.InvT-loop

@@ -1,4 +1,4 @@
--- `order::is_mode` meets its contract.
+-- `order::is_mode` meets its contract: a truth value as a number is 1 or 0.
 -- Assumes nothing.
 use mathlib.Core.Path.{_≡_, refl}
 use mathlib.Core.Bool.{Bool, true, false, cond}

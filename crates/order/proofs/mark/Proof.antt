@@ -1,4 +1,4 @@
--- `order::mark` meets its contract.
+-- `order::mark` meets its contract: its two tests and its store are the definition's, branch by branch.
 -- Assumes nothing.
 use mathlib.Core.Path.{refl}
 use borrow.Author.Needs.{needs}

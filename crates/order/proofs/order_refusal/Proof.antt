@@ -1,4 +1,4 @@
--- `order::order_refusal` meets its contract.
+-- `order::order_refusal` meets its contract: the two questions are asked in sequence, branch by branch.
 -- Assumes nothing.
 use mathlib.Core.Path.{_≡_, refl, sym, _∙_}
 use mathlib.Core.Bool.{true, false}

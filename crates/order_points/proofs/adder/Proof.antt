@@ -1,9 +1,10 @@
--- `points::adder` meets its contract.
+-- `order_points::adder` meets its contract: each branch decides whether the word is marked.
 -- Assumes nothing.
 use borrow.Author.Needs.{needs}
 use mathlib.Core.Path.{sym, _∙_}
 use native.Mathlib.Omega.{arith}
 use borrow.Author.Tests.{not-true, not-false}
+use Rattle.order_points.specs.Loops.{Sides}
 use Rattle.order_points.proofs.Asked.{no-add, no-replaced, one-side, two-sides}
 use Rattle.order_points.proofs.adder.Statement.{statement}
 use Rattle.order_points.proofs.adder.Tie as tie
@@ -16,8 +17,11 @@ adding-requires c κs = search needs
 
 returns : tie.Need-returns
 returns c =
-    let b = c .before .before .before .before .args in
-    no-add (b .m .now) (b .at1 .now) (b .at2 .now) (b .last .now) (b .marks .now) (b .g) (c .before .before .run-mode .ensures) (sym (c .before .adding .ensures) ∙ not-true _ (c .if1 .taken))
+    let on = c .before in
+    let mode = on .before in
+    let a = mode .before .before .args in
+    let sides : Sides = record { first = a .place1 .now; second = a .place2 .now } in
+    no-add (a .m .now) sides (a .last .now) (a .marks .now) (a .g) (mode .run-mode .ensures) (sym (on .adding .ensures) ∙ not-true _ (c .if1 .taken))
 
 gsum-requires : tie.Need-gsum-requires
 gsum-requires c κs = search needs
@@ -37,36 +41,62 @@ wide-requires c κs = search needs
 
 returns-2 : tie.Need-returns-2
 returns-2 c =
-    let b = c .before .before .before .before .before .before .before .before .args in
-    no-replaced (b .m .now) (b .at1 .now) (b .at2 .now) (b .last .now) (b .marks .now) (b .g) (c .before .before .before .before .before .before .run-mode .ensures)
-    (sym (c .before .before .before .before .before .adding .ensures) ∙ not-false _ (c .before .before .before .before .if1 .left)) (c .before .before .before .gsum .ensures) (c .before .wide .ensures) (c .if2 .taken)
+    let last = c .before in
+    let word = last .before .before in
+    let adds = word .before in
+    let on = adds .before in
+    let mode = on .before in
+    let a = mode .before .before .args in
+    let sides : Sides = record { first = a .place1 .now; second = a .place2 .now } in
+    no-replaced (a .m .now) sides (a .last .now) (a .marks .now) (a .g) (mode .run-mode .ensures) (sym (on .adding .ensures) ∙ not-false _ (adds .if1 .left))
+    (word .gsum .ensures) (last .wide .ensures) (c .if2 .taken)
 
 sub-same-side : tie.Need-sub-same-side
 sub-same-side c = search needs
 
 same-side-requires : tie.Need-same-side-requires
 same-side-requires c κs =
-    let b = c .before .before .before .before .before .before .before .before in
+    let last = c .before in
+    let word = last .before .before in
+    let b = word .before .before .before .before .before in
     let low = b .pre .0 .gsums (b .args .g) (b .pre .1 .1) in
-    let w = c .before .before .before .gsum in
-    (omega (arith, c .before .wide .ensures, b .pre .1 .0 .low (w .result) (omega (arith, w .ensures))), b .pre .1 .1)
+    let w = word .gsum in
+    (omega (arith, last .wide .ensures, b .pre .1 .0 .within (w .result) (omega (arith, w .ensures, low))), b .pre .1 .1)
 
 returns-3 : tie.Need-returns-3
 returns-3 c =
-    let b = c .before .before .before .before .before .before .before .before .before .before .args in
-    one-side (b .m .now) (b .at1 .now) (b .at2 .now) (b .last .now) (b .marks .now) (b .g) (c .before .before .before .before .before .before .before .before .run-mode .ensures)
-    (sym (c .before .before .before .before .before .before .before .adding .ensures) ∙ not-false _ (c .before .before .before .before .before .before .if1 .left)) (c .before .before .before .before .before .gsum .ensures) (c .before .before .before .wide .ensures) (c .before .before .if2 .left) (sym (c .before .same-side .ensures) ∙ c .if3 .taken)
+    let side = c .before in
+    let there = side .before in
+    let last = there .before in
+    let word = last .before .before in
+    let adds = word .before in
+    let on = adds .before in
+    let mode = on .before in
+    let a = mode .before .before .args in
+    let sides : Sides = record { first = a .place1 .now; second = a .place2 .now } in
+    one-side (a .m .now) sides (a .last .now) (a .marks .now) (a .g) (mode .run-mode .ensures) (sym (on .adding .ensures) ∙ not-false _ (adds .if1 .left))
+    (word .gsum .ensures) (last .wide .ensures) (there .if2 .left) (sym (side .same-side .ensures) ∙ c .if3 .taken)
 
 element-write-marks : tie.Need-element-write-marks
 element-write-marks c =
-    let b = c .before .before .before .before .before .before .before .before .before .before in
-    omega (arith, c .before .before .before .before .before .gsum .ensures, b .pre .0 .gsums (b .args .g) (b .pre .1 .1))
+    let last = c .before .before .before in
+    let word = last .before .before in
+    let b = word .before .before .before .before .before in
+    omega (arith, word .gsum .ensures, b .pre .0 .gsums (b .args .g) (b .pre .1 .1))
 
 returns-4 : tie.Need-returns-4
 returns-4 c =
-    let b = c .before .before .before .before .before .before .before .before .before .before .args in
-    two-sides (b .m .now) (b .at1 .now) (b .at2 .now) (b .last .now) (b .marks .now) (b .g) (c .before .before .before .before .before .before .before .before .run-mode .ensures)
-    (sym (c .before .before .before .before .before .before .before .adding .ensures) ∙ not-false _ (c .before .before .before .before .before .before .if1 .left)) (c .before .before .before .before .before .gsum .ensures) (c .before .before .before .wide .ensures) (c .before .before .if2 .left) (sym (c .before .same-side .ensures) ∙ c .if3 .left)
+    let side = c .before in
+    let there = side .before in
+    let last = there .before in
+    let word = last .before .before in
+    let adds = word .before in
+    let on = adds .before in
+    let mode = on .before in
+    let a = mode .before .before .args in
+    let sides : Sides = record { first = a .place1 .now; second = a .place2 .now } in
+    two-sides (a .m .now) sides (a .last .now) (a .marks .now) (a .g) (mode .run-mode .ensures) (sym (on .adding .ensures) ∙ not-false _ (adds .if1 .left))
+    (word .gsum .ensures) (last .wide .ensures) (there .if2 .left) (sym (side .same-side .ensures) ∙ c .if3 .left)
 
 pub adder-spec : {M : Type 1} → statement M
 adder-spec =

@@ -1,16 +1,19 @@
--- `points::adders` meets its contract: the marks are those of the generators passed.
+-- `order_points::adders` meets its contract: the marks are those of the generators passed.
 -- Assumes nothing.
+use mathlib.Core.Path.{_≡_, ap, _∙_}
 use Prim.Native.Nat.{_≤_, _-_}
 use native.Mathlib.Omega.{arith}
-use Rattle.order_points.proofs.ReplacedWords.{MarkedTo, marked-none, marked-next, marked-all}
+use Rattle.layout.specs.Machine.{ticksOf}
+use Rattle.order_points.specs.Loops.{Sides, marksOf}
+use Rattle.order_points.proofs.ReplacedWords.{marked-none, marked-next}
 use Rattle.order_points.proofs.adders.Statement.{statement}
 use Rattle.order_points.proofs.adders.Tie as tie
 
 abbrev Inv-loop : tie.InvT-loop
-Inv-loop m at1 at2 last marks₀ t g₀ marks g = (g ≤ t) × MarkedTo m at1 at2 last marks g
+Inv-loop m place1 place2 last marks₀ t g₀ marks g = (g ≤ t) × (marks ≡ marksOf m (record { first = place1; second = place2 }) last g)
 
 abbrev μ-loop : tie.MeasureT-loop
-μ-loop m at1 at2 last marks₀ t g₀ marks g = t - g
+μ-loop m place1 place2 last marks₀ t g₀ marks g = t - g
 
 ticks-requires : tie.Need-ticks-requires Inv-loop μ-loop
 ticks-requires c κs = c .before .pre .0 .reaches
@@ -18,7 +21,9 @@ ticks-requires c κs = c .before .pre .0 .reaches
 loop-holds : tie.Need-loop-holds Inv-loop μ-loop
 loop-holds c =
     let b = c .before .before in
-    (omega arith, marked-none (b .args .m .now) (b .args .at1 .now) (b .args .at2 .now) (b .args .last .now) (b .pre .1 .1))
+    let a = b .args in
+    let sides : Sides = record { first = a .place1 .now; second = a .place2 .now } in
+    (omega arith, marked-none (a .m .now) sides (a .last .now) (b .pre .1 .1))
 
 adder-requires : tie.Need-adder-requires Inv-loop μ-loop
 adder-requires c κs =
@@ -35,18 +40,17 @@ loop-less c = omega arith
 loop-again : tie.Need-loop-again Inv-loop μ-loop
 loop-again c =
     let z = c .before .before .before in
-    let b = z .before .before .before in
-    let a = b .args in (
-      omega arith,
-      marked-next (a .m .now) (a .at1 .now) (a .at2 .now) (a .last .now) (z .loop .marks) (z .loop .g)
-          (b .pre .0 .gsums (z .loop .g) (omega (arith, z .before .ticks .ensures, b .pre .0 .ticks))) (z .loop .inv .1) (c .adder .ensures),
-    )
+    let a = z .before .before .before .args in
+    let sides : Sides = record { first = a .place1 .now; second = a .place2 .now } in
+    (omega arith, marked-next (a .m .now) sides (a .last .now) (z .loop .g) (z .loop .inv .1) (c .adder .ensures))
 
 returns : tie.Need-returns Inv-loop μ-loop
 returns c =
     let z = c .before in
     let a = z .before .before .before .args in
-    marked-all (a .m .now) (a .at1 .now) (a .at2 .now) (a .last .now) (z .loop .marks) (z .loop .g) (omega (arith, z .before .ticks .ensures)) (z .loop .inv .1)
+    let sides : Sides = record { first = a .place1 .now; second = a .place2 .now } in
+    let e : z .loop .g ≡ ticksOf (a .m .now) = omega (arith, z .before .ticks .ensures) in
+    z .loop .inv .1 ∙ ap (marksOf (a .m .now) sides (a .last .now)) e
 
 pub adders-spec : {M : Type 1} → statement M
 adders-spec =

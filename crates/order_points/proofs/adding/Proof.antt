@@ -1,9 +1,10 @@
--- `points::adding` meets its contract.
+-- `order_points::adding` meets its contract: adding is on in 1111 and in the run modes that can trigger.
 -- Assumes nothing.
 use mathlib.Core.Path.{sym, ap, _∙_}
 use mathlib.Core.Bool.{Bool, _||_}
 use borrow.Author.Needs.{needs}
 use lib.Dec.{eqb}
+use Rattle.modes.specs.Modes.{runningA}
 use Rattle.order_points.proofs.Asked.{adds-is}
 use Rattle.order_points.proofs.adding.Statement.{statement}
 use Rattle.order_points.proofs.adding.Tie as tie
@@ -14,7 +15,7 @@ triggering-requires c κs = search needs
 returns : tie.Need-returns
 returns c =
     let r = c .before .args .run in
-    ap (λ (b : Bool). eqb r 15 || b) (c .triggering .ensures) ∙ sym (adds-is r)
+    ap (λ (b : Bool). eqb r runningA || b) (c .triggering .ensures) ∙ sym (adds-is r)
 
 pub adding-spec : {M : Type 1} → statement M
 adding-spec = tie.close (tie.spec triggering-requires returns)

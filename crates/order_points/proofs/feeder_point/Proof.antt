@@ -1,7 +1,8 @@
--- `points::feeder_point` meets its contract.
+-- `order_points::feeder_point` meets its contract: the first difference of what the traces hold is the point.
 -- Assumes nothing.
 use borrow.Author.Needs.{needs}
 use mathlib.Core.Path.{_≡_, _∙_}
+use Rattle.layout.specs.Layout.{dacs}
 use Rattle.order_lists.specs.Sequences.{firstFailing}
 use Rattle.order_points.specs.Loops.{sameAt}
 use Rattle.order_points.proofs.Differences.{feeders-held}
@@ -15,8 +16,8 @@ returns : tie.Need-returns
 returns c =
     let b = c .before .before .before .before .before .before in
     let a = b .args in
-    let e : c .first-difference .result ≡ firstFailing (sameAt (a .fed1 .now) (a .fed2 .now)) 16 = c .first-difference .ensures in
-    e ∙ feeders-held (a .m .now) (a .first .now) (a .second .now) (a .fed1 .now) (a .fed2 .now) (b .pre .0) (b .pre .1)
+    let e : c .first-difference .result ≡ firstFailing (sameAt (a .fed1 .now) (a .fed2 .now)) dacs = c .first-difference .ensures in
+    e ∙ feeders-held (a .m .now) (a .first .now) (a .second .now) (b .pre .0) (b .pre .1 .0) (b .pre .1 .1)
 
 pub feeder-point-spec : {M : Type 1} → statement M
 feeder-point-spec = tie.close (tie.spec first-difference-requires returns)

@@ -1,4 +1,4 @@
--- `points::first_difference` meets its contract: the places passed hold the same numbers.
+-- `order_points::first_difference` meets its contract: the places passed hold the same numbers.
 -- Assumes nothing.
 use mathlib.Core.Path.{_≡_, sym}
 use Prim.Native.Nat.{_≤_, _-_}

@@ -1,4 +1,4 @@
--- `points::neighbour_point` meets its contract: the point holds at the generators passed.
+-- `order_points::neighbour_point` meets its contract: the point holds at the generators passed.
 -- Assumes nothing.
 use mathlib.Core.Path.{_≡_, sym, ap, _∙_}
 use Prim.Native.Nat.{_≤_, _-_}
@@ -7,16 +7,16 @@ use borrow.Author.Tests.{not-true, not-false}
 use Rattle.order_lists.specs.Sequences.{firstFailing}
 use Rattle.order_lists.proofs.Loops.{failing-zero, failing-next, failing-here}
 use Rattle.layout.specs.Machine.{ticksOf}
-use Rattle.order_points.specs.Loops.{neighbourBy}
+use Rattle.order_points.specs.Loops.{Sides, neighbourBy}
 use Rattle.order_points.proofs.Neighbours.{neighbours-held}
 use Rattle.order_points.proofs.neighbour_point.Statement.{statement}
 use Rattle.order_points.proofs.neighbour_point.Tie as tie
 
 abbrev Inv-loop : tie.InvT-loop
-Inv-loop m first second at1 at2 t g₀ g = (g ≤ t) × (firstFailing (neighbourBy m at1 at2) g ≡ g)
+Inv-loop m first second place1 place2 t g₀ g = (g ≤ t) × (firstFailing (neighbourBy m (record { first = place1; second = place2 })) g ≡ g)
 
 abbrev μ-loop : tie.MeasureT-loop
-μ-loop m first second at1 at2 t g₀ g = t - g
+μ-loop m first second place1 place2 t g₀ g = t - g
 
 ticks-requires : tie.Need-ticks-requires Inv-loop μ-loop
 ticks-requires c κs = c .before .before .before .pre .0 .reaches
@@ -35,9 +35,10 @@ returns c =
     let z = c .before .before .before in
     let b = z .before .before .before .before .before in
     let a = b .args in
-    sym (failing-here (neighbourBy (a .m .now) (a .at1 .now) (a .at2 .now)) (z .loop .g) (ticksOf (a .m .now)) (omega (arith, z .before .ticks .ensures)) (z .loop .inv .1)
+    let sides : Sides = record { first = a .place1 .now; second = a .place2 .now } in
+    sym (failing-here (neighbourBy (a .m .now) sides) (z .loop .g) (ticksOf (a .m .now)) (omega (arith, z .before .ticks .ensures)) (z .loop .inv .1)
     (sym (c .before .neighbour-same .ensures) ∙ not-true _ (c .if1 .taken)))
-    ∙ neighbours-held (a .m .now) (a .first .now) (a .second .now) (a .at1 .now) (a .at2 .now) (b .pre .1 .0) (b .pre .1 .1)
+    ∙ neighbours-held (a .m .now) (a .first .now) (a .second .now) (b .pre .0) (b .pre .1 .0) (b .pre .1 .1)
 
 add-g : tie.Need-add-g Inv-loop μ-loop
 add-g c = omega arith
@@ -48,10 +49,10 @@ loop-less c = omega arith
 loop-again : tie.Need-loop-again Inv-loop μ-loop
 loop-again c =
     let z = c .before .before .before in
-    let a = z .before .before .before .before .before .args in (
+    let a = z .before .before .before .before .before .args in
+    let sides : Sides = record { first = a .place1 .now; second = a .place2 .now } in (
       omega arith,
-      failing-next (neighbourBy (a .m .now) (a .at1 .now) (a .at2 .now)) (z .loop .g) (z .loop .inv .1)
-          (sym (c .before .neighbour-same .ensures) ∙ not-false _ (c .if1 .left)),
+      failing-next (neighbourBy (a .m .now) sides) (z .loop .g) (z .loop .inv .1) (sym (c .before .neighbour-same .ensures) ∙ not-false _ (c .if1 .left)),
     )
 
 returns-2 : tie.Need-returns-2 Inv-loop μ-loop
@@ -59,9 +60,10 @@ returns-2 c =
     let z = c .before in
     let b = z .before .before .before .before .before in
     let a = b .args in
+    let sides : Sides = record { first = a .place1 .now; second = a .place2 .now } in
     let e : z .loop .g ≡ ticksOf (a .m .now) = omega (arith, z .before .ticks .ensures) in
-    sym (z .loop .inv .1) ∙ ap (firstFailing (neighbourBy (a .m .now) (a .at1 .now) (a .at2 .now))) e
-    ∙ neighbours-held (a .m .now) (a .first .now) (a .second .now) (a .at1 .now) (a .at2 .now) (b .pre .1 .0) (b .pre .1 .1)
+    sym (z .loop .inv .1) ∙ ap (firstFailing (neighbourBy (a .m .now) sides)) e
+    ∙ neighbours-held (a .m .now) (a .first .now) (a .second .now) (b .pre .0) (b .pre .1 .0) (b .pre .1 .1)
 
 pub neighbour-point-spec : {M : Type 1} → statement M
 neighbour-point-spec =

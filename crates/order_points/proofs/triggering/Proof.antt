@@ -1,4 +1,4 @@
--- `points::triggering` meets its contract.
+-- `order_points::triggering` meets its contract: the two run modes are those that can trigger.
 -- Assumes nothing.
 use mathlib.Core.Path.{sym}
 use Rattle.modes.proofs.RunModes.{free-is}

@@ -1,9 +1,11 @@
--- `points::word_point` meets its contract.
+-- `order_points::word_point` meets its contract: the words are compared by what the traces hold and by the marks of the adding generators.
 -- Assumes nothing.
 use borrow.Author.Needs.{needs}
 use mathlib.Core.Path.{refl, _∙_}
 use Rattle.lists.specs.Lists.{zeros}
-use Rattle.order_points.proofs.ReplacedWords.{lasts-low, words-held}
+use Rattle.order_traces.specs.Traces.{Replaced}
+use Rattle.order_points.specs.Loops.{Sides}
+use Rattle.order_points.proofs.ReplacedWords.{lasts-within, words-held}
 use Rattle.order_points.proofs.word_point.Statement.{statement}
 use Rattle.order_points.proofs.word_point.Tie as tie
 
@@ -12,18 +14,22 @@ unfolding zeros
 adders-requires c κs =
     let b = c .before .before .before .before in
     let a = b .args in
-    (b .pre .0, (lasts-low (a .m .now) (a .first .now) (a .last1 .now) (a .place1 .now) (b .pre .0) (b .pre .1 .0 .0) (b .pre .1 .1 .1 .0), refl))
+    (b .pre .0, (lasts-within (a .m .now) (a .first .now) (b .pre .0) (b .pre .1 .0 .0) (b .pre .1 .1 .1 .0), refl))
 
 words-requires : tie.Need-words-requires
 words-requires c κs = search needs
 
 returns : tie.Need-returns
 returns c =
-    let b = c .before .before .before .before .before .before .before in
+    let marked = c .before .before in
+    let b = marked .before .before .before .before .before in
     let a = b .args in
+    let sides : Sides = record { first = a .place1 .now; second = a .place2 .now } in
+    let first : Replaced = record { last = a .last1 .now; among = a .among1 .now } in
+    let second : Replaced = record { last = a .last2 .now; among = a .among2 .now } in
     c .words .ensures
-    ∙ words-held (a .m .now) (a .first .now) (a .second .now) (a .at1 .now) (a .at2 .now) (a .last1 .now) (a .last2 .now) (a .place1 .now) (a .place2 .now) _
-    (b .pre .1 .0) (b .pre .1 .1 .0) (b .pre .1 .1 .1) (c .before .before .adders .ensures)
+    ∙ words-held (a .m .now) (a .first .now) (a .second .now) (b .pre .0) (b .pre .1 .0) sides first second
+    (b .pre .1 .1 .0) (b .pre .1 .1 .1) (marked .adders .ensures)
 
 pub word-point-spec : {M : Type 1} → statement M
 word-point-spec = tie.close (tie.spec adders-requires words-requires returns)

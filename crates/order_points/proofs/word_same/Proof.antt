@@ -1,4 +1,4 @@
--- `points::word_same` meets its contract.
+-- `order_points::word_same` meets its contract: its three tests are the definition's.
 -- Assumes nothing.
 use borrow.Author.Needs.{needs}
 use mathlib.Core.Path.{refl}

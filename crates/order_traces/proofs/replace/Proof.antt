@@ -1,9 +1,7 @@
--- `traces::replace` meets its contract.
+-- `order_traces::replace` meets its contract: GSUM, which is below 64, is where it stores.
 -- Assumes nothing.
-use mathlib.Core.Path.{ap}
-use Prim.Native.Nat.{ℕ, _+_}
+use mathlib.Core.Path.{refl}
 use native.Mathlib.Omega.{arith}
-use lib.ListN.{set}
 use borrow.Author.Needs.{needs}
 use Rattle.order_traces.proofs.replace.Statement.{statement}
 use Rattle.order_traces.proofs.replace.Tie as tie
@@ -27,25 +25,21 @@ element-write-last c =
     let b = c .before .before in
     omega (arith, c .gsum .ensures, b .pre .0 .gsums (b .args .g) (b .pre .1 .0))
 
-cast-place : tie.Need-cast-place
-cast-place c = search needs
+cast-among : tie.Need-cast-among
+cast-among c = search needs
 
-mul-place : tie.Need-mul-place
-mul-place c =
+mul-among : tie.Need-mul-among
+mul-among c =
     let b = c .before .before in
     omega (arith, c .gsum .ensures, b .pre .0 .gsums (b .args .g) (b .pre .1 .0))
 
-element-write-place : tie.Need-element-write-place
-element-write-place c =
+element-write-among : tie.Need-element-write-among
+element-write-among c =
     let b = c .before .before in
     omega (arith, c .gsum .ensures, b .pre .0 .gsums (b .args .g) (b .pre .1 .0))
 
 returns : tie.Need-returns
-returns c =
-    let b = c .before .before .args in (
-      ap (λ (w : ℕ). set (b .last .now) w (b .g + 1)) (c .gsum .ensures),
-      ap (λ (w : ℕ). set (b .place .now) w (b .n)) (c .gsum .ensures),
-    )
+returns c = rw (c .gsum .ensures) refl
 
 pub replace-spec : {M : Type 1} → statement M
 replace-spec =
@@ -56,7 +50,7 @@ replace-spec =
     cast-last
     mul-last
     element-write-last
-    cast-place
-    mul-place
-    element-write-place
+    cast-among
+    mul-among
+    element-write-among
     returns)

@@ -1,15 +1,16 @@
--- `traces::step` meets its contract.
+-- `order_traces::step` meets its contract: each run mode that it tells apart has a law of the step.
 -- Assumes nothing.
 use borrow.Author.Needs.{needs}
+use Rattle.order_traces.specs.Traces.{Trace}
 use Rattle.order_traces.proofs.Steps.{step-feeds, step-writes, step-replaces, step-past}
 use Rattle.order_traces.proofs.step.Statement.{statement}
 use Rattle.order_traces.proofs.step.Tie as tie
 
-cast-at : tie.Need-cast-at
-cast-at c = search needs
+cast-place : tie.Need-cast-place
+cast-place c = search needs
 
-element-write-at : tie.Need-element-write-at
-element-write-at c = search needs
+element-write-place : tie.Need-element-write-place
+element-write-place c = search needs
 
 run-mode-requires : tie.Need-run-mode-requires
 run-mode-requires c κs = search needs
@@ -28,8 +29,12 @@ element-write-fed c = search needs
 
 returns : tie.Need-returns
 returns c =
-    let b = c .before .before .before .before .before .args in
-    step-feeds (b .m .now) (b .i) (b .g) (b .at .now) (b .fed .now) (b .written .now) (b .last .now) (b .place .now) (b .done) (c .before .before .before .run-mode .ensures) (c .before .before .if1 .taken) (c .before .dac-number .ensures .0) (c .gfm .ensures)
+    let dac = c .before in
+    let taken = dac .before in
+    let mode = taken .before in
+    let a = mode .before .before .args in
+    let t : Trace = record { place = a .place .now; fed = a .fed .now; written = a .written .now; replaced = record { last = a .last .now; among = a .among .now }; counts = a .done } in
+    step-feeds (a .m .now) (a .i) (a .g) t (mode .run-mode .ensures) (taken .if1 .taken) (dac .dac-number .ensures .0) (c .gfm .ensures)
 
 gfm-requires-2 : tie.Need-gfm-requires-2
 gfm-requires-2 c κs = search needs
@@ -45,8 +50,11 @@ add-t23 c = search needs
 
 returns-2 : tie.Need-returns-2
 returns-2 c =
-    let b = c .before .before .before .before .before .args in
-    step-writes (b .m .now) (b .i) (b .g) (b .at .now) (b .fed .now) (b .written .now) (b .last .now) (b .place .now) (b .done) (c .before .before .before .run-mode .ensures) (c .before .if2 .taken) (c .gfm2 .ensures)
+    let taken = c .before in
+    let mode = taken .before .before in
+    let a = mode .before .before .args in
+    let t : Trace = record { place = a .place .now; fed = a .fed .now; written = a .written .now; replaced = record { last = a .last .now; among = a .among .now }; counts = a .done } in
+    step-writes (a .m .now) (a .i) (a .g) t (mode .run-mode .ensures) (taken .if2 .taken) (c .gfm2 .ensures)
 
 replace-requires : tie.Need-replace-requires
 replace-requires c κs = search needs
@@ -56,20 +64,27 @@ add-t29 c = search needs
 
 returns-3 : tie.Need-returns-3
 returns-3 c =
-    let b = c .before .before .before .before .before .before .before .before .args in
-    step-replaces (b .m .now) (b .i) (b .g) (b .at .now) (b .fed .now) (b .written .now) (b .last .now) (b .place .now) (b .done) (c .before .before .before .before .before .before .run-mode .ensures) (c .before .before .before .if3 .taken) (c .replace .ensures)
+    let taken = c .before .before .before in
+    let mode = taken .before .before .before in
+    let a = mode .before .before .args in
+    let t : Trace = record { place = a .place .now; fed = a .fed .now; written = a .written .now; replaced = record { last = a .last .now; among = a .among .now }; counts = a .done } in
+    step-replaces (a .m .now) (a .i) (a .g) t (mode .run-mode .ensures) (taken .if3 .taken) (c .replace .ensures)
 
 returns-4 : tie.Need-returns-4
 returns-4 c =
-    let b = c .before .before .before .before .before .args in
-    step-past (b .m .now) (b .i) (b .g) (b .at .now) (b .fed .now) (b .written .now) (b .last .now) (b .place .now) (b .done) (c .before .before .before .run-mode .ensures) (c .before .before .if1 .left) (c .before .if2 .left) (c .if3 .left)
+    let second = c .before in
+    let first = second .before in
+    let mode = first .before in
+    let a = mode .before .before .args in
+    let t : Trace = record { place = a .place .now; fed = a .fed .now; written = a .written .now; replaced = record { last = a .last .now; among = a .among .now }; counts = a .done } in
+    step-past (a .m .now) (a .i) (a .g) t (mode .run-mode .ensures) (first .if1 .left) (second .if2 .left) (c .if3 .left)
 
 pub step-spec : {M : Type 1} → statement M
 step-spec =
     tie.close
     (tie.spec
-    cast-at
-    element-write-at
+    cast-place
+    element-write-place
     run-mode-requires
     dac-number-requires
     gfm-requires

@@ -1,23 +1,29 @@
--- `traces::trace` meets its contract: the arrays hold what the entries passed leave.
+-- `order_traces::trace` meets its contract: the entries left, with the trace of those passed, make the whole trace.
 -- Assumes nothing.
-use Prim.Native.Nat.{_≤_, _<_, _-_}
+use mathlib.Core.Path.{_≡_, sym, _∙_}
+use Prim.Native.Nat.{_≤_, _-_}
 use native.Mathlib.Omega.{arith}
-use lib.ListN.{length}
-use Rattle.order_traces.proofs.Walk.{Walked, walked-none, walked-next, walked-all}
+use lib.ListN.{length, drop}
+use Rattle.order_traces.specs.Traces.{Trace, traceFrom, traceOf}
+use Rattle.order_traces.proofs.Steps.{counts-next, traced-none, traced-next, traced-all}
 use Rattle.order_traces.proofs.trace.Statement.{statement}
 use Rattle.order_traces.proofs.trace.Tie as tie
 
 abbrev Inv-loop : tie.InvT-loop
-Inv-loop m order at₀ fed₀ written₀ last₀ place₀ done₀ i₀ at fed written last place done i =
-    (i ≤ length order) × Walked m order i at fed written last place done
+Inv-loop m order place₀ fed₀ written₀ last₀ among₀ done₀ i₀ place fed written last among done i =
+    (i ≤ length order)
+    × (traceFrom m i (drop i order) (record { place = place; fed = fed; written = written; replaced = record { last = last; among = among }; counts = done })
+    ≡ traceOf m order)
+    × (done .reads ≤ i)
+    × (done .writes ≤ i)
 
 abbrev μ-loop : tie.MeasureT-loop
-μ-loop m order at₀ fed₀ written₀ last₀ place₀ done₀ i₀ at fed written last place done i = length order - i
+μ-loop m order place₀ fed₀ written₀ last₀ among₀ done₀ i₀ place fed written last among done i = length order - i
 
 loop-holds : tie.Need-loop-holds Inv-loop μ-loop
 loop-holds c =
     let b = c .before .before in
-    (omega arith, walked-none (b .args .m .now) (b .args .order .now) (b .pre .1 .1))
+    (omega arith, traced-none (b .args .m .now) (b .args .order .now) (b .pre .1 .1), omega arith, omega arith)
 
 mul-wide : tie.Need-mul-wide Inv-loop μ-loop
 mul-wide c = omega arith
@@ -30,16 +36,16 @@ wide-requires c κs = tt
 
 step-requires : tie.Need-step-requires Inv-loop μ-loop
 step-requires c κs =
-    let z = c .before .before .before .before .before .before .before .before in
+    let entry = c .before .before .before .before .before in
+    let z = entry .before .before .before in
     let b = z .before .before .before in
-    let low = b .pre .1 .0 .below (z .loop .i) (omega arith) in
-    let w = z .loop .inv .1 in (
+    let low = b .pre .1 .0 .below (z .loop .i) (omega arith) in (
       b .pre .0,
       (
         omega (arith, b .pre .0 .ticks, b .pre .1 .0 .entries),
-        omega (arith, c .before .before .before .before .before .wide .ensures, b .pre .0 .ticks),
-        omega (arith, w .reads-low, b .pre .0 .ticks, b .pre .1 .0 .entries),
-        omega (arith, w .writes-low, b .pre .0 .ticks, b .pre .1 .0 .entries),
+        omega (arith, entry .wide .ensures, low, b .pre .0 .ticks),
+        omega (arith, z .loop .inv .2, b .pre .0 .ticks, b .pre .1 .0 .entries),
+        omega (arith, z .loop .inv .3, b .pre .0 .ticks, b .pre .1 .0 .entries),
       ),
     )
 
@@ -51,18 +57,26 @@ loop-less c = omega arith
 
 loop-again : tie.Need-loop-again Inv-loop μ-loop
 loop-again c =
-    let z = c .before .before .before .before .before .before .before .before .before in
-    let b = z .before .before .before in
-    let more : z .loop .i < length (b .args .order .now) = c .before .before .before .before .before .before .before .before .loop-test .taken in (
-      omega (arith, more),
-      walked-next (b .args .m .now) (b .args .order .now) (z .loop .i) (b .pre .0) (b .pre .1 .0) more (z .loop .inv .1)
-          (rw (c .before .before .before .before .before .before .wide .ensures) at (c .step .ensures)),
+    let entry = c .before .before .before .before .before .before in
+    let inside = entry .before .before in
+    let z = inside .before in
+    let a = z .before .before .before .args in
+    let w = z .loop in
+    let t : Trace = record { place = w .place; fed = w .fed; written = w .written; replaced = record { last = w .last; among = w .among }; counts = w .done } in
+    let grown = counts-next (a .m .now) (w .i) _ t (c .step .ensures) in (
+      omega arith,
+      traced-next (a .m .now) (a .order .now) (w .i) t (inside .loop-test .taken) (entry .wide .ensures) (c .step .ensures) ∙ w .inv .1,
+      omega (arith, grown .0, w .inv .2),
+      omega (arith, grown .1, w .inv .3),
     )
 
 returns : tie.Need-returns Inv-loop μ-loop
 returns c =
-    let b = c .before .before .before .before in
-    walked-all (b .args .m .now) (b .args .order .now) (c .before .loop .i) (b .pre .1 .0) (omega arith) (c .before .loop .inv .1)
+    let z = c .before in
+    let a = z .before .before .before .args in
+    let w = z .loop in
+    let t : Trace = record { place = w .place; fed = w .fed; written = w .written; replaced = record { last = w .last; among = w .among }; counts = w .done } in
+    sym (traced-all (a .m .now) (a .order .now) (w .i) t (omega arith)) ∙ w .inv .1
 
 pub trace-spec : {M : Type 1} → statement M
 trace-spec =

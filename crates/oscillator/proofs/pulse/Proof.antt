@@ -1,11 +1,10 @@
-use mathlib.Core.Path.{refl}
+-- `oscillator::pulse` meets its contract: each arm is its side of the definition.
+-- Assumes nothing.
 use native.Mathlib.Omega.{arith}
 use Rattle.words.specs.Words.{valueOf}
 use Rattle.oscillator.specs.Oscillator.{pulse}
 use Rattle.oscillator.proofs.pulse.Statement.{statement}
 use Rattle.oscillator.proofs.pulse.Tie as tie
-use Rattle.oscillator.proofs.pulse.Reads as reads
-use Rattle.oscillator.proofs.pulse.Lts as lts
 
 returns : tie.Need-returns
 unfolding pulse valueOf

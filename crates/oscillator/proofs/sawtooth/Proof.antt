@@ -1,11 +1,11 @@
+-- `oscillator::sawtooth` meets its contract: each half of K's range, by its law.
+-- Assumes nothing.
 use native.Mathlib.Omega.{arith}
 use Rattle.words.specs.Words.{valueOf}
 use Rattle.oscillator.proofs.Waves.{saw-low, saw-high}
 use borrow.Author.Needs.{needs}
 use Rattle.oscillator.proofs.sawtooth.Statement.{statement}
 use Rattle.oscillator.proofs.sawtooth.Tie as tie
-use Rattle.oscillator.proofs.sawtooth.Reads as reads
-use Rattle.oscillator.proofs.sawtooth.Lts as lts
 
 returns : tie.Need-returns
 unfolding valueOf

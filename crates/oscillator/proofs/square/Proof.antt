@@ -1,10 +1,10 @@
+-- `oscillator::square` meets its contract: the sign is K's, by the law of squares.
+-- Assumes nothing.
 use native.Mathlib.Omega.{arith}
 use Rattle.words.specs.Words.{valueOf}
 use Rattle.oscillator.proofs.Waves.{square-by}
 use Rattle.oscillator.proofs.square.Statement.{statement}
 use Rattle.oscillator.proofs.square.Tie as tie
-use Rattle.oscillator.proofs.square.Reads as reads
-use Rattle.oscillator.proofs.square.Lts as lts
 
 returns : tie.Need-returns
 unfolding valueOf

@@ -1,7 +1,9 @@
+-- `count` meets its contract: a wrapping add and a remainder are the counter's sum.
 use mathlib.Core.Path.{ap}
 use lib.ListN.{getD, set}
+use Rattle.layout.specs.Layout.{counterAt}
 use Rattle.pass.proofs.Runs.{count-code}
-use Rattle.pass.specs.Pass.{counted}
+use Rattle.pass_model.specs.Pass.{counted}
 use borrow.Author.Needs.{needs}
 use Rattle.pass.proofs.count.Statement.{statement}
 use Rattle.pass.proofs.count.Tie as tie
@@ -26,8 +28,9 @@ same-length c = search needs
 
 returns : tie.Need-returns
 unfolding counted
-returns c = let m = c .before .before .before .args .m .now in
-    ap (set m 4115) (count-code (getD m 4115 0) (c .wrapping-add-u32 .ensures))
+returns c =
+    let m = c .before .before .before .args .m .now in
+    ap (set m counterAt) (count-code (getD m counterAt 0) (c .wrapping-add-u32 .ensures))
 
 pub count-spec : {M : Type 1} → statement M
 count-spec =

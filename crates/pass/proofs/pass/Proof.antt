@@ -1,7 +1,9 @@
+-- `pass` meets its contract: refused it leaves all as it was, and else it runs.
 use mathlib.Core.Path.{sym, _∙_}
 use borrow.Author.Tests.{ne-eqb}
-use Rattle.pass.specs.Pass.{passOf, refused}
-use Rattle.pass.proofs.Asked.{passes, is-ready, are-numbers, few-ticks}
+use Rattle.pass_model.specs.Pass.{Call, passOf, refused}
+use Rattle.pass_model.proofs.Asked.{passes, few-ticks}
+use Rattle.pass.proofs.Readiness.{is-ready, are-numbers}
 use borrow.Author.Needs.{needs}
 use Rattle.pass.proofs.pass.Statement.{statement}
 use Rattle.pass.proofs.pass.Tie as tie
@@ -20,11 +22,16 @@ unfolding passOf refused
 returns c = rw (← (c .before .refusal .ensures), ne-eqb _ 0 (c .if1 .taken))
 
 run-requires : tie.Need-run-requires
-run-requires c κs = let b = c .before .before .before .before .before .before .before .before .before .before in
-    let m = b .args .m .now in
-    let o = b .args .order .now in
-    let p = passes m o (b .args .items .now) (b .args .places .now) (sym (c .before .before .before .refusal .ensures) ∙ c .before .before .if1 .left) in
-    (is-ready m o (p .0), (are-numbers m o (p .0) (p .1), few-ticks m o (p .0)))
+run-requires c κs =
+    let let-through = c .before .before in
+    let asked = let-through .before in
+    let known = asked .before .before .before in
+    let a = known .before .before .before .before .args in
+    let m = a .m .now in
+    let o = a .order .now in
+    let call : Call = record { order = o; items = a .items .now; places = a .places .now } in
+    let p = passes m call (sym (asked .refusal .ensures) ∙ let-through .if1 .left) in
+    (is-ready m (p .0), (are-numbers m o (p .0) (p .1), few-ticks m o (p .0)))
 
 same-length-3 : tie.Need-same-length-3
 same-length-3 c = c .before .before .before .before .run .kept .0
@@ -34,8 +41,11 @@ same-length-4 c = c .before .before .before .before .run .kept .1 .1 .1 .0
 
 returns-2 : tie.Need-returns-2
 unfolding passOf
-returns-2 c = let e = sym (c .before .before .before .before .before .before .before .before .refusal .ensures) ∙ c .before .before .before .before .before .before .before .if1 .left in
-    rw e (c .before .before .before .before .run .ensures)
+returns-2 c =
+    let run = c .before .before .before .before in
+    let let-through = run .before .before .before in
+    let e = sym (let-through .before .refusal .ensures) ∙ let-through .if1 .left in
+    rw e (run .run .ensures)
 
 pub pass-spec : {M : Type 1} → statement M
 pass-spec =

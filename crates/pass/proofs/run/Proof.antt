@@ -1,38 +1,78 @@
+-- `run` meets its contract: the promises of the stages, one after the other; each keeps the machine's length.
 use mathlib.Core.Path.{_∙_}
 use native.Mathlib.Omega.{arith}
+use Rattle.layout.proofs.Reach.{same-reach}
 use Rattle.pass.proofs.Runs.{ran-by}
 use Rattle.pass.proofs.run.Statement.{statement}
-use Rattle.layout.proofs.Reach.{same-reach}
 use Rattle.pass.proofs.run.Tie as tie
 
 ticks-requires : tie.Need-ticks-requires
 ticks-requires c κs = c .before .before .before .before .before .pre .0 .reaches
 
 load-requires : tie.Need-load-requires
-load-requires c κs = c .before .before .before .before .before .before .before .pre .0 .reaches
+load-requires c κs =
+    let ticks = c .before in
+    ticks .before .before .before .before .before .before .pre .0 .reaches
 
 generators-requires : tie.Need-generators-requires
-generators-requires c κs = (c .before .before .before .before .before .before .before .before .before .before .before .pre .0, c .before .before .before .before .before .before .before .before .before .before .before .pre .1 .0)
+generators-requires c κs =
+    let ticks = c .before .before .before .before .before in
+    let start = ticks .before .before .before .before .before .before in
+    (start .pre .0, start .pre .1 .0)
 
 modifiers-requires : tie.Need-modifiers-requires
-modifiers-requires c κs = (same-reach (c .before .before .before .before .before .before .generators .kept .0) (c .before .before .before .before .before .before .before .before .before .before .before .before .before .before .before .before .before .before .pre .0 .reaches), omega (arith, c .before .before .before .before .before .before .before .before .before .before .before .before .ticks .ensures, c .before .before .before .before .before .before .before .before .before .before .before .before .before .before .before .before .before .before .pre .1 .1))
+modifiers-requires c κs =
+    let generators = c .before .before .before .before .before .before in
+    let ticks = generators .before .before .before .before .before .before in
+    let start = ticks .before .before .before .before .before .before in
+    (same-reach (generators .generators .kept .0) (start .pre .0 .reaches), omega (arith, ticks .ticks .ensures, start .pre .1 .1))
 
 close-requires : tie.Need-close-requires
-close-requires c κs = same-reach (c .before .before .before .before .modifiers .kept .0 ∙ c .before .before .before .before .before .before .before .before .before .before .before .generators .kept .0) (c .before .before .before .before .before .before .before .before .before .before .before .before .before .before .before .before .before .before .before .before .before .before .before .pre .0 .reaches)
+close-requires c κs =
+    let modifiers = c .before .before .before .before in
+    let lent = modifiers .before .before .before in
+    let generators = lent .before .before .before .before in
+    let ticks = generators .before .before .before .before .before .before in
+    let start = ticks .before .before .before .before .before .before in
+    same-reach (modifiers .modifiers .kept .0 ∙ generators .generators .kept .0) (start .pre .0 .reaches)
 
 count-requires : tie.Need-count-requires
-count-requires c κs = same-reach (c .before .before .before .close .kept .0 ∙ (c .before .before .before .before .before .before .before .before .modifiers .kept .0 ∙ c .before .before .before .before .before .before .before .before .before .before .before .before .before .before .before .generators .kept .0)) (c .before .before .before .before .before .before .before .before .before .before .before .before .before .before .before .before .before .before .before .before .before .before .before .before .before .before .before .pre .0 .reaches)
+count-requires c κs =
+    let close = c .before .before .before in
+    let modifiers = close .before .before .before .before .before in
+    let lent = modifiers .before .before .before in
+    let generators = lent .before .before .before .before in
+    let ticks = generators .before .before .before .before .before .before in
+    let start = ticks .before .before .before .before .before .before in
+    same-reach (close .close .kept .0 ∙ (modifiers .modifiers .kept .0 ∙ generators .generators .kept .0)) (start .pre .0 .reaches)
 
 same-length : tie.Need-same-length
-same-length c = c .before .before .count .kept .0 ∙ (c .before .before .before .before .before .before .close .kept .0 ∙ (c .before .before .before .before .before .before .before .before .before .before .before .modifiers .kept .0 ∙ c .before .before .before .before .before .before .before .before .before .before .before .before .before .before .before .before .before .before .generators .kept .0))
+same-length c =
+    let count = c .before .before in
+    let close = count .before .before .before .before in
+    let modifiers = close .before .before .before .before .before in
+    let lent = modifiers .before .before .before in
+    let generators = lent .before .before .before .before in
+    count .count .kept .0 ∙ (close .close .kept .0 ∙ (modifiers .modifiers .kept .0 ∙ generators .generators .kept .0))
 
 same-length-2 : tie.Need-same-length-2
-same-length-2 c = c .before .before .before .before .before .before .before .before .before .before .before .before .before .before .before .before .before .before .generators .kept .1 .1 .1 .1 .0
+same-length-2 c =
+    let close = c .before .before .before .before .before .before in
+    let modifiers = close .before .before .before .before .before in
+    let lent = modifiers .before .before .before in
+    let generators = lent .before .before .before .before in
+    generators .generators .kept .1 .1 .1 .1 .0
 
 returns : tie.Need-returns
-returns c = let b = c .before .before .before .before .before .before .before .before .before .before .before .before .before .before .before .before .before .before .before .before .before .before .before .before .before .before .before .before .before .before in
-    ran-by (b .args .m .now) (b .args .order .now) (b .args .items .now) (b .args .places .now) _ _ _ _ _ _
-    (c .before .before .before .before .before .before .before .before .before .before .before .before .before .before .before .before .before .before .before .before .before .before .before .before .ticks .ensures) (c .before .before .before .before .before .before .before .before .before .before .before .before .before .before .before .before .before .before .before .before .before .before .load .ensures) (c .before .before .before .before .before .before .before .before .before .before .before .before .before .before .before .before .before .before .generators .ensures) (c .before .before .before .before .before .before .before .before .before .before .before .modifiers .ensures) (c .before .before .before .before .before .before .close .ensures) (c .before .before .count .ensures)
+returns c =
+    let count = c .before .before in
+    let close = count .before .before .before .before in
+    let modifiers = close .before .before .before .before .before in
+    let lent = modifiers .before .before .before in
+    let generators = lent .before .before .before .before in
+    let load = generators .before .before .before .before in
+    let ticks = load .before .before in
+    ran-by _ _ _ _ _ (ticks .ticks .ensures) (load .load .ensures) (generators .generators .ensures) (modifiers .modifiers .ensures) (close .close .ensures) (count .count .ensures)
 
 pub run-spec : {M : Type 1} → statement M
 run-spec =

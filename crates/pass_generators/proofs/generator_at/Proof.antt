@@ -1,8 +1,9 @@
+-- `generator_at` meets its contract: the part of the machine that is lent runs to its end.
 use mathlib.Core.Path.{ap, _∙_}
-use Prim.Native.Nat.{_*_}
-use Rattle.sums.proofs.Blocks.{part-from}
+use Rattle.layout.specs.Layout.{generatorAt}
+use Rattle.lists.proofs.Parts.{part-from}
 use Rattle.generator.specs.Generator.{loaded}
-use Rattle.pass_generators.specs.GeneratorStage.{generatorOf}
+use Rattle.pass_model.specs.Generators.{generatorOf}
 use borrow.Author.Needs.{needs}
 use Rattle.pass_generators.proofs.generator_at.Statement.{statement}
 use Rattle.pass_generators.proofs.generator_at.Tie as tie
@@ -27,7 +28,9 @@ load-requires c κs = search needs
 
 returns : tie.Need-returns
 unfolding generatorOf
-returns c = c .load .ensures ∙ ap loaded (part-from (c .before .before .before .args .m .now) (11 * c .before .before .before .args .g))
+returns c =
+    let a = c .before .before .before .args in
+    c .load .ensures ∙ ap loaded (part-from (a .m .now) (generatorAt (a .g)))
 
 pub generator-at-spec : {M : Type 1} → statement M
 generator-at-spec =

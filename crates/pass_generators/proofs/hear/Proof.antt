@@ -1,3 +1,4 @@
+-- `hear` meets its contract by the output: P is added, or replaces a word.
 use borrow.Author.Tests.{eq-eqb, ne-eqb}
 use Rattle.pass_generators.specs.Loops.{heard}
 use borrow.Author.Needs.{needs}
@@ -9,7 +10,9 @@ add-requires c κs = search needs
 
 returns : tie.Need-returns
 unfolding heard
-returns c = (rw (eq-eqb _ 1 (c .before .before .if1 .taken)) (c .add .ensures), rw (eq-eqb _ 1 (c .before .before .if1 .taken)))
+returns c =
+    let adds = eq-eqb _ 1 (c .before .before .if1 .taken) in
+    (rw adds (c .add .ensures), rw adds)
 
 item-at-requires : tie.Need-item-at-requires
 item-at-requires c κs = search needs
@@ -25,7 +28,11 @@ add-result c = search needs
 
 returns-2 : tie.Need-returns-2
 unfolding heard
-returns-2 c = (rw (ne-eqb _ 1 (c .before .before .before .before .if1 .left), c .replace .ensures, c .before .add20 .ensures, c .before .before .before .item-at .ensures), rw (ne-eqb _ 1 (c .before .before .before .before .if1 .left)))
+returns-2 c =
+    let sum = c .before in
+    let item = sum .before .before in
+    let replaces = ne-eqb _ 1 (item .before .if1 .left) in
+    (rw (replaces, c .replace .ensures, sum .add20 .ensures, item .item-at .ensures), rw replaces)
 
 pub hear-spec : {M : Type 1} → statement M
 hear-spec =

@@ -1,3 +1,4 @@
+-- `item_at` meets its contract: past the end stands 0.
 use lib.ListN.{List·getD-eq-default}
 use mathlib.Core.Path.{sym}
 use borrow.Author.Needs.{needs}

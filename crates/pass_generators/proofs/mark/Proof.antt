@@ -1,3 +1,4 @@
+-- `mark` meets its contract by whether the generator triggers.
 use borrow.Author.Needs.{needs}
 use Rattle.pass_generators.proofs.mark.Statement.{statement}
 use Rattle.pass_generators.proofs.mark.Tie as tie

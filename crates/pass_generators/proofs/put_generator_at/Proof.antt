@@ -1,3 +1,4 @@
+-- `put_generator_at` meets its contract: what is written in the part that is lent is written in the machine.
 use native.Mathlib.Omega.{arith}
 use Rattle.pass_generators.proofs.Parts.{put-back}
 use borrow.Author.Needs.{needs}
@@ -26,7 +27,10 @@ same-length : tie.Need-same-length
 same-length c = search needs
 
 returns : tie.Need-returns
-returns c = rw (c .before .before .store .ensures) (put-back (c .before .before .before .before .before .args .m .now) (c .before .before .before .before .before .args .g) (c .before .before .before .before .before .args .unit) (omega arith))
+returns c =
+    let store = c .before .before in
+    let a = store .before .before .before .args in
+    rw (store .store .ensures) (put-back (a .m .now) (a .g) (a .unit) (omega arith))
 
 pub put-generator-at-spec : {M : Type 1} → statement M
 put-generator-at-spec =

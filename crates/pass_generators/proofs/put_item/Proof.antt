@@ -1,3 +1,4 @@
+-- `put_item` meets its contract: past the end nothing is written.
 use mathlib.Core.Path.{sym}
 use lib.Seq.{set-out}
 use borrow.Author.Needs.{needs}

@@ -1,5 +1,6 @@
-use borrow.Author.Tests.{eq-eqb, ne-eqb}
-use Rattle.pass_generators.specs.GeneratorStage.{putDAC, sent, writtenBy}
+-- `send` meets its contract by the run mode: 0010, 0011 and all others.
+use borrow.Author.Tests.{ne-eqb}
+use Rattle.pass_generators.specs.Loops.{sent}
 use native.Mathlib.Numerals.{add-one}
 use borrow.Author.Needs.{needs}
 use Rattle.pass_generators.proofs.send.Statement.{statement}
@@ -21,8 +22,8 @@ same-length : tie.Need-same-length
 same-length c = search needs
 
 returns : tie.Need-returns
-unfolding putDAC sent writtenBy
-returns c = record { feeds = rw (eq-eqb _ 2 (c .before .if1 .taken)); sends = rw (c .before .if1 .taken); writes-on = rw (c .before .if1 .taken) }
+unfolding sent
+returns c = rw (c .before .if1 .taken)
 
 put-item-requires : tie.Need-put-item-requires
 put-item-requires c κs = search needs
@@ -34,12 +35,14 @@ same-length-2 : tie.Need-same-length-2
 same-length-2 c = search needs
 
 returns-2 : tie.Need-returns-2
-unfolding putDAC sent writtenBy
-returns-2 c = record { feeds = rw (ne-eqb _ 2 (c .before .before .before .before .before .if1 .left)); sends = rw (c .before .before .before .before .if2 .taken) (c .before .before .put-item .ensures); writes-on = rw (c .before .before .before .before .if2 .taken) (add-one _) }
+unfolding sent
+returns-2 c =
+    let put = c .before .before in
+    rw (put .before .before .if2 .taken, put .put-item .ensures, add-one)
 
 returns-3 : tie.Need-returns-3
-unfolding putDAC sent writtenBy
-returns-3 c = record { feeds = rw (ne-eqb _ 2 (c .before .if1 .left)); sends = rw (ne-eqb _ 3 (c .if2 .left)); writes-on = rw (ne-eqb _ 3 (c .if2 .left)) }
+unfolding sent
+returns-3 c = rw (ne-eqb _ 2 (c .before .if1 .left), ne-eqb _ 3 (c .if2 .left))
 
 pub send-spec : {M : Type 1} → statement M
 send-spec =

@@ -1,3 +1,4 @@
+-- `sound` meets its contract: what the generator brings is put back, marked and heard.
 use Rattle.generator.specs.Generator.{soundedOf}
 use Rattle.generator.proofs.Registers.{p-low}
 use Rattle.pass_generators.proofs.Steps.{sounds-by}
@@ -16,15 +17,22 @@ mark-requires c κs = search needs
 
 hear-requires : tie.Need-hear-requires
 unfolding soundedOf
-hear-requires c κs = let b = c .before .before .before .before .before .before .before .before .before .before .before in
-    (b .pre .1 .0 .gsum-low, rw (c .before .before .before .before .before .before .before .before .sound .ensures) (p-low _ _), b .pre .1 .1 .1 .1 .2)
+hear-requires c κs =
+    let put = c .before .before .before .before .before in
+    let sound = put .before .before .before in
+    let start = sound .before .before .before in
+    (start .pre .1 .0 .gsum-low, rw (sound .sound .ensures) (p-low _ _), start .pre .1 .1 .1 .1 .2)
 
 same-length : tie.Need-same-length
 same-length c = search needs
 
 returns : tie.Need-returns
-returns c = let b = c .before .before .before .before .before .before .before .before .before .before .before .before in
-    sounds-by (b .args .items .now) (b .args .reads) (b .pre .1 .1 .1 .0 .0) (b .pre .1 .1 .1 .0 .1) (c .before .before .before .before .before .before .before .before .before .sound .ensures) (c .before .before .before .before .before .before .put-generator-at .ensures) (c .before .before .mark .ensures) (c .hear .ensures)
+returns c =
+    let mark = c .before .before in
+    let put = mark .before .before .before .before in
+    let sound = put .before .before .before in
+    let start = sound .before .before .before in
+    sounds-by _ _ _ _ _ (start .pre .1 .1 .1 .0 .0) (sound .sound .ensures) (put .put-generator-at .ensures) (mark .mark .ensures) (c .hear .ensures)
 
 pub sound-spec : {M : Type 1} → statement M
 sound-spec =

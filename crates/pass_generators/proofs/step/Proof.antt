@@ -1,10 +1,11 @@
-use mathlib.Core.Path.{refl, sym}
+-- `step` meets its contract: the way that the code takes, by the run mode and its switches, is the step's.
+use mathlib.Core.Path.{refl}
 use Prim.Native.Nat.{_<_}
 use native.Mathlib.Omega.{arith}
 use Rattle.modes.proofs.Exclusions.{envelope-is, envelope-not, oscillator-not, waits-is}
-use Rattle.pass_generators.specs.Loops.{held}
+use Rattle.pass_model.specs.Generators.{State}
+use Rattle.pass_model.proofs.Puts.{generator-ranged}
 use Rattle.pass_generators.proofs.Steps.{step-idle, sounds-on, waits-on, sends-on}
-use Rattle.pass_generators.proofs.Puts.{generator-ranged}
 use borrow.Author.Needs.{needs}
 use Rattle.pass_generators.proofs.step.Statement.{statement}
 use Rattle.pass_generators.proofs.step.Tie as tie
@@ -16,41 +17,91 @@ same-length : tie.Need-same-length
 same-length c = search needs
 
 returns : tie.Need-returns
-returns c = let b = c .before .before .before .before .before .before .before in
-    sym (step-idle (b .args .items .now) (held (b .args .m .now) (b .args .s .now) (b .args .triggered .now) (b .args .places .now) (b .args .done)) (b .args .g) _ _ (c .before .before .generator-at .ensures) refl (b .pre .1 .0) (omega arith))
+returns c =
+    let unit = c .before .before in
+    let start = unit .before .before .before .before .before in
+    step-idle _ _ _ _ _ (unit .generator-at .ensures) refl (start .pre .1 .0) (omega arith)
 
 f-at-requires : tie.Need-f-at-requires
-f-at-requires c κs = rw (c .before .before .before .generator-at .ensures) (generator-ranged (c .before .before .before .before .before .before .before .before .args .m .now) (c .before .before .before .before .before .before .before .before .args .g) .gfm-low)
+f-at-requires c κs =
+    let unit = c .before .before .before in
+    rw (unit .generator-at .ensures) (generator-ranged _ _ .gfm-low)
 
 switches-of-requires : tie.Need-switches-of-requires
-switches-of-requires c κs = let h : c .before .before .before .before .before .generator-at .result .gmode < 1024 = rw (c .before .before .before .before .before .generator-at .ensures) (generator-ranged (c .before .before .before .before .before .before .before .before .before .before .args .m .now) (c .before .before .before .before .before .before .before .before .before .before .args .g) .gmode-low) in
-    (c .before .before .before .before .before .before .before .before .before .before .pre .1 .1 .0 .0, omega arith)
+switches-of-requires c κs =
+    let unit = c .before .before .before .before .before in
+    let start = unit .before .before .before .before .before in
+    let h : unit .generator-at .result .gmode < 1024 = rw (unit .generator-at .ensures) (generator-ranged _ _ .gmode-low) in
+    (start .pre .1 .1 .0 .0, omega arith)
 
 sound-requires : tie.Need-sound-requires
-sound-requires c κs = let b = c .before .before .before .before .before .before .before .before .before .before .before .before .before .before .before .before in
-    (b .pre .0, (rw (c .before .before .before .before .before .before .before .before .before .before .before .generator-at .ensures) (generator-ranged (c .before .before .before .before .before .before .before .before .before .before .before .before .before .before .before .before .args .m .now) (c .before .before .before .before .before .before .before .before .before .before .before .before .before .before .before .before .args .g)), ((b .pre .1 .1 .0 .1, b .pre .1 .1 .0 .2), ((c .before .before .before .before .before .switches-of .ensures, envelope-is _ _ (c .before .before .before .before .before .switches-of .ensures) (c .before .before .before .if2 .taken)), (c .before .before .before .before .before .before .before .f-at .ensures .low, b .pre .1 .1 .1 .0, b .pre .1 .1 .1 .1)))))
+sound-requires c κs =
+    let taken = c .before .before .before in
+    let switches = taken .before .before in
+    let f = switches .before .before in
+    let unit = f .before .before .before .before in
+    let start = unit .before .before .before .before .before in
+    let on = switches .switches-of .ensures in (
+      start .pre .0,
+      (
+        rw (unit .generator-at .ensures) (generator-ranged _ _),
+        (
+          (start .pre .1 .1 .0 .1, start .pre .1 .1 .0 .2),
+          ((on, envelope-is _ _ on (taken .if2 .taken)), (f .f-at .ensures .low, start .pre .1 .1 .1 .0, start .pre .1 .1 .1 .1)),
+        ),
+      ),
+    )
 
 same-length-2 : tie.Need-same-length-2
 same-length-2 c = search needs
 
 returns-2 : tie.Need-returns-2
-returns-2 c = let b = c .before .before .before .before .before .before .before .before .before .before .before .before .before .before .before .before .before .before .before in
-    sounds-on (b .args .items .now) (held (b .args .m .now) (b .args .s .now) (b .args .triggered .now) (b .args .places .now) (b .args .done)) (b .args .g) _ _ (c .before .before .before .before .before .before .before .before .before .before .before .before .before .before .generator-at .ensures) (c .before .before .before .before .before .before .before .before .before .before .f-at .ensures .is) (envelope-is _ _ (c .before .before .before .before .before .before .before .before .switches-of .ensures) (c .before .before .before .before .before .before .if2 .taken)) (c .before .before .sound .ensures)
+returns-2 c =
+    let sound = c .before .before in
+    let taken = sound .before .before .before .before in
+    let switches = taken .before .before in
+    let f = switches .before .before in
+    let unit = f .before .before .before .before in
+    let a = unit .before .before .before .before .before .args in
+    let s : State
+    = record { words = a .m .now; sums = a .s .now; triggered = a .triggered .now; places = a .places .now; reads = a .done .reads; writes = a .done .writes } in
+    sounds-on _ s _ _ _ (unit .generator-at .ensures) (f .f-at .ensures .is) (envelope-is _ _ (switches .switches-of .ensures) (taken .if2 .taken)) (sound .sound .ensures)
 
 wait-requires : tie.Need-wait-requires
-wait-requires c κs = let b = c .before .before .before .before .before .before .before .before .before .before .before .before .before .before .before .before .before in
-    (b .pre .0, (rw (c .before .before .before .before .before .before .before .before .before .before .before .before .generator-at .ensures) (generator-ranged (c .before .before .before .before .before .before .before .before .before .before .before .before .before .before .before .before .before .args .m .now) (c .before .before .before .before .before .before .before .before .before .before .before .before .before .before .before .before .before .args .g)), (waits-is _ _ (c .before .before .before .before .before .before .switches-of .ensures) (c .before .before .before .before .if2 .left) (c .before .before .if3 .taken), c .before .before .before .before .before .before .before .before .f-at .ensures .low, b .pre .1 .1 .1 .0)))
+wait-requires c κs =
+    let taken = c .before .before in
+    let left = taken .before .before in
+    let switches = left .before .before in
+    let f = switches .before .before in
+    let unit = f .before .before .before .before in
+    let start = unit .before .before .before .before .before in (
+      start .pre .0,
+      (
+        rw (unit .generator-at .ensures) (generator-ranged _ _),
+        (waits-is _ _ (switches .switches-of .ensures) (left .if2 .left) (taken .if3 .taken), f .f-at .ensures .low, start .pre .1 .1 .1 .0),
+      ),
+    )
 
 same-length-3 : tie.Need-same-length-3
 same-length-3 c = search needs
 
 returns-3 : tie.Need-returns-3
-returns-3 c = let b = c .before .before .before .before .before .before .before .before .before .before .before .before .before .before .before .before .before .before .before .before in
-    waits-on (b .args .items .now) (held (b .args .m .now) (b .args .s .now) (b .args .triggered .now) (b .args .places .now) (b .args .done)) (b .args .g) _ _ (c .before .before .before .before .before .before .before .before .before .before .before .before .before .before .before .generator-at .ensures) (c .before .before .before .before .before .before .before .before .before .before .before .f-at .ensures .is) (waits-is _ _ (c .before .before .before .before .before .before .before .before .before .switches-of .ensures) (c .before .before .before .before .before .before .before .if2 .left) (c .before .before .before .before .before .if3 .taken)) (c .before .before .wait .ensures)
+returns-3 c =
+    let wait = c .before .before in
+    let taken = wait .before .before .before in
+    let left = taken .before .before in
+    let switches = left .before .before in
+    let f = switches .before .before in
+    let unit = f .before .before .before .before in
+    waits-on _ _ _ _ _ (unit .generator-at .ensures) (f .f-at .ensures .is) (waits-is _ _ (switches .switches-of .ensures) (left .if2 .left) (taken .if3 .taken)) (wait .wait .ensures)
 
 send-requires : tie.Need-send-requires
-send-requires c κs = let b = c .before .before .before .before .before .before .before .before .before .before .before .before .before .before .before .before .before in
-    (b .pre .0, b .pre .1 .1 .1 .2)
+send-requires c κs =
+    let left = c .before .before .before .before in
+    let f = left .before .before .before .before in
+    let unit = f .before .before .before .before in
+    let start = unit .before .before .before .before .before in
+    (start .pre .0, start .pre .1 .1 .1 .2)
 
 same-length-4 : tie.Need-same-length-4
 same-length-4 c = search needs
@@ -59,8 +110,16 @@ same-length-5 : tie.Need-same-length-5
 same-length-5 c = search needs
 
 returns-4 : tie.Need-returns-4
-returns-4 c = let b = c .before .before .before .before .before .before .before .before .before .before .before .before .before .before .before .before .before .before .before .before .before .before in
-    sends-on (b .args .items .now) (held (b .args .m .now) (b .args .s .now) (b .args .triggered .now) (b .args .places .now) (b .args .done)) (b .args .g) _ _ (c .before .before .before .before .before .before .before .before .before .before .before .before .before .before .before .before .before .generator-at .ensures) (c .before .before .before .before .before .before .before .before .before .before .before .before .before .f-at .ensures .is) (b .pre .1 .0) (envelope-not _ _ (c .before .before .before .before .before .before .before .before .before .before .before .switches-of .ensures) (c .before .before .before .before .before .before .before .before .before .if2 .left)) (oscillator-not _ _ (c .before .before .before .before .before .before .before .before .before .before .before .switches-of .ensures) (c .before .before .before .before .before .before .before .if3 .left)) (c .before .before .before .before .send .ensures)
+returns-4 c =
+    let send = c .before .before .before .before in
+    let quiet = send .before .before .before in
+    let left = quiet .before .before in
+    let switches = left .before .before in
+    let f = switches .before .before in
+    let unit = f .before .before .before .before in
+    let start = unit .before .before .before .before .before in
+    let on = switches .switches-of .ensures in
+    sends-on _ _ _ _ _ (unit .generator-at .ensures) (f .f-at .ensures .is) (start .pre .1 .0) (envelope-not _ _ on (left .if2 .left)) (oscillator-not _ _ on (quiet .if3 .left)) (send .send .ensures)
 
 pub step-spec : {M : Type 1} → statement M
 step-spec =

@@ -1,22 +1,20 @@
-use native.Mathlib.Omega.{arith}
-use Rattle.pass_generators.specs.GeneratorStage.{told}
-use Rattle.pass_generators.proofs.Parts.{told-below}
+-- `told` meets its contract: the lowest generators have no lower neighbour, the others look at its mark.
 use borrow.Author.Needs.{needs}
+use borrow.Author.Tests.{le-leb, lt-leb}
+use Rattle.pass_model.specs.Generators.{told}
 use Rattle.pass_generators.proofs.told.Statement.{statement}
 use Rattle.pass_generators.proofs.told.Tie as tie
 
 returns : tie.Need-returns
 unfolding told
-returns c = rw (c .if1 .taken)
-
-sub-result : tie.Need-sub-result
-sub-result c = search needs
+returns c = rw (lt-leb 1 _ (c .if1 .taken))
 
 element-copy-out-result : tie.Need-element-copy-out-result
 element-copy-out-result c = search needs
 
 returns-2 : tie.Need-returns-2
-returns-2 c = told-below _ _ (omega arith)
+unfolding told
+returns-2 c = rw (le-leb 1 _ (c .before .if1 .left))
 
 pub told-spec : {M : Type 1} → statement M
-told-spec = tie.close (tie.spec returns sub-result element-copy-out-result returns-2)
+told-spec = tie.close (tie.spec returns element-copy-out-result returns-2)

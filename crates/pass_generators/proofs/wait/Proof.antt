@@ -1,3 +1,4 @@
+-- `wait` meets its contract: the turn as it is told, put back.
 use borrow.Author.Needs.{needs}
 use Rattle.pass_generators.proofs.wait.Statement.{statement}
 use Rattle.pass_generators.proofs.wait.Tie as tie
@@ -15,7 +16,10 @@ same-length : tie.Need-same-length
 same-length c = search needs
 
 returns : tie.Need-returns
-returns c = rw (c .before .before .put-generator-at .ensures, c .before .before .before .before .wait .ensures, c .before .before .before .before .before .told .ensures)
+returns c =
+    let put = c .before .before in
+    let wait = put .before .before in
+    rw (put .put-generator-at .ensures, wait .wait .ensures, wait .before .told .ensures)
 
 pub wait-spec : {M : Type 1} → statement M
 wait-spec =

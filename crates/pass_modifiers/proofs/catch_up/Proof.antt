@@ -1,3 +1,4 @@
+-- `catch_up` meets its contract by computation.
 use mathlib.Core.Path.{refl}
 use Rattle.pass_modifiers.specs.Loops.{caughtUp}
 use borrow.Author.Needs.{needs}

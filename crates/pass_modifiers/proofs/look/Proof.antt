@@ -1,5 +1,6 @@
+-- `look` meets its contract by the address's top bits.
 use borrow.Author.Tests.{eq-eqb, ne-eqb}
-use Rattle.pass_modifiers.specs.ModifierStage.{seen}
+use Rattle.pass_model.specs.Modifiers.{seen}
 use borrow.Author.Needs.{needs}
 use Rattle.pass_modifiers.proofs.look.Statement.{statement}
 use Rattle.pass_modifiers.proofs.look.Tie as tie

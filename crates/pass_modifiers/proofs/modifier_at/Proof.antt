@@ -1,5 +1,6 @@
-use Rattle.sums.proofs.Blocks.{part-from}
-use Rattle.pass_modifiers.specs.ModifierStage.{modifierOf}
+-- `modifier_at` meets its contract: the part of the machine that is lent runs to its end.
+use Rattle.lists.proofs.Parts.{part-from}
+use Rattle.pass_model.specs.Modifiers.{modifierOf}
 use borrow.Author.Needs.{needs}
 use Rattle.pass_modifiers.proofs.modifier_at.Statement.{statement}
 use Rattle.pass_modifiers.proofs.modifier_at.Tie as tie

@@ -1,9 +1,10 @@
+-- `modifiers` meets its contract: after k modifiers the arrays hold the lagging stage, which is the definition's.
 use mathlib.Core.Path.{_≡_, refl, _∙_}
 use Prim.Native.Nat.{_≤_, _-_}
 use native.Mathlib.Omega.{arith}
 use lib.ListN.{length}
 use borrow.Author.Needs.{needs}
-use Rattle.pass_modifiers.specs.Loops.{lagging, lagged}
+use Rattle.pass_modifiers.specs.Loops.{lagged}
 use Rattle.pass_modifiers.proofs.Lags.{lagged-on, stage-end}
 use Rattle.pass_modifiers.proofs.modifiers.Statement.{statement}
 use Rattle.layout.proofs.Reach.{same-reach}
@@ -11,7 +12,7 @@ use Rattle.pass_modifiers.proofs.modifiers.Tie as tie
 
 abbrev Inv-loop : tie.InvT-loop
 Inv-loop m₀ s₀ n early₀ first msums₀ lefts₀ k₀ m s early msums lefts k =
-    (k ≤ n) × (length m ≡ length m₀) × (lagging m s early msums lefts ≡ lagged m₀ s₀ k)
+    (k ≤ n) × (length m ≡ length m₀) × (record { words = m; sums = s; early = early; msums = msums; lefts = lefts } ≡ lagged m₀ s₀ k)
 
 abbrev μ-loop : tie.MeasureT-loop
 μ-loop m₀ s₀ n early₀ first msums₀ lefts₀ k₀ m s early msums lefts k = n - k
@@ -40,7 +41,8 @@ loop-less c = search needs
 loop-again : tie.Need-loop-again Inv-loop μ-loop
 loop-again c =
     let p = c .before .before in
-    let z = p .before .before .before .before .before .before .before in
+    let array = p .before .before .before .before in
+    let z = array .before .before .before in
     let a = z .before .before .before .args in (
       omega arith,
       p .step .kept .0 ∙ z .loop .inv .1,

@@ -1,7 +1,8 @@
+-- `put` meets its contract by MSUM's top bit: S is added, or replaces the word.
 use mathlib.Core.Path.{refl}
 use Prim.Native.Nat.{_/_}
 use borrow.Author.Tests.{eq-eqb, ne-eqb}
-use Rattle.pass_modifiers.specs.ModifierStage.{written}
+use Rattle.pass_model.specs.Modifiers.{withWrite}
 use Rattle.pass_modifiers.specs.Loops.{wordLeft}
 use borrow.Author.Needs.{needs}
 use Rattle.pass_modifiers.proofs.put.Statement.{statement}
@@ -26,8 +27,11 @@ index-2-s : tie.Need-index-2-s
 index-2-s c = search needs
 
 returns : tie.Need-returns
-unfolding written wordLeft
-returns c = rw (eq-eqb (c .before .before .before .before .before .before .args .w .msum / 64) 0 (c .before .before .before .if1 .taken), c .add20 .ensures, c .before .quadrant-word .ensures .is) (refl, refl)
+unfolding withWrite wordLeft
+returns c =
+    let word = c .before in
+    let taken = word .before .before in
+    rw (eq-eqb _ 0 (taken .if1 .taken), c .add20 .ensures, word .quadrant-word .ensures .is) (refl, refl)
 
 mul-s-2 : tie.Need-mul-s-2
 mul-s-2 c = search needs
@@ -39,7 +43,7 @@ index-2-s-2 : tie.Need-index-2-s-2
 index-2-s-2 c = search needs
 
 returns-2 : tie.Need-returns-2
-unfolding written wordLeft
+unfolding withWrite wordLeft
 returns-2 c = rw (ne-eqb _ 0 (c .if1 .left)) (refl, refl)
 
 pub put-spec : {M : Type 1} → statement M

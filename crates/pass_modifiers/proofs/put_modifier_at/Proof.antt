@@ -1,5 +1,6 @@
+-- `put_modifier_at` meets its contract: what is written in the part that is lent is written in the machine.
 use native.Mathlib.Omega.{arith}
-use Rattle.pass_modifiers.proofs.Registers.{put-back}
+use Rattle.pass_model.proofs.Registers.{put-back}
 use borrow.Author.Needs.{needs}
 use Rattle.pass_modifiers.proofs.put_modifier_at.Statement.{statement}
 use Rattle.pass_modifiers.proofs.put_modifier_at.Tie as tie

@@ -1,7 +1,8 @@
+-- `step` meets its contract: the promises of its calls, one after the other.
 use Rattle.modifier.proofs.Low.{loaded-ranged}
-use Rattle.pass_modifiers.specs.ModifierStage.{modifierOf}
+use Rattle.pass_model.specs.Modifiers.{modifierOf}
 use Rattle.pass_modifiers.specs.Loops.{lagStep}
-use Rattle.pass_modifiers.proofs.Stage.{turn-seen-low}
+use Rattle.pass_model.proofs.Modifiers.{turn-seen-low}
 use borrow.Author.Needs.{needs}
 use Rattle.pass_modifiers.proofs.step.Statement.{statement}
 use Rattle.pass_modifiers.proofs.step.Tie as tie

@@ -1,4 +1,5 @@
-use Rattle.pass_modifiers.specs.ModifierStage.{turnSeen}
+-- `turned` meets its contract by whether the function reads A late.
+use Rattle.pass_model.specs.Modifiers.{turnSeen}
 use borrow.Author.Needs.{needs}
 use Rattle.pass_modifiers.proofs.turned.Statement.{statement}
 use Rattle.pass_modifiers.proofs.turned.Tie as tie

@@ -1,3 +1,5 @@
+-- `product::half20` meets its contract: the biased word halved, by the law of `half`.
+-- Assumes nothing.
 use borrow.Author.Needs.{needs}
 use mathlib.Core.Path.{sym}
 use Prim.Native.Nat.{_^_}

@@ -1,3 +1,5 @@
+-- `product::less20` meets its contract: biased words are in the sequence of their integers.
+-- Assumes nothing.
 use borrow.Author.Needs.{needs}
 use mathlib.Core.Path.{sym}
 use Prim.Native.Nat.{_^_}

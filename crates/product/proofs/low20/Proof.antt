@@ -1,3 +1,5 @@
+-- `product::low20` meets its contract: a multiple of 2^20 that is added makes the number positive and leaves its low bits.
+-- Assumes nothing.
 use borrow.Author.Needs.{needs}
 use mathlib.Core.Path.{_≡_, ap, _∙_, subst⁻¹}
 use Prim.Native.Nat.{_+_, _-_, _%_, _^_}

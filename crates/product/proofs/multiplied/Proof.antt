@@ -1,3 +1,5 @@
+-- `product::multiplied` meets its contract: products of 64 bits give the integer where it is small.
+-- Assumes nothing.
 use borrow.Author.Needs.{needs}
 use Rattle.product.proofs.Integers.{is-fits, kept, scale, exact, at-scale}
 use Rattle.product.proofs.multiplied.Statement.{statement}

@@ -1,3 +1,5 @@
+-- `product::multiply` meets its contract: sums and shifts of 64 bits give the integer where it is small.
+-- Assumes nothing.
 use borrow.Author.Needs.{needs}
 use mathlib.Core.Path.{ap, _∙_}
 use Rattle.words.specs.Words.{lowBits}

@@ -1,3 +1,5 @@
+-- `product::multiply_integer` meets its contract: a shift of 64 bits gives the integer where it is small.
+-- Assumes nothing.
 use borrow.Author.Needs.{needs}
 use mathlib.Core.Path.{ap, _∙_}
 use Rattle.words.specs.Words.{lowBits}

@@ -1,3 +1,5 @@
+-- `product::opposite20` meets its contract: the product of 64 bits is the exact one, and its sign is tested.
+-- Assumes nothing.
 use borrow.Author.Needs.{needs}
 use mathlib.Core.Path.{ap}
 use lib.IntN.{ℤ, pos}

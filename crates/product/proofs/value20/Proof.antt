@@ -1,3 +1,5 @@
+-- `product::value20` meets its contract: the bias taken off a word gives its integer.
+-- Assumes nothing.
 use borrow.Author.Needs.{needs}
 use Rattle.product.proofs.Integers.{is-fits, kept, unbiased}
 use Rattle.product.proofs.value20.Statement.{statement}

@@ -1,3 +1,5 @@
+-- `refuse` meets its contract: the line of a refusal has room in its buffer.
+-- Assumes nothing.
 use mathlib.Core.Path.{refl}
 use Rattle.ring.proofs.Parts.{refusal-within}
 use borrow.Author.Needs.{needs}

@@ -1,5 +1,9 @@
+-- `ring` meets its contract: what was read has the lengths that the parts lent need.
+-- Assumes nothing.
 use Prim.Native.Nat.{ℕ}
 use lib.ListN.{replicate, length-replicate}
+use Rattle.layout.specs.Layout.{machineLength}
+use Rattle.bench_file.specs.BenchFile.{commandPlaces}
 use Rattle.ring.proofs.Parts.{read-whole, read-within}
 use borrow.Author.Needs.{needs}
 use Rattle.ring.proofs.ring.Statement.{statement}
@@ -15,7 +19,9 @@ returns : tie.Need-returns
 returns c = search needs
 
 slice-aggregate-ring-all : tie.Need-slice-aggregate-ring-all
-slice-aggregate-ring-all c = read-whole (c .before .before .before .before .before .before .before .args .text .now) (replicate 4119 0) (replicate 4096 0) (length-replicate {A = ℕ} 4119 0) (c .before .before .before .read .ensures)
+slice-aggregate-ring-all c =
+    let file = c .before .before .before in
+    read-whole (file .before .before .before .before .args .text .now) (replicate machineLength 0) (replicate commandPlaces 0) (length-replicate {A = ℕ} machineLength 0) (file .read .ensures)
 
 sub-ring-all : tie.Need-sub-ring-all
 sub-ring-all c = search needs
@@ -24,7 +30,9 @@ part-ring-all-start : tie.Need-part-ring-all-start
 part-ring-all-start c = search needs
 
 part-ring-all-end : tie.Need-part-ring-all-end
-part-ring-all-end c = read-within (c .before .before .before .before .before .before .before .before .args .text .now) (replicate 4119 0) (replicate 4096 0) (length-replicate {A = ℕ} 4096 0) (c .before .before .before .before .read .ensures)
+part-ring-all-end c =
+    let file = c .before .before .before .before in
+    read-within (file .before .before .before .before .args .text .now) (replicate machineLength 0) (replicate commandPlaces 0) (length-replicate {A = ℕ} commandPlaces 0) (file .read .ensures)
 
 ring-all-requires : tie.Need-ring-all-requires
 ring-all-requires c κs = search needs

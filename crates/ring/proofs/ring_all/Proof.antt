@@ -1,7 +1,9 @@
+-- `ring_all` meets its contract: each part leaves fewer passes.
+-- Assumes nothing.
 use mathlib.Core.Path.{_≡_, refl, _∙_}
-use lib.ListN.{length, drop}
+use lib.ListN.{length}
 use borrow.Author.Needs.{needs}
-use Rattle.bench_ringing.specs.Ringing.{ringing}
+use Rattle.bench_ringing.specs.Steps.{ringingAt}
 use Rattle.ring.proofs.Parts.{part-falls}
 use Rattle.ring.proofs.ring_all.Statement.{statement}
 use Rattle.ring.proofs.ring_all.Tie as tie
@@ -19,11 +21,16 @@ ring-part-requires : tie.Need-ring-part-requires Inv-loop μ-loop
 ring-part-requires c κs = search needs
 
 loop-less : tie.Need-loop-less Inv-loop μ-loop
-loop-less c = let l = c .before .before .before .before .before .before .loop in
-    part-falls (ringing (l .at .passes) (l .m) (drop (l .at .taken) (c .before .before .before .before .before .before .before .before .before .args .commands .now))) (c .before .before .before .before .if1 .taken) (c .before .before .ring-part .ensures)
+loop-less c =
+    let part = c .before .before in
+    let test = part .before .before in
+    let turn = test .before .before in
+    part-falls (ringingAt (turn .loop .at) (turn .loop .m) (turn .before .before .before .args .commands .now)) (test .if1 .taken) (part .ring-part .ensures)
 
 loop-again : tie.Need-loop-again Inv-loop μ-loop
-loop-again c = c .before .before .ring-part .kept .1 .0 ∙ c .before .before .before .before .before .before .loop .inv
+loop-again c =
+    let part = c .before .before in
+    part .ring-part .kept .1 .0 ∙ part .before .before .before .before .loop .inv
 
 same-length : tie.Need-same-length Inv-loop μ-loop
 same-length c = c .before .before .loop .inv

@@ -1,5 +1,7 @@
-use lib.ListN.{drop, replicate}
-use Rattle.bench_ringing.specs.Ringing.{ringing}
+-- `ring_part` meets its contract: what was gathered has room in the buffer.
+-- Assumes nothing.
+use lib.ListN.{replicate}
+use Rattle.bench_ringing.specs.Steps.{ringingAt}
 use Rattle.ring.proofs.Parts.{gathered-within}
 use borrow.Author.Needs.{needs}
 use Rattle.ring.proofs.ring_part.Statement.{statement}
@@ -18,8 +20,10 @@ part-write-all-start : tie.Need-part-write-all-start
 part-write-all-start c = search needs
 
 part-write-all-end : tie.Need-part-write-all-end
-part-write-all-end c = let b = c .before .before .before .before .before .before .before .before .before in
-    gathered-within (replicate 8192 0) (ringing (b .args .at .passes) (b .args .m .now) (drop (b .args .at .taken) (b .args .commands .now))) (c .before .before .before .before .gather .ensures .0) (c .before .before .before .before .gather .ensures .1 .0)
+part-write-all-end c =
+    let part = c .before .before .before .before in
+    let a = part .before .before .before .before .before .args in
+    gathered-within (replicate 8192 0) (ringingAt (a .at) (a .m .now) (a .commands .now)) (part .gather .ensures .0) (part .gather .ensures .1 .0)
 
 write-all-requires : tie.Need-write-all-requires
 write-all-requires c κs = search needs

@@ -1,4 +1,4 @@
--- `sine::index` meets its contract.
+-- `sine::index` meets its contract: each arm is its side of the definition, by arithmetic.
 -- Assumes nothing.
 use borrow.Author.Needs.{needs}
 use native.Mathlib.Omega.{arith}

@@ -1,4 +1,4 @@
--- `sine::is_negative` meets its contract.
+-- `sine::is_negative` meets its contract: the test is the definition's.
 -- Assumes nothing.
 use mathlib.Core.Path.{refl}
 use Rattle.sine.specs.Sine.{negative}

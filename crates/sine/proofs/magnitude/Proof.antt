@@ -1,4 +1,4 @@
--- `sine::magnitude` meets its contract.
+-- `sine::magnitude` meets its contract: the table has the rule's value at the place for K.
 -- Assumes nothing.
 use borrow.Author.Needs.{needs}
 use native.Mathlib.Omega.{arith}

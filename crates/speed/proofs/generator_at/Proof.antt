@@ -1,3 +1,5 @@
+-- `speed::generator_at` meets its contract: a generator that was loaded is within its widths.
+-- Assumes nothing.
 use Rattle.generator.proofs.Registers.{ranged}
 use borrow.Author.Needs.{needs}
 use Rattle.speed.proofs.generator_at.Statement.{statement}

@@ -1,3 +1,5 @@
+-- `speed::mixed_all` meets its contract: the count stays within the words.
+-- Assumes nothing.
 use borrow.Author.Needs.{needs}
 use Prim.Native.Nat.{_≤_, _-_}
 use lib.ListN.{length}

@@ -1,3 +1,5 @@
+-- `speed::multiplied` meets its contract: a sum of 20 bits is within its width.
+-- Assumes nothing.
 use Rattle.words.specs.Words.{sum}
 use Rattle.words.proofs.Residues.{low-lt}
 use borrow.Author.Needs.{needs}

@@ -1,3 +1,5 @@
+-- `speed::products` meets its contract: each product stays within its width.
+-- Assumes nothing.
 use borrow.Author.Needs.{needs}
 use Prim.Native.Nat.{_≤_, _<_, _-_, _^_}
 use Rattle.speed.proofs.products.Statement.{statement}

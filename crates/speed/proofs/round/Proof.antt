@@ -1,3 +1,5 @@
+-- `speed::round` meets its contract: the generators' words keep their number and the count stays within 256.
+-- Assumes nothing.
 use borrow.Author.Needs.{needs}
 use mathlib.Core.Path.{_≡_}
 use Prim.Native.Nat.{_≤_, _-_}

@@ -1,3 +1,5 @@
+-- `speed::rounds` meets its contract: the generators' words keep their number and the count stays within its bound.
+-- Assumes nothing.
 use borrow.Author.Needs.{needs}
 use mathlib.Core.Path.{_≡_}
 use Prim.Native.Nat.{_≤_, _-_}

@@ -1,3 +1,5 @@
+-- `speed::turn_at` meets its contract: a generator that was loaded meets what its turn requires.
+-- Assumes nothing.
 use mathlib.Core.Path.{_≡_, sym, _∙_}
 use mathlib.Core.Bool.{true}
 use Prim.Native.Nat.{ℕ}

@@ -1,3 +1,5 @@
+-- `speed::words_of` meets its contract: the words keep their number and the count stays within it.
+-- Assumes nothing.
 use borrow.Author.Needs.{needs}
 use mathlib.Core.Path.{_≡_}
 use Prim.Native.Nat.{_≤_, _-_}

@@ -1,3 +1,5 @@
+-- `sums::add` meets its contract: the word's sum, stored, is the definition.
+-- Assumes nothing.
 use borrow.Author.Needs.{needs}
 use native.Mathlib.Omega.{arith}
 use Rattle.sums.proofs.Memory.{add-code}

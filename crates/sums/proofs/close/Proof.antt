@@ -1,3 +1,5 @@
+-- `sums::close` meets its contract: the four writes, one after the other, are the definition.
+-- Assumes nothing.
 use borrow.Author.Needs.{needs}
 use Rattle.sums.proofs.Closing.{close-code}
 use Rattle.sums.proofs.close.Statement.{statement}

@@ -1,3 +1,5 @@
+-- `sums::f_at` meets its contract: each arm is its side of GFM's top bit.
+-- Assumes nothing.
 use borrow.Author.Needs.{needs}
 use borrow.Author.Tests.{eq-eqb, ne-eqb}
 use Rattle.sums.specs.Sums.{fAt}

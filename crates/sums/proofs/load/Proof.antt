@@ -1,3 +1,5 @@
+-- `sums::load` meets its contract: the four quadrants are the definition's.
+-- Assumes nothing.
 use borrow.Author.Needs.{needs}
 use Rattle.sums.proofs.Memory.{load-code}
 use Rattle.sums.proofs.load.Statement.{statement}

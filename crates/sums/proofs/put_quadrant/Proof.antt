@@ -1,3 +1,5 @@
+-- `sums::put_quadrant` meets its contract: what is left to write, at each turn of the loop, gives the whole block.
+-- Assumes nothing.
 use mathlib.Core.Path.{_≡_, refl, sym, _∙_}
 use Prim.Native.Nat.{_≤_, _-_}
 use native.Mathlib.Omega.{arith}

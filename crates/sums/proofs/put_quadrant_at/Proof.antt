@@ -1,3 +1,5 @@
+-- `sums::put_quadrant_at` meets its contract: a block written in the part that is lent is written in the machine.
+-- Assumes nothing.
 use borrow.Author.Needs.{needs}
 use native.Mathlib.Omega.{arith}
 use Rattle.sums.proofs.Blocks.{part-back}

@@ -1,3 +1,5 @@
+-- `sums::quadrant` meets its contract: the first i words are copied at each turn of the loop.
+-- Assumes nothing.
 use mathlib.Core.Path.{_≡_, refl}
 use Prim.Native.Nat.{_≤_, _-_}
 use native.Mathlib.Omega.{arith}

@@ -1,5 +1,7 @@
+-- `sums::quadrant_at` meets its contract: the part that is lent is the machine from a place on.
+-- Assumes nothing.
 use borrow.Author.Needs.{needs}
-use Rattle.sums.proofs.Blocks.{part-from}
+use Rattle.lists.proofs.Parts.{part-from}
 use Rattle.sums.proofs.quadrant_at.Statement.{statement}
 use Rattle.sums.proofs.quadrant_at.Tie as tie
 

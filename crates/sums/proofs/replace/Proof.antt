@@ -1,3 +1,5 @@
+-- `sums::replace` meets its contract: the store is the definition's.
+-- Assumes nothing.
 use borrow.Author.Needs.{needs}
 use mathlib.Core.Path.{refl}
 use native.Mathlib.Omega.{arith}

@@ -1,3 +1,5 @@
+-- `trial::answer_some` meets its contract: what is read and written stays within the buffers.
+-- Assumes nothing.
 use native.Mathlib.Omega.{arith}
 use lib.ListN.{length-take}
 use borrow.Author.Needs.{needs}

@@ -1,3 +1,5 @@
+-- `trial::generator_of` meets its contract: a generator that was loaded is within its widths.
+-- Assumes nothing.
 use Rattle.generator.proofs.Registers.{ranged}
 use borrow.Author.Needs.{needs}
 use Rattle.trial.proofs.generator_of.Statement.{statement}

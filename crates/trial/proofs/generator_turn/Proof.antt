@@ -1,3 +1,5 @@
+-- `trial::generator_turn` meets its contract: a generator that was loaded meets what its turn requires.
+-- Assumes nothing.
 use mathlib.Core.Path.{sym, _∙_}
 use borrow.Author.Tests.{eq-eqb}
 use Rattle.modes.proofs.RunModes.{envelope-tells}

@@ -1,3 +1,5 @@
+-- `trial::main` meets its contract: the turns that are left grow fewer.
+-- Assumes nothing.
 use borrow.Author.Needs.{needs}
 use Rattle.trial.proofs.main.Statement.{statement}
 use Rattle.trial.proofs.main.Tie as tie

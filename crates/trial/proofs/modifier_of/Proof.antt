@@ -1,3 +1,5 @@
+-- `trial::modifier_of` meets its contract: a modifier that was loaded is within its widths.
+-- Assumes nothing.
 use Rattle.modifier.proofs.Low.{loaded-ranged}
 use borrow.Author.Needs.{needs}
 use Rattle.trial.proofs.modifier_of.Statement.{statement}

@@ -1,3 +1,5 @@
+-- `trial::request_at` meets its contract: the request keeps its 16 words and the count stays within them.
+-- Assumes nothing.
 use borrow.Author.Needs.{needs}
 use mathlib.Core.Path.{_≡_}
 use Prim.Native.Nat.{_≤_, _-_}

@@ -1,4 +1,4 @@
--- `update::still_lingering` meets its contract.
+-- `update::still_lingering` meets its contract: the test is the definition's.
 -- Assumes nothing.
 use mathlib.Core.Path.{refl}
 use Rattle.update.specs.Update.{stillLingering}

@@ -1,8 +1,9 @@
--- `update::update` meets its contract.
+-- `update::update` meets its contract: its three ways out, each by its law.
 -- Assumes nothing.
 use mathlib.Core.Path.{sym, _∙_}
 use native.Mathlib.Omega.{arith}
 use lib.ListN.{length-set}
+use Rattle.layout.specs.Layout.{lingeringAt}
 use Rattle.update.proofs.Updating.{passes-reach, update-refused, update-lingers, update-ran, place-whole}
 use borrow.Author.Needs.{needs}
 use Rattle.update.proofs.update.Statement.{statement}
@@ -17,35 +18,42 @@ same-length c = search needs
 
 returns : tie.Need-returns
 returns c =
-    let a = c .before .before .before .before .before .args in
-    let q = update-refused (a .m .now) (a .commands .now) (c .before .refusal .ensures) (c .if1 .taken) in
+    let asked = c .before in
+    let a = asked .before .before .before .before .args in
+    let q = update-refused (a .m .now) (a .commands .now) (asked .refusal .ensures) (c .if1 .taken) in
     (q, place-whole (a .commands .ptr) (a .m .now) (a .commands .now) q)
 
 still-lingering-requires : tie.Need-still-lingering-requires
-still-lingering-requires c κs = passes-reach _ (sym (c .before .before .refusal .ensures) ∙ c .before .if1 .left)
+still-lingering-requires c κs = let passed = c .before in passes-reach _ (sym (passed .before .refusal .ensures) ∙ passed .if1 .left)
 
 same-length-2 : tie.Need-same-length-2
 same-length-2 c = search needs
 
 returns-2 : tie.Need-returns-2
 returns-2 c =
-    let a = c .before .before .before .before .before .before .before .before .args in
-    let w = c .before .before .before in
-    let q = update-lingers (a .m .now) (a .commands .now) (sym (w .before .refusal .ensures) ∙ w .if1 .left) (sym (c .before .still-lingering .ensures) ∙ c .if2 .taken) in
+    let passed = c .before .before .before in
+    let asked = passed .before in
+    let a = asked .before .before .before .before .args in
+    let q = update-lingers (a .m .now) (a .commands .now) (sym (asked .refusal .ensures) ∙ passed .if1 .left) (sym (c .before .still-lingering .ensures) ∙ c .if2 .taken) in
     (q, place-whole (a .commands .ptr) (a .m .now) (a .commands .now) q)
 
 most-commands-requires : tie.Need-most-commands-requires
-most-commands-requires c κs = passes-reach _ (sym (c .before .before .before .before .before .refusal .ensures) ∙ c .before .before .before .before .if1 .left)
+most-commands-requires c κs = let passed = c .before .before .before .before in passes-reach _ (sym (passed .before .refusal .ensures) ∙ passed .if1 .left)
 
 slice-write-m : tie.Need-slice-write-m
 slice-write-m c =
-    let r = passes-reach (c .before .before .before .before .before .before .before .before .before .before .args .m .now) (sym (c .before .before .before .before .before .before .refusal .ensures) ∙ c .before .before .before .before .before .if1 .left) in
+    let passed = c .before .before .before .before .before in
+    let asked = passed .before in
+    let r = passes-reach (asked .before .before .before .before .args .m .now) (sym (asked .refusal .ensures) ∙ passed .if1 .left) in
     omega (arith, r .all)
 
 run-requires : tie.Need-run-requires
 run-requires c κs =
-    let m = c .before .before .before .before .before .before .before .before .before .before .before .before .args .m .now in
-    same-reach (length-set m 4116 0) (passes-reach m (sym (c .before .before .before .before .before .before .before .before .refusal .ensures) ∙ c .before .before .before .before .before .before .before .if1 .left))
+    let most = c .before .before in
+    let passed = most .before .before .before .before .before in
+    let asked = passed .before in
+    let m = asked .before .before .before .before .args .m .now in
+    same-reach (length-set m lingeringAt 0) (passes-reach m (sym (asked .refusal .ensures) ∙ passed .if1 .left))
 
 mul-result : tie.Need-mul-result
 mul-result c = search needs
@@ -60,16 +68,21 @@ part-result-end : tie.Need-part-result-end
 part-result-end c = search needs
 
 same-length-3 : tie.Need-same-length-3
-same-length-3 c = c .before .before .before .run .kept .0 ∙ length-set (c .before .before .before .before .before .before .before .before .before .before .before .before .before .before .before .before .args .m .now) 4116 0
+same-length-3 c =
+    let ran = c .before .before .before in
+    let most = ran .before .before .before in
+    let asked = most .before .before .before .before .before .before in
+    ran .run .kept .0 ∙ length-set (asked .before .before .before .before .args .m .now) lingeringAt 0
 
 returns-3 : tie.Need-returns-3
 returns-3 c =
-    let r = c .before .before .before in
-    let b = r .before .before .before in
-    let s = b .before .before in
-    let w = s .before .before .before in
-    let a = w .before .before .before .before .before .args in
-    update-ran (a .commands .ptr) (a .m .now) (a .commands .now) (sym (w .before .refusal .ensures) ∙ w .if1 .left) (sym (s .before .still-lingering .ensures) ∙ s .if2 .left) (b .most-commands .ensures) (r .run .ensures)
+    let ran = c .before .before .before in
+    let most = ran .before .before .before in
+    let lingering = most .before .before in
+    let passed = lingering .before .before .before in
+    let asked = passed .before in
+    let a = asked .before .before .before .before .args in
+    update-ran (a .commands .ptr) (a .m .now) (a .commands .now) (sym (asked .refusal .ensures) ∙ passed .if1 .left) (sym (lingering .before .still-lingering .ensures) ∙ lingering .if2 .left) (most .most-commands .ensures) (ran .run .ensures)
 
 pub update-spec : {M : Type 1} → statement M
 update-spec =

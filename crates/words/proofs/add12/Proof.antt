@@ -1,3 +1,5 @@
+-- `words::add12` meets its contract: by the law of sums.
+-- Assumes nothing.
 use borrow.Author.Needs.{needs}
 use lib.Dec.{lit≤}
 use Rattle.words.proofs.Residues.{plus-code}

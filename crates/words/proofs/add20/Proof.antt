@@ -1,3 +1,5 @@
+-- `words::add20` meets its contract: by the law of signed sums.
+-- Assumes nothing.
 use borrow.Author.Needs.{needs}
 use lib.Dec.{lit≤}
 use Rattle.words.proofs.Residues.{sum-code}

@@ -1,3 +1,5 @@
+-- `words::biased20` meets its contract: by the law of the bias.
+-- Assumes nothing.
 use borrow.Author.Needs.{needs}
 use mathlib.Core.Path.{refl}
 use Rattle.words.proofs.Ranges.{bias}

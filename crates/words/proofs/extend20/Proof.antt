@@ -1,3 +1,5 @@
+-- `words::extend20` meets its contract: the bias taken off at 32 bits, by the law of differences.
+-- Assumes nothing.
 use borrow.Author.Needs.{needs}
 use mathlib.Core.Path.{sym, ap, _∙_}
 use Prim.Native.Nat.{_^_}

@@ -1,3 +1,5 @@
+-- `words::into24` meets its contract: by the law of a word added into an unsigned register.
+-- Assumes nothing.
 use borrow.Author.Needs.{needs}
 use lib.Dec.{lit≤}
 use Rattle.words.proofs.Residues.{into-code}

@@ -1,3 +1,5 @@
+-- `words::leaves20` meets its contract: the sum of the biased words tells whether the signed sum is below its range or above it.
+-- Assumes nothing.
 use borrow.Author.Needs.{needs}
 use mathlib.Core.Path.{sym}
 use Rattle.words.proofs.Ranges.{leaves-below, leaves-above}

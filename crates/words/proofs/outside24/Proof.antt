@@ -1,3 +1,5 @@
+-- `words::outside24` meets its contract: by the law that the wrapped sum tells whether the exact one is outside.
+-- Assumes nothing.
 use borrow.Author.Needs.{needs}
 use mathlib.Core.Path.{refl}
 use lib.Dec.{lit≤}

@@ -1,3 +1,5 @@
+-- `words::subtract12` meets its contract: by the law of differences.
+-- Assumes nothing.
 use borrow.Author.Needs.{needs}
 use lib.Dec.{lit≤}
 use Rattle.words.proofs.Residues.{minus-code}

@@ -1,3 +1,5 @@
+-- `words::word20` meets its contract: a negative number is 0 minus its magnitude, by the law of differences.
+-- Assumes nothing.
 use borrow.Author.Needs.{needs}
 use mathlib.Core.Path.{ap, _∙_}
 use lib.Dec.{lit≤}

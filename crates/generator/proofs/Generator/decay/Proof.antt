@@ -1,3 +1,5 @@
+-- `generator::Generator::decay` meets its contract: the envelope's promise is the new GQ.
+-- Assumes nothing.
 use borrow.Author.Needs.{needs}
 use Rattle.generator.proofs.Generator.decay.Statement.{statement}
 use Rattle.generator.proofs.Generator.decay.Tie as tie

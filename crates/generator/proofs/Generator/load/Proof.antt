@@ -1,3 +1,5 @@
+-- `generator::Generator::load` meets its contract: register by register, it is the definition.
+-- Assumes nothing.
 use mathlib.Core.Path.{refl}
 use Rattle.generator.specs.Generator.{loaded}
 use borrow.Author.Needs.{needs}

@@ -1,3 +1,5 @@
+-- `generator::Generator::oscillate` meets its contract: sweep and turn, one after the other, are the definition where the oscillator is on.
+-- Assumes nothing.
 use mathlib.Core.Path.{_∙_}
 use borrow.Author.Tests.{eq-eqb, ne-eqb}
 use Rattle.generator.specs.Steps.{oscillated}

@@ -1,3 +1,5 @@
+-- `generator::Generator::output` meets its contract: each arm is its oscillator mode's P, by the laws of the output.
+-- Assumes nothing.
 use native.Mathlib.Omega.{arith}
 use Rattle.envelope.proofs.Levels.{level-low}
 use Rattle.generator.specs.Generator.{vOf}
@@ -10,42 +12,60 @@ level-requires : tie.Need-level-requires
 level-requires c κs = search needs
 
 sine-under-requires : tie.Need-sine-under-requires
-sine-under-requires c κs = let b = c .before .before .before .before in
-    (b .pre .1 .0 .0, (b .pre .0 .gm-low, omega (arith, b .pre .1 .1 .1), rw (c .before .before .level .ensures) (level-low _ _ _)))
+sine-under-requires c κs =
+    let leveled = c .before .before in
+    let start = leveled .before .before in
+    (start .pre .1 .0 .0, (start .pre .0 .gm-low, omega (arith, start .pre .1 .1 .1), rw (leveled .level .ensures) (level-low _ _ _)))
 
 returns : tie.Need-returns
 unfolding vOf
-returns c = let g = c .before .before .before .before .before .args .self in
-    output-of-j _ g _ _ _ (c .before .before .before .level .ensures) (c .sine-under .ensures) (c .before .if1 .taken)
+returns c =
+    let leveled = c .before .before .before in
+    output-of-j _ (leveled .before .before .args .self) _ _ _ (leveled .level .ensures) (c .sine-under .ensures) (c .before .if1 .taken)
 
 sine-under-requires-2 : tie.Need-sine-under-requires-2
-sine-under-requires-2 c κs = let b = c .before .before .before .before .before .before .before in
-    (b .pre .1 .0 .0, (b .pre .0 .gm-low, omega (arith, b .pre .0 .gk-low), rw (c .before .before .before .before .before .level .ensures) (level-low _ _ _)))
+sine-under-requires-2 c κs =
+    let leveled = c .before .before .before .before .before in
+    let start = leveled .before .before in
+    (start .pre .1 .0 .0, (start .pre .0 .gm-low, omega (arith, start .pre .0 .gk-low), rw (leveled .level .ensures) (level-low _ _ _)))
 
 returns-2 : tie.Need-returns-2
 unfolding vOf
-returns-2 c = let g = c .before .before .before .before .before .before .before .before .args .self in
-    output-of-gk _ g _ _ _ (c .before .before .before .before .before .before .level .ensures) (c .sine-under2 .ensures) (c .before .before .if2 .taken)
+returns-2 c =
+    let tested = c .before .before in
+    let leveled = tested .before .before .before .before in
+    output-of-gk _ (leveled .before .before .args .self) _ _ _ (leveled .level .ensures) (c .sine-under2 .ensures) (tested .if2 .taken)
 
 shaped-requires : tie.Need-shaped-requires
 shaped-requires c κs = search needs
 
 enveloped-requires : tie.Need-enveloped-requires
-enveloped-requires c κs = (c .shaped .ensures .low, rw (c .before .before .before .before .before .before .before .before .level .ensures) (level-low _ _ _))
+enveloped-requires c κs =
+    let tested = c .before .before .before .before in
+    let leveled = tested .before .before .before .before in
+    (c .shaped .ensures .low, rw (leveled .level .ensures) (level-low _ _ _))
 
 returns-3 : tie.Need-returns-3
 unfolding vOf
-returns-3 c = let g = c .before .before .before .before .before .before .before .before .before .before .before .args .self in
-    output-shaped _ g _ _ _ (c .before .before .before .before .before .before .before .before .before .level .ensures) (c .enveloped .ensures) (c .before .shaped .ensures) (c .before .before .before .if3 .taken)
+returns-3 c =
+    let tested = c .before .before .before in
+    let leveled = tested .before .before .before .before .before .before in
+    output-shaped _ (leveled .before .before .args .self) _ _ _ (leveled .level .ensures) (c .enveloped .ensures) (c .before .shaped .ensures) (tested .if3 .taken)
 
 sine-under-requires-3 : tie.Need-sine-under-requires-3
-sine-under-requires-3 c κs = let b = c .before .before .before .before .before .before .before .before .before in
-    (b .pre .1 .0 .0, (b .pre .0 .gm-low, omega (arith, b .pre .0 .gk-low), rw (c .before .before .before .before .before .before .before .level .ensures) (level-low _ _ _)))
+sine-under-requires-3 c κs =
+    let tested = c .before .before .before in
+    let leveled = tested .before .before .before .before in
+    let start = leveled .before .before in
+    (start .pre .1 .0 .0, (start .pre .0 .gm-low, omega (arith, start .pre .0 .gk-low), rw (leveled .level .ensures) (level-low _ _ _)))
 
 returns-4 : tie.Need-returns-4
 unfolding vOf
-returns-4 c = let g = c .before .before .before .before .before .before .before .before .before .before .args .self in
-    output-rest _ g _ _ _ (c .before .before .before .before .before .before .before .before .level .ensures) (c .sine-under3 .ensures) (c .before .before .before .before .before .before .if1 .left) (c .before .before .if3 .left)
+returns-4 c =
+    let tested = c .before .before in
+    let first = tested .before .before .before .before in
+    let leveled = first .before .before in
+    output-rest _ (leveled .before .before .args .self) _ _ _ (leveled .level .ensures) (c .sine-under3 .ensures) (first .if1 .left) (tested .if3 .left)
 
 pub output-spec : {M : Type 1} → statement M
 output-spec =

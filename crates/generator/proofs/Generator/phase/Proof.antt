@@ -1,3 +1,5 @@
+-- `generator::Generator::phase` meets its contract: the sum's promise is J.
+-- Assumes nothing.
 use Rattle.generator.specs.Generator.{jOf}
 use Rattle.words.proofs.Residues.{sum-low}
 use borrow.Author.Needs.{needs}

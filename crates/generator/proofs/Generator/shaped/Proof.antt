@@ -1,3 +1,5 @@
+-- `generator::Generator::shaped` meets its contract: each arm is its oscillator mode's wave.
+-- Assumes nothing.
 use mathlib.Core.Path.{_≡_}
 use Prim.Native.Nat.{_%_}
 use native.Mathlib.Omega.{arith}

@@ -1,3 +1,5 @@
+-- `generator::Generator::sine_under` meets its contract: the wave's promise goes into the envelope's.
+-- Assumes nothing.
 use borrow.Author.Needs.{needs}
 use Rattle.generator.proofs.Generator.sine_under.Statement.{statement}
 use Rattle.generator.proofs.Generator.sine_under.Tie as tie

@@ -1,3 +1,5 @@
+-- `generator::Generator::sound` meets its contract: what the steps have computed is the turn, in each case of overflow and switch.
+-- Assumes nothing.
 use borrow.Author.Tests.{eq-eqb, ne-eqb}
 use Rattle.generator.proofs.Turns.{still-ranged, sounded-triggers, sounded-sticky, sounded-quiet}
 use borrow.Author.Needs.{needs}
@@ -17,25 +19,55 @@ overflows-requires : tie.Need-overflows-requires
 overflows-requires c κs = search needs
 
 decay-requires : tie.Need-decay-requires
-decay-requires c κs = rw (c .before .before .oscillate .ensures) (still-ranged _ _ _ (c .before .before .before .before .before .pre .0))
+decay-requires c κs =
+    let turned = c .before .before in
+    rw (turned .oscillate .ensures) (still-ranged _ _ _ (turned .before .before .before .pre .0))
 
 ended-requires : tie.Need-ended-requires
 ended-requires c κs = search needs
 
 returns : tie.Need-returns
-returns c = let b = c .before .before .before .before .before .before .before .before .before in
-    sounded-triggers (b .args .self) (b .args .f) (b .args .on) (b .pre .1 .1 .0 .0) (b .pre .1 .1 .0 .1) _ _ _ _ _ (c .before .before .before .before .before .before .before .before .phase .ensures .0) (c .before .before .before .before .before .before .before .output .ensures) (c .before .before .before .before .before .before .oscillate .ensures) (c .before .before .before .decay .ensures) (c .before .before .before .before .before .overflows .ensures) (c .ended .ensures) (c .before .before .before .before .if1 .taken) (eq-eqb _ 1 (c .before .if2 .taken))
+returns c =
+    let decayed = c .before .before .before in
+    let over = decayed .before .before in
+    let turned = over .before in
+    let output = turned .before in
+    let phase = output .before in
+    let start = phase .before in
+    sounded-triggers
+    (start .args .self) (start .args .f) (start .args .on) (start .pre .1 .1 .0 .0) (start .pre .1 .1 .0 .1) _ _ _ _ _
+    (phase .phase .ensures .0) (output .output .ensures) (turned .oscillate .ensures) (decayed .decay .ensures)
+    (over .overflows .ensures) (c .ended .ensures) (decayed .before .if1 .taken) (eq-eqb _ 1 (c .before .if2 .taken))
 
 returns-2 : tie.Need-returns-2
-returns-2 c = let b = c .before .before .before .before .before .before .before .before in
-    sounded-sticky (b .args .self) (b .args .f) (b .args .on) (b .pre .1 .1 .0 .0) (b .pre .1 .1 .0 .1) _ _ _ _ _ (c .before .before .before .before .before .before .before .phase .ensures .0) (c .before .before .before .before .before .before .output .ensures) (c .before .before .before .before .before .oscillate .ensures) (c .before .before .decay .ensures) (c .before .before .before .before .overflows .ensures) (c .before .before .before .if1 .taken) (ne-eqb _ 1 (c .if2 .left))
+returns-2 c =
+    let decayed = c .before .before in
+    let over = decayed .before .before in
+    let turned = over .before in
+    let output = turned .before in
+    let phase = output .before in
+    let start = phase .before in
+    sounded-sticky
+    (start .args .self) (start .args .f) (start .args .on) (start .pre .1 .1 .0 .0) (start .pre .1 .1 .0 .1) _ _ _ _ _
+    (phase .phase .ensures .0) (output .output .ensures) (turned .oscillate .ensures) (decayed .decay .ensures)
+    (over .overflows .ensures) (decayed .before .if1 .taken) (ne-eqb _ 1 (c .if2 .left))
 
 decay-requires-2 : tie.Need-decay-requires-2
-decay-requires-2 c κs = rw (c .before .before .oscillate .ensures) (still-ranged _ _ _ (c .before .before .before .before .before .pre .0))
+decay-requires-2 c κs =
+    let turned = c .before .before in
+    rw (turned .oscillate .ensures) (still-ranged _ _ _ (turned .before .before .before .pre .0))
 
 returns-3 : tie.Need-returns-3
-returns-3 c = let b = c .before .before .before .before .before .before in
-    sounded-quiet (b .args .self) (b .args .f) (b .args .on) (b .pre .1 .1 .0 .0) (b .pre .1 .1 .0 .1) _ _ _ _ _ (c .before .before .before .before .before .phase .ensures .0) (c .before .before .before .before .output .ensures) (c .before .before .before .oscillate .ensures) (c .decay2 .ensures) (c .before .before .overflows .ensures) (c .before .if1 .left)
+returns-3 c =
+    let over = c .before .before in
+    let turned = over .before in
+    let output = turned .before in
+    let phase = output .before in
+    let start = phase .before in
+    sounded-quiet
+    (start .args .self) (start .args .f) (start .args .on) (start .pre .1 .1 .0 .0) (start .pre .1 .1 .0 .1) _ _ _ _ _
+    (phase .phase .ensures .0) (output .output .ensures) (turned .oscillate .ensures) (c .decay2 .ensures)
+    (over .overflows .ensures) (c .before .if1 .left)
 
 pub sound-spec : {M : Type 1} → statement M
 sound-spec =

@@ -1,3 +1,5 @@
+-- `generator::Generator::store` meets its contract: four stores are the definition's four.
+-- Assumes nothing.
 use mathlib.Core.Path.{refl}
 use native.Mathlib.Omega.{arith}
 use lib.ListN.{length-set}

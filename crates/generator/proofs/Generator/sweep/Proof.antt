@@ -1,3 +1,5 @@
+-- `generator::Generator::sweep` meets its contract: the sum's promise is the new GJ.
+-- Assumes nothing.
 use borrow.Author.Needs.{needs}
 use Rattle.generator.proofs.Generator.sweep.Statement.{statement}
 use Rattle.generator.proofs.Generator.sweep.Tie as tie

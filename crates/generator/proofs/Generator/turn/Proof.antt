@@ -1,3 +1,5 @@
+-- `generator::Generator::turn` meets its contract: the sum's promise is the new GK.
+-- Assumes nothing.
 use borrow.Author.Needs.{needs}
 use Rattle.generator.proofs.Generator.turn.Statement.{statement}
 use Rattle.generator.proofs.Generator.turn.Tie as tie

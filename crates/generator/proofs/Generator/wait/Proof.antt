@@ -1,3 +1,5 @@
+-- `generator::Generator::wait` meets its contract: the oscillator's steps, and the run mode where it is told.
+-- Assumes nothing.
 use mathlib.Core.Path.{_∙_}
 use Rattle.generator.specs.Steps.{oscillated}
 use Rattle.generator.proofs.Turns.{turn-waits}

@@ -1,3 +1,5 @@
+-- `modifier::Modifier::integer_m0` meets its contract: the integer product's promise, and its width.
+-- Assumes nothing.
 use borrow.Author.Needs.{needs}
 use Rattle.modifier.specs.Modifier.{integerM0}
 use Rattle.product.proofs.Widths.{integer-low}

@@ -1,3 +1,5 @@
+-- `modifier::Modifier::integer_m1` meets its contract: the integer product's promise, and its width.
+-- Assumes nothing.
 use borrow.Author.Needs.{needs}
 use Rattle.modifier.specs.Modifier.{integerM1}
 use Rattle.product.proofs.Widths.{integer-low}

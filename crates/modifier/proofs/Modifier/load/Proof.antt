@@ -1,3 +1,5 @@
+-- `modifier::Modifier::load` meets its contract: register by register, it is the definition.
+-- Assumes nothing.
 use borrow.Author.Needs.{needs}
 use mathlib.Core.Path.{refl}
 use Rattle.modifier.specs.Modifier.{loaded}

@@ -1,3 +1,5 @@
+-- `modifier::Modifier::store` meets its contract: four stores are the definition's four.
+-- Assumes nothing.
 use borrow.Author.Needs.{needs}
 use native.Mathlib.Omega.{arith}
 use mathlib.Core.Path.{refl}

@@ -1,3 +1,5 @@
+-- `modifier::Modifier::times_m0` meets its contract: the product's promise, and its width.
+-- Assumes nothing.
 use borrow.Author.Needs.{needs}
 use Rattle.modifier.specs.Modifier.{timesM0}
 use Rattle.product.proofs.Widths.{product-low}

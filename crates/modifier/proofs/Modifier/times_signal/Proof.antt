@@ -1,3 +1,5 @@
+-- `modifier::Modifier::times_signal` meets its contract: the product's promise, and its width.
+-- Assumes nothing.
 use borrow.Author.Needs.{needs}
 use Rattle.modifier.specs.Modifier.{timesSignal}
 use Rattle.product.proofs.Widths.{product-low}

@@ -1,0 +1,25 @@
+-- Text as a list of bytes: the bytes of a quoted text, a text's start, and the first of a byte.
+-- Assumes nothing.
+use Prim.Native.Nat.{ℕ, suc}
+use Prim.Native.Char.{code}
+use Prim.Native.String.{String}
+use Prim.Native.String as string
+use mathlib.Core.Bool.{Bool, true, false, cond, _&&_}
+use mathlib.Core.List.{List, [], _∷_}
+use lib.Dec.{eqb}
+
+-- The bytes of a text in ASCII: each character's code.
+abbrev pub ascii : String → List ℕ
+ascii string.[] = []
+ascii (string._∷_ c text) = code c ∷ ascii text
+
+-- Whether a text starts with another.
+unfoldable pub startsWith : List ℕ → List ℕ → Bool
+startsWith text [] = true
+startsWith [] (p ∷ start) = false
+startsWith (b ∷ text) (p ∷ start) = eqb b p && startsWith text start
+
+-- How many bytes stand before the first byte x; all of them where there is none.
+unfoldable pub bytesBefore : ℕ → List ℕ → ℕ
+bytesBefore x [] = 0
+bytesBefore x (b ∷ text) = cond (eqb b x) 0 (suc (bytesBefore x text))

@@ -1,0 +1,56 @@
+-- `bench_gathering::step_into` meets its contract: the step's line is the first part of its own buffer.
+-- Assumes nothing.
+use mathlib.Core.Path.{refl}
+use Rattle.bench_ringing.specs.Steps.{ringingAt}
+use Rattle.bench_gathering.proofs.Gatherings.{part-within, part-fits, part-put}
+use borrow.Author.Needs.{needs}
+use Rattle.bench_gathering.proofs.step_into.Statement.{statement}
+use Rattle.bench_gathering.proofs.step_into.Tie as tie
+
+step-requires : tie.Need-step-requires
+step-requires c κs = search needs
+
+sub-put : tie.Need-sub-put
+sub-put c = search needs
+
+part-put-start : tie.Need-part-put-start
+part-put-start c = search needs
+
+part-put-end : tie.Need-part-put-end
+part-put-end c =
+    let done = c .before .before .before .before in
+    let a = done .before .before .before .before .before .before .args in
+    part-within (ringingAt (a .at) (a .m .now) (a .commands .now)) _ refl (done .step .ensures .0) (done .step .ensures .1 .0)
+
+put-requires : tie.Need-put-requires
+put-requires c κs =
+    let done = c .before .before .before .before .before in
+    let start = done .before .before .before .before .before .before in
+    let a = start .args in
+    part-fits (ringingAt (a .at) (a .m .now) (a .commands .now)) _ refl (done .step .ensures .0) (done .step .ensures .1 .0) (a .at .length) _ (start .pre)
+
+same-length : tie.Need-same-length
+same-length c = search needs
+
+same-length-2 : tie.Need-same-length-2
+same-length-2 c = search needs
+
+returns : tie.Need-returns
+returns c =
+    let puts = c .before .before in
+    let done = puts .before .before .before .before .before .before in
+    let a = done .before .before .before .before .before .before .args in
+    part-put (ringingAt (a .at) (a .m .now) (a .commands .now)) _ refl (done .step .ensures .0) (done .step .ensures .1 .0) (a .at .length) _ (a .at .taken) (puts .put .ensures) (done .step .ensures .1 .1)
+
+pub step-into-spec : {M : Type 1} → statement M
+step-into-spec =
+    tie.close
+    (tie.spec
+    step-requires
+    sub-put
+    part-put-start
+    part-put-end
+    put-requires
+    same-length
+    same-length-2
+    returns)

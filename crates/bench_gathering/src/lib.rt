@@ -1,0 +1,55 @@
+// Steps of a ringing gathered in a buffer.
+ghost use mathlib.Core.Path.{_≡_};
+ghost use Prim.Native.Nat.{_+_, _≤_};
+ghost use lib.ListN.{length};
+ghost use lib.Seq.{sets};
+ghost use Rattle.bench_text.specs.Text.{lineBytes};
+ghost use Rattle.bench_ringing.specs.Steps.{ringingAt, stepOf, commandsTaken};
+ghost use Rattle.bench_gathering.specs.Gathering.{gathered};
+use bench_ringing::Progress;
+
+// One step, its line put after the bytes that a buffer has.
+fn step_into(at: Progress, m: &mut [u32], commands: &[u32], out: &mut [u8]) -> Progress
+    requires { ⌜ at .length + lineBytes ≤ length (now out) ⌝ }
+    ensures { λ r. ⌜ r .length ≡ at .length + length (stepOf (ringingAt at (now (m .entry)) (now (commands .entry))) .bytes) ⌝ }
+    ensures { λ _. ⌜ now (out .exit) ≡ sets (now (out .entry)) (at .length) (stepOf (ringingAt at (now (m .entry)) (now (commands .entry))) .bytes) ⌝ }
+    ensures { λ r. ⌜ ringingAt r (now (m .exit)) (now (commands .entry)) ≡ stepOf (ringingAt at (now (m .entry)) (now (commands .entry))) .next ⌝ }
+    ensures { λ r. ⌜ r .taken ≡ at .taken + commandsTaken (ringingAt at (now (m .entry)) (now (commands .entry))) (stepOf (ringingAt at (now (m .entry)) (now (commands .entry)))) ⌝ }
+{
+    let start = at.length;
+    let mut line = [0u8; bench_text::LINE_BYTES];
+    let next = bench_ringing::step(at, m, commands, &mut line);
+    let passes = next.passes;
+    let taken = next.taken;
+    let size = next.length;
+    let length = bench_bytes::put(out, start, &line[0..size]);
+    Progress {
+        passes,
+        taken,
+        length,
+    }
+}
+
+// Steps until no pass is left or the buffer may not hold another line; the length answered is that of all their lines.
+pub fn gather(at: Progress, m: &mut [u32], commands: &[u32], out: &mut [u8]) -> Progress
+    ensures { λ r. ⌜ r .length ≡ length (gathered (length (now (out .entry))) (ringingAt at (now (m .entry)) (now (commands .entry))) .bytes) ⌝ }
+    ensures { λ _. ⌜ now (out .exit) ≡ sets (now (out .entry)) 0 (gathered (length (now (out .entry))) (ringingAt at (now (m .entry)) (now (commands .entry))) .bytes) ⌝ }
+    ensures { λ r. ⌜ ringingAt r (now (m .exit)) (now (commands .entry)) ≡ gathered (length (now (out .entry))) (ringingAt at (now (m .entry)) (now (commands .entry))) .next ⌝ }
+    ensures { λ r. ⌜ r .taken ≡ at .taken + commandsTaken (ringingAt at (now (m .entry)) (now (commands .entry))) (gathered (length (now (out .entry))) (ringingAt at (now (m .entry)) (now (commands .entry)))) ⌝ }
+{
+    let passes = at.passes;
+    let taken = at.taken;
+    let mut here = Progress {
+        passes,
+        taken,
+        length: 0,
+    };
+    while here.passes != 0 {
+        if out.len() < here.length + bench_text::LINE_BYTES {
+            return here;
+        }
+        let next = step_into(here, m, commands, out);
+        here = next;
+    }
+    here
+}

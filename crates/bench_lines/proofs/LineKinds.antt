@@ -1,0 +1,82 @@
+-- A line's kind, as the code finds it.
+-- Assumes nothing.
+use mathlib.Core.Path.{_≡_, ap, sym, _∙_}
+use mathlib.Core.List.{List}
+use mathlib.Core.Bool.{Bool, true, false}
+use Prim.Native.Nat.{ℕ, _+_, _≤_, _<_, _^_}
+use Prim.Native.Char.{code}
+use borrow.Author.Tests.{lt-ltb, le-ltb}
+use lib.Dec.{ltb}
+use lib.ListN.{length, take, drop}
+use Rattle.layout.specs.Layout.{filePlaces}
+use Rattle.bench_bytes.specs.Bytes.{startsWith, bytesBefore}
+use Rattle.lists.proofs.Choices.{of-cond}
+use Rattle.bench_numbers.specs.Numbers.{decimalIn, hexadecimalIn}
+use Rattle.bench_lines.specs.Lines.{mostPasses, passesStart, wordStart, commandStart, afterStart, lineBy, wordLine, lineOf}
+use Rattle.bench_numbers.specs.declared.Number.{Number}
+use Rattle.bench_numbers.specs.declared.Number.the-variants.{Is, No}
+use Rattle.bench_lines.specs.declared.Line.{Line}
+use Rattle.bench_lines.specs.declared.Line.the-variants.{Passes, Word, Command, Other}
+
+-- A line by its number.
+pub by-number : (f : ℕ → Line) {a b : Number} {n : ℕ} → a ≡ b → a ≡ Is n → f n ≡ lineBy b f
+by-number f e h = rw (sym e ∙ h)
+
+pub by-none : (f : ℕ → Line) {a b : Number} → a ≡ b → a ≡ No → Other ≡ lineBy b f
+by-none f e h = rw (sym e ∙ h)
+
+-- PLACE:VALUE, with its colon at k.
+module _ (text : List ℕ) {k : ℕ} (e : k ≡ bytesBefore (code ":") text) where
+  pub word-no-colon : length text ≤ k → Other ≡ wordLine text
+  unfolding wordLine
+  word-no-colon h = rw (← e, le-ltb k (length text) h)
+
+  module _ (h : k < length text) {place : Number} (p : place ≡ decimalIn filePlaces (take k text)) where
+    pub word-no-place : place ≡ No → Other ≡ wordLine text
+    unfolding wordLine
+    word-no-place n = simp (sym e, lt-ltb k (length text) h, sym p ∙ n)
+
+    module _ {i : ℕ} (n : place ≡ Is i) {rest : List ℕ} (r : rest ≡ drop (k + 1) text) {value : Number} (q : value ≡ decimalIn (2 ^ 32) rest) where
+      pub word-no-value : value ≡ No → Other ≡ wordLine text
+      unfolding wordLine
+      word-no-value m = simp (sym e, lt-ltb k (length text) h, sym p ∙ n, sym (q ∙ ap (decimalIn (2 ^ 32)) r) ∙ m)
+
+      pub word-is : {v : ℕ} → value ≡ Is v → Word i v ≡ wordLine text
+      unfolding wordLine
+      word-is m = simp (sym e, lt-ltb k (length text) h, sym p ∙ n, sym (q ∙ ap (decimalIn (2 ^ 32)) r) ∙ m)
+
+-- It is a word or another line.
+pub word-kind : (text : List ℕ) (P : Line → Type 0) → P Other → ((i v : ℕ) → P (Word i v)) → P (wordLine text)
+unfolding wordLine
+word-kind text P o w =
+    of-cond P (ltb (bytesBefore (code ":") text) (length text))
+    (place (decimalIn filePlaces (take (bytesBefore (code ":") text) text)) (decimalIn (2 ^ 32) (drop (bytesBefore (code ":") text + 1) text)))
+    o
+  where
+    value : (i : ℕ) (b : Number) → P (lineBy b (λ v. Word i v))
+    value i (Is v) = w i v
+    value i No = o
+
+    place : (a b : Number) → P (lineBy a (λ i. lineBy b (λ v. Word i v)))
+    place (Is i) b = value i b
+    place No b = o
+
+-- A line by its start.
+module _ (text : List ℕ) {a : Bool} (p : a ≡ startsWith text passesStart) where
+  pub line-passes : a ≡ true → {rest : List ℕ} → rest ≡ afterStart passesStart text → {l : Line} → l ≡ lineBy (decimalIn (mostPasses + 1) rest) (λ n. Passes n) → l ≡ lineOf text
+  unfolding lineOf
+  line-passes t r q = rw (sym p ∙ t, ← r) q
+
+  module _ (f : a ≡ false) {b : Bool} (w : b ≡ startsWith text wordStart) where
+    pub line-word : b ≡ true → {rest : List ℕ} → rest ≡ afterStart wordStart text → {l : Line} → l ≡ wordLine rest → l ≡ lineOf text
+    unfolding lineOf
+    line-word t r q = rw (sym p ∙ f, sym w ∙ t, ← r) q
+
+    module _ (g : b ≡ false) {c : Bool} (s : c ≡ startsWith text commandStart) where
+      pub line-command : c ≡ true → {rest : List ℕ} → rest ≡ afterStart commandStart text → {l : Line} → l ≡ lineBy (hexadecimalIn rest) (λ n. Command n) → l ≡ lineOf text
+      unfolding lineOf
+      line-command t r q = rw (sym p ∙ f, sym w ∙ g, sym s ∙ t, ← r) q
+
+      pub line-other : c ≡ false → Other ≡ lineOf text
+      unfolding lineOf
+      line-other h = rw (sym p ∙ f, sym w ∙ g, sym s ∙ h)

@@ -1,0 +1,28 @@
+-- `bench_lines::passes` meets its contract.
+-- Assumes nothing.
+use Rattle.bench_lines.specs.declared.Line.the-variants.{Passes}
+use Rattle.bench_lines.proofs.LineKinds as kinds
+use borrow.Author.Needs.{needs}
+use Rattle.bench_lines.proofs.passes.Statement.{statement}
+use Rattle.bench_lines.proofs.passes.Tie as tie
+
+add-decimal : tie.Need-add-decimal
+add-decimal c = search needs
+
+decimal-requires : tie.Need-decimal-requires
+decimal-requires c κs = search needs
+
+enum-known-n : tie.Need-enum-known-n
+enum-known-n c = search needs
+
+enum-told : tie.Need-enum-told
+enum-told c = search needs
+
+returns : tie.Need-returns
+returns c = kinds.by-number (λ n. Passes n) (c .before .before .before .decimal .ensures) (c .before .n .given .1)
+
+returns-2 : tie.Need-returns-2
+returns-2 c = kinds.by-none (λ n. Passes n) (c .before .before .decimal .ensures) (c .enum-told .given .1)
+
+pub passes-spec : {M : Type 1} → statement M
+passes-spec = tie.close (tie.spec add-decimal decimal-requires enum-known-n enum-told returns returns-2)

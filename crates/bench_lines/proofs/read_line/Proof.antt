@@ -1,0 +1,105 @@
+-- `bench_lines::read_line` meets its contract: the starts are tried one after another.
+-- Assumes nothing.
+use mathlib.Core.Path.{sym, _∙_}
+use Rattle.bench_bytes.proofs.Searches.{starts-long}
+use Rattle.bench_lines.specs.Lines.{passesStart, wordStart, commandStart}
+use Rattle.bench_lines.proofs.LineKinds as kinds
+use borrow.Author.Needs.{needs}
+use Rattle.bench_lines.proofs.read_line.Statement.{statement}
+use Rattle.bench_lines.proofs.read_line.Tie as tie
+
+starts-requires : tie.Need-starts-requires
+starts-requires c κs = search needs
+
+after-requires : tie.Need-after-requires
+after-requires c κs = starts-long _ passesStart (sym (c .before .starts .ensures) ∙ c .if1 .taken)
+
+passes-requires : tie.Need-passes-requires
+passes-requires c κs = search needs
+
+returns : tie.Need-returns
+returns c =
+    let then1 = c .before .before in
+    let a = then1 .before .before .before .before .before .args in
+    kinds.line-passes (a .text .now) (then1 .before .starts .ensures) (then1 .if1 .taken) (c .before .after .ensures) (c .passes .ensures)
+
+starts-requires-2 : tie.Need-starts-requires-2
+starts-requires-2 c κs = search needs
+
+after-requires-2 : tie.Need-after-requires-2
+after-requires-2 c κs = starts-long _ wordStart (sym (c .before .starts2 .ensures) ∙ c .if2 .taken)
+
+word-requires : tie.Need-word-requires
+word-requires c κs = search needs
+
+returns-2 : tie.Need-returns-2
+returns-2 c =
+    let then2 = c .before .before in
+    let else1 = then2 .before .before .before .before in
+    let a = else1 .before .before .before .before .before .args in
+    kinds.line-word
+    (a .text .now)
+    (else1 .before .starts .ensures)
+    (else1 .if1 .left)
+    (then2 .before .starts2 .ensures)
+    (then2 .if2 .taken)
+    (c .before .after2 .ensures)
+    (c .word .ensures)
+
+starts-requires-3 : tie.Need-starts-requires-3
+starts-requires-3 c κs = search needs
+
+after-requires-3 : tie.Need-after-requires-3
+after-requires-3 c κs = starts-long _ commandStart (sym (c .before .starts3 .ensures) ∙ c .if3 .taken)
+
+command-requires : tie.Need-command-requires
+command-requires c κs = search needs
+
+returns-3 : tie.Need-returns-3
+returns-3 c =
+    let then3 = c .before .before in
+    let else2 = then3 .before .before .before .before in
+    let else1 = else2 .before .before .before .before in
+    let a = else1 .before .before .before .before .before .args in
+    kinds.line-command
+    (a .text .now)
+    (else1 .before .starts .ensures)
+    (else1 .if1 .left)
+    (else2 .before .starts2 .ensures)
+    (else2 .if2 .left)
+    (then3 .before .starts3 .ensures)
+    (then3 .if3 .taken)
+    (c .before .after3 .ensures)
+    (c .command .ensures)
+
+returns-4 : tie.Need-returns-4
+returns-4 c =
+    let else2 = c .before .before .before .before in
+    let else1 = else2 .before .before .before .before in
+    let a = else1 .before .before .before .before .before .args in
+    kinds.line-other
+    (a .text .now)
+    (else1 .before .starts .ensures)
+    (else1 .if1 .left)
+    (else2 .before .starts2 .ensures)
+    (else2 .if2 .left)
+    (c .before .starts3 .ensures)
+    (c .if3 .left)
+
+pub read-line-spec : {M : Type 1} → statement M
+read-line-spec =
+    tie.close
+    (tie.spec
+    starts-requires
+    after-requires
+    passes-requires
+    returns
+    starts-requires-2
+    after-requires-2
+    word-requires
+    returns-2
+    starts-requires-3
+    after-requires-3
+    command-requires
+    returns-3
+    returns-4)

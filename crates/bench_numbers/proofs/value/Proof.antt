@@ -1,0 +1,95 @@
+-- `bench_numbers::value` meets its contract: the digits that are left go on from the number so far.
+-- Assumes nothing.
+use mathlib.Core.Path.{_≡_, refl, sym, _∙_}
+use Prim.Native.Nat.{_+_, _-_, _*_, _≤_, _<_}
+use native.Mathlib.Omega.{arith}
+use native.Mathlib.Nat.{mul-le-mul-left}
+use borrow.Author.Needs.{needs}
+use lib.ListN.{length, getD, drop}
+use Rattle.bench_numbers.specs.Numbers.{digitValue, allDigits, writtenAfter}
+use Rattle.bench_numbers.proofs.Digits as digits
+use Rattle.bench_numbers.proofs.value.Statement.{statement}
+use Rattle.bench_numbers.proofs.value.Tie as tie
+
+abbrev Inv-loop : tie.InvT-loop
+Inv-loop text base limit v₀ i₀ v i =
+    (i ≤ length text) × (v < limit) × (allDigits base text ≡ allDigits base (drop i text)) × (writtenAfter base 0 text ≡ writtenAfter base v (drop i text))
+
+abbrev μ-loop : tie.MeasureT-loop
+μ-loop text base limit v₀ i₀ v i = length text - i
+
+loop-holds : tie.Need-loop-holds Inv-loop μ-loop
+loop-holds c = (omega arith, omega arith, refl, refl)
+
+shared-slice-read-digit : tie.Need-shared-slice-read-digit Inv-loop μ-loop
+shared-slice-read-digit c = omega arith
+
+digit-requires : tie.Need-digit-requires Inv-loop μ-loop
+digit-requires c κs = search needs
+
+returns : tie.Need-returns Inv-loop μ-loop
+returns c =
+    let w = c .before .before .before in
+    let d : w .before .before .before .args .base ≤ digitValue (getD (w .before .before .before .args .text .now) (w .before .loop .i) 0) = omega (arith, c .before .digit .ensures) in
+    sym (digits.number-none _ _ _ (w .before .loop .inv .2 ∙ digits.digits-stop _ _ (w .loop-test .taken) _ d))
+
+mul-v : tie.Need-mul-v Inv-loop μ-loop
+mul-v c = let w = c .before .before .before .before in omega (arith, mul-le-mul-left (w .loop .v) (w .before .before .pre .0))
+
+add-v : tie.Need-add-v Inv-loop μ-loop
+add-v c = let w = c .before .before .before .before in omega (arith, mul-le-mul-left (w .loop .v) (w .before .before .pre .0))
+
+returns-2 : tie.Need-returns-2 Inv-loop μ-loop
+returns-2 c =
+    let d = c .before .before in
+    let w = d .before .before in
+    let a = w .before .before .before .args in
+    let g = digits.written-grows (a .base) (w .before .loop .v * a .base + d .digit .result) (drop (w .before .loop .i + 1) (a .text .now)) (omega arith) in
+    let e = w .before .loop .inv .3 ∙ digits.written-on _ _ (w .loop-test .taken) (a .base) (w .before .loop .v) in
+    sym (digits.number-large _ _ _ (rw (e, ← d .digit .ensures) (omega (arith, g, c .if2 .taken))))
+
+add-i : tie.Need-add-i Inv-loop μ-loop
+add-i c = omega arith
+
+loop-less : tie.Need-loop-less Inv-loop μ-loop
+loop-less c = omega arith
+
+loop-again : tie.Need-loop-again Inv-loop μ-loop
+loop-again c =
+    let d = c .before .before in
+    let w = d .before .before in
+    let a = w .before .before .before .args in
+    let h : digitValue (getD (a .text .now) (w .before .loop .i) 0) < a .base = omega (arith, d .digit .ensures) in (
+      omega arith,
+      c .if2 .left,
+      w .before .loop .inv .2 ∙ digits.digits-on _ _ (w .loop-test .taken) _ h,
+      rw (d .digit .ensures) (w .before .loop .inv .3 ∙ digits.written-on _ _ (w .loop-test .taken) _ _),
+    )
+
+cast-t12 : tie.Need-cast-t12 Inv-loop μ-loop
+cast-t12 c = omega arith
+
+returns-3 : tie.Need-returns-3 Inv-loop μ-loop
+returns-3 c =
+    let w = c .before .loop in
+    sym
+    (digits.number-is _ _ _ _ (w .inv .2 ∙ digits.digits-end _ _ _ (c .loop-test .left)) (w .inv .3 ∙ digits.written-end _ _ _ _ (c .loop-test .left)) (w .inv .1))
+
+pub value-spec : {M : Type 1} → statement M
+value-spec =
+    tie.close
+    (tie.spec
+    Inv-loop
+    μ-loop
+    loop-holds
+    shared-slice-read-digit
+    digit-requires
+    returns
+    mul-v
+    add-v
+    returns-2
+    add-i
+    loop-less
+    loop-again
+    cast-t12
+    returns-3)

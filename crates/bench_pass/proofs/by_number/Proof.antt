@@ -1,0 +1,52 @@
+-- `bench_pass::by_number` meets its contract: the entries below i are filled.
+-- Assumes nothing.
+use Prim.Native.Nat.{_-_}
+use borrow.Author.Needs.{needs}
+use Rattle.bench_pass.proofs.ByNumber.{Filled, none-filled, fills, all-filled}
+use Rattle.bench_pass.proofs.by_number.Statement.{statement}
+use Rattle.bench_pass.proofs.by_number.Tie as tie
+
+abbrev Inv-loop : tie.InvT-loop
+Inv-loop order₀ i₀ order i = Filled order i
+
+abbrev μ-loop : tie.MeasureT-loop
+μ-loop order₀ i₀ order i = 256 - i
+
+loop-holds : tie.Need-loop-holds Inv-loop μ-loop
+loop-holds c = none-filled (c .args .order .now) (c .pre)
+
+cast-order : tie.Need-cast-order Inv-loop μ-loop
+cast-order c = search needs
+
+mul-order : tie.Need-mul-order Inv-loop μ-loop
+mul-order c = search needs
+
+element-write-order : tie.Need-element-write-order Inv-loop μ-loop
+element-write-order c = search needs
+
+add-i : tie.Need-add-i Inv-loop μ-loop
+add-i c = search needs
+
+loop-less : tie.Need-loop-less Inv-loop μ-loop
+loop-less c = search needs
+
+loop-again : tie.Need-loop-again Inv-loop μ-loop
+loop-again c = fills (c .before .loop .order) (c .before .loop .i) (c .before .loop .inv) (c .loop-test .taken)
+
+returns : tie.Need-returns Inv-loop μ-loop
+returns c = all-filled (c .before .loop .order) (c .before .loop .i) (c .before .loop .inv) (c .loop-test .left)
+
+pub by-number-spec : {M : Type 1} → statement M
+by-number-spec =
+    tie.close
+    (tie.spec
+    Inv-loop
+    μ-loop
+    loop-holds
+    cast-order
+    mul-order
+    element-write-order
+    add-i
+    loop-less
+    loop-again
+    returns)

@@ -1,0 +1,65 @@
+-- The ringing as the code goes: a step, and steps one after another. Readers need only `outputOf`, to which laws join these.
+-- Assumes nothing.
+use Prim.Native.Nat.{ℕ, zero, suc, _-_, _^_, _<_}
+use mathlib.Core.Bool.{cond}
+use mathlib.Core.List.{List, [], _++_}
+use lib.Dec.{eqb}
+use lib.ListN.{length, getD, take, drop}
+use Rattle.layout.specs.Layout.{dacAt}
+use Rattle.layout.specs.Machine.{Machine, Commands, Reaches}
+use Rattle.update.specs.Update.{updateOf}
+use Rattle.bench_text.specs.Text.{refusalLine}
+use Rattle.bench_file.specs.BenchFile.{Answer}
+use Rattle.bench_pass.specs.ByNumber.{passed}
+use Rattle.bench_ringing.specs.Ringing.{lineAfter}
+use Rattle.bench_ringing.specs.declared.Progress.{Progress}
+
+-- What the line asks of a machine: it reaches so far, and the two words have 20 bits.
+pub record Lined (m : Machine) : Type 0 where
+  pub reaches : Reaches m
+  pub left : getD m (dacAt 0) 0 < 2 ^ 20
+  pub right : getD m (dacAt 1) 0 < 2 ^ 20
+
+-- A ringing under way: how many passes are left, the machine, and the commands still left.
+pub record Ringing : Type 0 where
+  pub passes : ℕ
+  pub machine : Machine
+  pub commands : Commands
+
+-- A progress with its machine and all its commands as a ringing under way.
+abbrev pub ringingAt : Progress → Machine → Commands → Ringing
+ringingAt at m commands = record { passes = at .passes; machine = m; commands = drop (at .taken) commands }
+
+-- A step: the bytes that it prints, and what is left to ring.
+pub record Step : Type 0 where
+  pub bytes : List ℕ
+  pub next : Ringing
+
+-- One pass and one update; after a refusal no pass is left. With no pass left nothing is printed.
+unfoldable pub stepOf : Ringing → Step
+stepOf r =
+    let p = passed (r .machine) in
+    let u = updateOf (p .machine) (r .commands) in
+    cond (eqb (r .passes) 0) (record { bytes = []; next = r })
+    (cond (eqb (p .number) 0)
+    (cond (eqb (u .number) 0)
+    (record { bytes = lineAfter (u .machine); next = record { passes = r .passes - 1; machine = u .machine; commands = u .left } })
+    (record { bytes = refusalLine (u .number); next = record { passes = 0; machine = u .machine; commands = u .left } }))
+    (record { bytes = refusalLine (p .number); next = record { passes = 0; machine = p .machine; commands = r .commands } }))
+
+-- How many commands a step takes.
+abbrev pub commandsTaken : Ringing → Step → ℕ
+commandsTaken r s = length (r .commands) - length (s .next .commands)
+
+-- The steps one after another until no pass is left, at most k of them.
+unfoldable pub untilDone : ℕ → Ringing → List ℕ
+untilDone zero r = []
+untilDone (suc k) r = let s = stepOf r in cond (eqb (r .passes) 0) [] (s .bytes ++ untilDone k (s .next))
+
+-- The ringing that begins with what reading a text answers and leaves.
+abbrev pub begun : Answer → Ringing
+begun a = record { passes = a .passes; machine = a .machine; commands = take (a .count) (a .room) }
+
+-- What the steps print from there; a refused text has the line of its refusal.
+unfoldable pub rungFrom : Answer → List ℕ
+rungFrom a = cond (eqb (a .number) 0) (untilDone (a .passes) (begun a)) (refusalLine (a .number))

@@ -1,0 +1,43 @@
+-- All claims hold, each by the law that shows it.
+-- Assumes nothing.
+use mathlib.Core.Path.{_≡_, sym, _∙_}
+use Rattle.layout.specs.Machine.{Machine}
+use Rattle.machine.proofs.FreshMachine.{fresh-length, fresh-sound}
+use Rattle.pass_model.specs.Pass.{Call, passOf, passRefusal}
+use Rattle.pass_model.proofs.Asked.{refusal-leaves}
+use Rattle.pass_laws.proofs.Passing.{pass-number}
+use Rattle.pass_laws.proofs.PassSound.{pass-sound}
+use Rattle.pass_laws.proofs.PassSettings.{pass-settings}
+use Rattle.pass_laws.proofs.PassCounts.{pass-counts, pass-counter}
+use Rattle.update_laws.proofs.SoundCommands.{command-sound}
+use Rattle.update_laws.proofs.UpdateSound.{update-sound}
+use Rattle.update_laws.proofs.Lengths.{command-length, update-length}
+use Rattle.equal_orders.proofs.Theorem.{demand-3, compare-says, refused-says-no}
+use Rattle.equal_orders.proofs.WorkedExamples.{worked-examples}
+use Rattle.bench_ringing.proofs.RungFile.{rung-file}
+use Rattle.bench_gathering.proofs.Gatherings.{gathered-file}
+use Rattle.claims.specs.Claims.{Claims}
+
+-- A pass that answers 0 is refused by no question.
+not-refused : (m : Machine) (call : Call) → passOf m call .number ≡ 0 → passRefusal m call ≡ 0
+not-refused m call n = sym (pass-number m call) ∙ n
+
+pub claims : Claims
+claims =
+    record {
+      demand-3 = demand-3;
+      compare-says = compare-says;
+      refused-says-no = refused-says-no;
+      worked-examples = worked-examples;
+      fresh-good = record { whole = fresh-length; is-sound = fresh-sound };
+      pass-keeps = pass-sound;
+      command-keeps = λ m c good. record { whole = command-length m c ∙ good .whole; is-sound = command-sound m c (good .is-sound) };
+      update-keeps = λ m cs good. record { whole = update-length m cs ∙ good .whole; is-sound = update-sound m cs (good .is-sound) };
+      pass-settings = pass-settings;
+      items-read = λ m call n. pass-counts m call (not-refused m call n) .0;
+      items-written = λ m call n. pass-counts m call (not-refused m call n) .1;
+      pass-counted = λ m call n. pass-counter m call (not-refused m call n);
+      refused-leaves = λ m call n. refusal-leaves m call (λ e. n (pass-number m call ∙ e));
+      steps-are-output = rung-file;
+      gathered-are-output = gathered-file;
+    }

@@ -1,0 +1,59 @@
+-- Every claim that the demands and document 01 make beyond the contracts of the calls. One value of this record, `claims` in proofs/Proved.antt, is the proof of all.
+-- Assumes nothing.
+use Prim.Native.Nat.{ℕ, _+_, _%_, _^_, _≤_}
+use mathlib.Core.Bool.{true, false}
+use mathlib.Core.List.{List, [], _∷_}
+use mathlib.Core.Logic.{_↔_, _≢_}
+use mathlib.Core.Path.{_≡_}
+use lib.ListN.{length, getD}
+use Rattle.layout.specs.Layout.{counterAt}
+use Rattle.layout.specs.Machine.{Machine, Order, Commands, ticksOf}
+use Rattle.layout.specs.Widths.{counterBits}
+use Rattle.questions.specs.Questions.{asked}
+use Rattle.modes.specs.Modes.{readData, writeData}
+use Rattle.machine.specs.Questions.{freshMachine}
+use Rattle.order.specs.Order.{question5, question6, inMode}
+use Rattle.pass_model.specs.Pass.{Call, passOf}
+use Rattle.pass_laws.specs.Good.{Good}
+use Rattle.pass_laws.specs.Settings.{SettingsKept}
+use Rattle.command.specs.Command.{afterCommand}
+use Rattle.update.specs.Update.{updateOf}
+use Rattle.order_agreement.specs.Agreement.{Agree}
+use Rattle.compare.specs.Compare.{compareOf}
+use Rattle.equal_orders.specs.Equal.{Equal}
+use Rattle.equal_orders.specs.WorkedExamples.{WorkedExamples}
+use Rattle.bench_text.specs.Text.{lineBytes}
+use Rattle.bench_file.specs.BenchFile.{commandPlaces, readOf}
+use Rattle.bench_ringing.specs.Ringing.{outputOf}
+use Rattle.bench_ringing.specs.Steps.{rungFrom}
+use Rattle.bench_gathering.specs.Gathering.{printedFrom}
+
+-- An order passes questions 5 and 6.
+abbrev pub Passes : Machine → Order → Type 0
+Passes m order = asked (question5 (ticksOf m) order ∷ question6 (ticksOf m) order ∷ []) ≡ 0
+
+pub record Claims : Type 0 where
+  -- Demand 3: on a machine that passes questions 1 and 2, two orders that pass 5 and 6 are equal exactly when they agree on the four points.
+  pub demand-3 : (m : Machine) → Good m → (o₁ o₂ : Order) → Passes m o₁ → Passes m o₂ → Equal m o₁ o₂ ↔ Agree m o₁ o₂
+  -- A compare that passes the questions says yes exactly when its two orders are equal; a refused one says no.
+  pub compare-says : (m : Machine) (o₁ o₂ : Order) → compareOf m o₁ o₂ .number ≡ 0 → (compareOf m o₁ o₂ .equal ≡ true) ↔ Equal m o₁ o₂
+  pub refused-says-no : (m : Machine) (o₁ o₂ : Order) → compareOf m o₁ o₂ .number ≢ 0 → compareOf m o₁ o₂ .equal ≡ false
+  -- The twelve worked examples.
+  pub worked-examples : WorkedExamples
+  -- A fresh machine passes questions 1 and 2, and a pass, a command and an update keep them.
+  pub fresh-good : Good freshMachine
+  pub pass-keeps : (m : Machine) (call : Call) → Good m → Good (passOf m call .machine)
+  pub command-keeps : (m : Machine) (c : ℕ) → Good m → Good (afterCommand m c)
+  pub update-keeps : (m : Machine) (commands : Commands) → Good m → Good (updateOf m commands .machine)
+  -- A pass keeps all settings but the run modes of 1001 and 1101.
+  pub pass-settings : (m : Machine) (call : Call) → SettingsKept m (passOf m call .machine)
+  -- A pass that is not refused reads an item for each 0111 below T, writes one for each 0011 below T, and adds 1 to the counter.
+  pub items-read : (m : Machine) (call : Call) → passOf m call .number ≡ 0 → passOf m call .read ≡ inMode m readData
+  pub items-written : (m : Machine) (call : Call) → passOf m call .number ≡ 0 → passOf m call .written ≡ inMode m writeData
+  pub pass-counted : (m : Machine) (call : Call) → passOf m call .number ≡ 0
+      → getD (passOf m call .machine) counterAt 0 ≡ (getD m counterAt 0 + 1) % 2 ^ counterBits
+  -- A refused pass leaves the machine and the places as they were.
+  pub refused-leaves : (m : Machine) (call : Call) → passOf m call .number ≢ 0 → (passOf m call .machine ≡ m) × (passOf m call .places ≡ call .places)
+  -- The steps of the bench program until no pass is left are its output, for every text; and so are they where they are gathered in a buffer that has room for a line.
+  pub steps-are-output : (text m room : List ℕ) → length room ≡ commandPlaces → rungFrom (readOf text m room) ≡ outputOf text
+  pub gathered-are-output : (size : ℕ) (text m room : List ℕ) → lineBytes ≤ size → length room ≡ commandPlaces → printedFrom size (readOf text m room) ≡ outputOf text

@@ -1,0 +1,2 @@
+pub mod CommandFields
+pub mod BuiltCodes

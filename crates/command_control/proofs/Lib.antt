@@ -1,3 +1,0 @@
-pub mod CommandFields
-pub mod Releases
-pub mod Lingers

@@ -1,0 +1,29 @@
+-- `command_load::load_then_clear` meets its contract: two loads, then the clearing.
+-- Assumes nothing.
+use Rattle.command_load.proofs.Sequence.{then-clears}
+use borrow.Author.Needs.{needs}
+use Rattle.command_load.proofs.load_then_clear.Statement.{statement}
+use Rattle.command_load.proofs.load_then_clear.Tie as tie
+
+load-two-requires : tie.Need-load-two-requires
+load-two-requires c κs = search needs
+
+flag-requires : tie.Need-flag-requires
+flag-requires c κs = search needs
+
+clear-if-requires : tie.Need-clear-if-requires
+clear-if-requires c κs = search needs
+
+same-length : tie.Need-same-length
+same-length c = search needs
+
+returns : tie.Need-returns
+returns c =
+    let clear = c .before .before in
+    let two = clear .before .before .before .before .before in
+    let a = two .before .before .before .args in
+    then-clears (a .m .now) (a .c) (a .first) (a .v) (a .second) (a .w) (a .third) (two .load-two .ensures) (clear .before .flag .ensures) (clear .clear-if .ensures)
+
+pub load-then-clear-spec : {M : Type 1} → statement M
+load-then-clear-spec =
+    tie.close (tie.spec load-two-requires flag-requires clear-if-requires same-length returns)

@@ -1,0 +1,83 @@
+-- `command_modifier::load_mmode` meets its contract: its two parts make the word.
+-- Assumes nothing.
+use mathlib.Core.Path.{ap}
+use Prim.Native.Nat.{ℕ}
+use native.Mathlib.Omega.{arith}
+use lib.ListN.{getD, set}
+use Rattle.command_modifier.proofs.Modes.{mmode-fits, mmode-is}
+use borrow.Author.Needs.{needs}
+use Rattle.command_modifier.proofs.load_mmode.Statement.{statement}
+use Rattle.command_modifier.proofs.load_mmode.Tie as tie
+
+mul-mmode : tie.Need-mul-mmode
+mul-mmode c = search needs
+
+slice-read-mmode : tie.Need-slice-read-mmode
+slice-read-mmode c = search needs
+
+flag-requires : tie.Need-flag-requires
+flag-requires c κs = search needs
+
+field-requires : tie.Need-field-requires
+field-requires c κs = search needs
+
+chosen-requires : tie.Need-chosen-requires
+chosen-requires c κs = search needs
+
+flag-requires-2 : tie.Need-flag-requires-2
+flag-requires-2 c κs = search needs
+
+field-requires-2 : tie.Need-field-requires-2
+field-requires-2 c κs = search needs
+
+chosen-requires-2 : tie.Need-chosen-requires-2
+chosen-requires-2 c κs = search needs
+
+mul-m : tie.Need-mul-m
+mul-m c =
+    let function = c .before .before .before in
+    let start = function .before .before .before .before .before in
+    let mmode = getD (start .args .m .now) (start .args .at) 0 in
+    omega (arith, mmode-fits mmode (start .args .c) (function .before .before .flag .ensures) (function .before .field .ensures) (function .chosen .ensures) (c .before .before .flag2 .ensures) (c .before .field2 .ensures) (c .chosen2 .ensures) (omega (arith, function .before .before .before .slice-known2 .given (start .args .at))))
+
+add-m : tie.Need-add-m
+add-m c =
+    let function = c .before .before .before in
+    let start = function .before .before .before .before .before in
+    let mmode = getD (start .args .m .now) (start .args .at) 0 in
+    omega (arith, mmode-fits mmode (start .args .c) (function .before .before .flag .ensures) (function .before .field .ensures) (function .chosen .ensures) (c .before .before .flag2 .ensures) (c .before .field2 .ensures) (c .chosen2 .ensures) (omega (arith, function .before .before .before .slice-known2 .given (start .args .at))))
+
+mul-m-2 : tie.Need-mul-m-2
+mul-m-2 c = search needs
+
+slice-write-m : tie.Need-slice-write-m
+slice-write-m c = search needs
+
+same-length : tie.Need-same-length
+same-length c = search needs
+
+returns : tie.Need-returns
+returns c =
+    let function = c .before .before .before in
+    let start = function .before .before .before .before .before in
+    let mmode = getD (start .args .m .now) (start .args .at) 0 in
+    ap (λ (v : ℕ). set (start .args .m .now) (start .args .at) v) (mmode-is mmode (start .args .c) (function .before .before .flag .ensures) (function .before .field .ensures) (function .chosen .ensures) (c .before .before .flag2 .ensures) (c .before .field2 .ensures) (c .chosen2 .ensures))
+
+pub load-mmode-spec : {M : Type 1} → statement M
+load-mmode-spec =
+    tie.close
+    (tie.spec
+    mul-mmode
+    slice-read-mmode
+    flag-requires
+    field-requires
+    chosen-requires
+    flag-requires-2
+    field-requires-2
+    chosen-requires-2
+    mul-m
+    add-m
+    mul-m-2
+    slice-write-m
+    same-length
+    returns)

@@ -1,0 +1,86 @@
+-- `command_timer::timer` meets its contract: its arms by TT.
+-- Assumes nothing.
+use mathlib.Core.Path.{_∙_}
+use lib.ListN.{length-set}
+use Rattle.layout.specs.Layout.{counterAt}
+use Rattle.command_timer.proofs.Lingers.{timer-sets, timer-lingers, timer-clears, timer-idle}
+use borrow.Author.Needs.{needs}
+use Rattle.command_timer.proofs.timer.Statement.{statement}
+use Rattle.command_timer.proofs.timer.Tie as tie
+
+field-requires : tie.Need-field-requires
+field-requires c κs = search needs
+
+field-requires-2 : tie.Need-field-requires-2
+field-requires-2 c κs = search needs
+
+slice-write-m : tie.Need-slice-write-m
+slice-write-m c = search needs
+
+same-length : tie.Need-same-length
+same-length c = search needs
+
+returns : tie.Need-returns
+returns c =
+    let tt = c .before in
+    let a = tt .before .before .before .args in
+    timer-sets (a .m .now) (a .c) (tt .before .field .ensures) (tt .field2 .ensures) (c .if1 .taken)
+
+linger-requires : tie.Need-linger-requires
+linger-requires c κs = search needs
+
+same-length-2 : tie.Need-same-length-2
+same-length-2 c = search needs
+
+returns-2 : tie.Need-returns-2
+returns-2 c =
+    let done = c .before .before in
+    let arm = done .before .before in
+    let tt = arm .before .before in
+    let a = tt .before .before .before .args in
+    timer-lingers (a .m .now) (a .c) (tt .before .field .ensures) (tt .field2 .ensures) (arm .if2 .taken) (done .linger .ensures)
+
+slice-write-m-2 : tie.Need-slice-write-m-2
+slice-write-m-2 c = search needs
+
+linger-requires-2 : tie.Need-linger-requires-2
+linger-requires-2 c κs = search needs
+
+same-length-3 : tie.Need-same-length-3
+same-length-3 c =
+    let done = c .before .before in
+    let tt = done .before .before .before .before .before in
+    let a = tt .before .before .before .args in
+    done .linger2 .kept .0 ∙ length-set (a .m .now) counterAt 0
+
+returns-3 : tie.Need-returns-3
+returns-3 c =
+    let done = c .before .before in
+    let arm = done .before .before in
+    let tt = arm .before .before .before in
+    let a = tt .before .before .before .args in
+    timer-clears (a .m .now) (a .c) (tt .before .field .ensures) (tt .field2 .ensures) (arm .if3 .taken) (done .linger2 .ensures)
+
+returns-4 : tie.Need-returns-4
+returns-4 c =
+    let tt = c .before .before .before in
+    let a = tt .before .before .before .args in
+    timer-idle (a .m .now) (a .c) (tt .before .field .ensures) (tt .field2 .ensures) (c .before .before .if1 .left) (c .before .if2 .left) (c .if3 .left)
+
+pub timer-spec : {M : Type 1} → statement M
+timer-spec =
+    tie.close
+    (tie.spec
+    field-requires
+    field-requires-2
+    slice-write-m
+    same-length
+    returns
+    linger-requires
+    same-length-2
+    returns-2
+    slice-write-m-2
+    linger-requires-2
+    same-length-3
+    returns-3
+    returns-4)

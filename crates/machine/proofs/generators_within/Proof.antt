@@ -1,0 +1,66 @@
+-- `machine::generators_within` meets its contract: the flags are those of the built modes.
+-- Assumes nothing.
+use Prim.Native.Nat.{_%_}
+use Rattle.lists.specs.Lists.{isOneOf}
+use Rattle.lists.proofs.Below.{both}
+use Rattle.layout.specs.Layout.{generatorWords, GMODE}
+use Rattle.modes.specs.Modes.{builtRun, builtOscillator}
+use Rattle.machine_sweep.proofs.Words.{fields-tested}
+use Rattle.machine.specs.Questions.{generatorRegisters}
+use Rattle.machine.specs.Loops.{limitsOf, repeated, generatorsWithin}
+use Rattle.machine.proofs.Limits.{limits-swept}
+use borrow.Author.Needs.{needs}
+use Rattle.machine.proofs.generators_within.Statement.{statement}
+use Rattle.machine.proofs.generators_within.Tie as tie
+
+generator-limits-requires : tie.Need-generator-limits-requires
+generator-limits-requires c κs = search needs
+
+flags-requires : tie.Need-flags-requires
+flags-requires c κs = search needs
+
+mul-flags : tie.Need-mul-flags
+mul-flags c = search needs
+
+flags-requires-2 : tie.Need-flags-requires-2
+flags-requires-2 c κs = search needs
+
+slice-aggregate-swept : tie.Need-slice-aggregate-swept
+slice-aggregate-swept c = search needs
+
+swept-requires : tie.Need-swept-requires
+swept-requires c κs = search needs
+
+fields-flagged-requires : tie.Need-fields-flagged-requires
+fields-flagged-requires c κs = search needs
+
+fields-flagged-requires-2 : tie.Need-fields-flagged-requires-2
+fields-flagged-requires-2 c κs = search needs
+
+returns : tie.Need-returns
+unfolding generatorsWithin builtRun builtOscillator isOneOf
+returns c =
+    let runs = c .before .before in
+    let sweep = runs .before .before in
+    let second = sweep .before .before in
+    let first = second .before in
+    let m = first .before .before .before .args .m .now in
+    both
+    (both
+    (limits-swept (first .before .generator-limits .result) (repeated (limitsOf generatorRegisters) 44) m 0 8 (sweep .swept .result) (first .before .generator-limits .ensures) (sweep .swept .ensures))
+    (fields-tested _ (first .flags .result) (first .flags .ensures) builtRun tt 6 m GMODE generatorWords 256 (runs .fields-flagged .result) (runs .fields-flagged .ensures)))
+    (fields-tested _ (second .flags2 .result) (second .flags2 .ensures) (λ k. builtOscillator (k % 16)) tt 0 m GMODE generatorWords 256 (c .fields-flagged2 .result) (c .fields-flagged2 .ensures))
+
+pub generators-within-spec : {M : Type 1} → statement M
+generators-within-spec =
+    tie.close
+    (tie.spec
+    generator-limits-requires
+    flags-requires
+    mul-flags
+    flags-requires-2
+    slice-aggregate-swept
+    swept-requires
+    fields-flagged-requires
+    fields-flagged-requires-2
+    returns)

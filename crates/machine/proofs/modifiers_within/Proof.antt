@@ -1,0 +1,76 @@
+-- `machine::modifiers_within` meets its contract: the flags are those of the built functions.
+-- Assumes nothing.
+use Prim.Native.Nat.{_+_}
+use Rattle.lists.specs.Lists.{isOneOf}
+use Rattle.lists.proofs.Below.{both}
+use Rattle.layout.specs.Layout.{modifierAt, modifierWords, MMODE}
+use Rattle.modifier_turn.specs.Turn.{builtFunctions, builtFunction}
+use Rattle.machine_sweep.proofs.Words.{fields-tested}
+use Rattle.machine.specs.Questions.{modifierRegisters}
+use Rattle.machine.specs.Loops.{limitsOf, repeated, modifiersWithin}
+use Rattle.machine.proofs.Limits.{limits-swept}
+use borrow.Author.Needs.{needs}
+use Rattle.machine.proofs.modifiers_within.Statement.{statement}
+use Rattle.machine.proofs.modifiers_within.Tie as tie
+
+modifier-limits-requires : tie.Need-modifier-limits-requires
+modifier-limits-requires c κs = search needs
+
+flags-requires : tie.Need-flags-requires
+flags-requires c κs = search needs
+
+slice-aggregate-swept : tie.Need-slice-aggregate-swept
+slice-aggregate-swept c = search needs
+
+swept-requires : tie.Need-swept-requires
+swept-requires c κs = search needs
+
+add-words-below : tie.Need-add-words-below
+add-words-below c = search needs
+
+words-below-requires : tie.Need-words-below-requires
+words-below-requires c κs = search needs
+
+add-words-below-2 : tie.Need-add-words-below-2
+add-words-below-2 c = search needs
+
+words-below-requires-2 : tie.Need-words-below-requires-2
+words-below-requires-2 c κs = search needs
+
+add-fields-flagged : tie.Need-add-fields-flagged
+add-fields-flagged c = search needs
+
+fields-flagged-requires : tie.Need-fields-flagged-requires
+fields-flagged-requires c κs = search needs
+
+returns : tie.Need-returns
+unfolding modifiersWithin builtFunction builtFunctions isOneOf
+returns c =
+    let mrm = c .before .before in
+    let min = mrm .before in
+    let sweep = min .before in
+    let flags = sweep .before .before in
+    let m = flags .before .before .before .args .m .now in
+    both
+    (both
+    (both
+    (limits-swept (flags .before .modifier-limits .result) (repeated (limitsOf modifierRegisters) 16) m (modifierAt 0) 8 (sweep .swept .result) (flags .before .modifier-limits .ensures) (sweep .swept .ensures))
+    (min .words-below .ensures))
+    (mrm .words-below2 .ensures))
+    (fields-tested _ (flags .flags .result) (flags .flags .ensures) builtFunction tt 4 m (modifierAt 0 + MMODE) modifierWords 128 (c .fields-flagged .result) (c .fields-flagged .ensures))
+
+pub modifiers-within-spec : {M : Type 1} → statement M
+modifiers-within-spec =
+    tie.close
+    (tie.spec
+    modifier-limits-requires
+    flags-requires
+    slice-aggregate-swept
+    swept-requires
+    add-words-below
+    words-below-requires
+    add-words-below-2
+    words-below-requires-2
+    add-fields-flagged
+    fields-flagged-requires
+    returns)

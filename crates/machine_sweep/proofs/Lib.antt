@@ -1,0 +1,3 @@
+pub mod Words
+pub mod EveryColumn
+pub mod Rows

@@ -1,0 +1,39 @@
+-- What a pass leaves of a machine as it was (document 01, "A pass, and two orders of it").
+-- Assumes nothing.
+use mathlib.Core.Logic.{_≢_}
+use mathlib.Core.Path.{_≡_}
+use Prim.Native.Nat.{ℕ, _+_, _%_, _^_, _<_}
+use lib.ListN.{getD}
+use Rattle.layout.specs.Layout.{generatorAt, modifierAt, dxAt, tAt, nAt, lingeringAt, lingerPassAt, overrunAt, GN, GM, GP, GL, GSUM, GFM, GMODE, MIN, MRM, MSUM, MMODE}
+use Rattle.layout.specs.Machine.{Machine, runModeAt}
+use Rattle.modes.specs.Modes.{wait, runningC}
+
+-- The registers of generator g of a machine r that a pass does not change are as they are in m: all but GJ, GK, GQ, and of GMODE the run mode of a 1001 and of a 1101.
+pub record GeneratorKept (m r : Machine) (g : ℕ) : Type 0 where
+  pub go : getD r (generatorAt g) 0 ≡ getD m (generatorAt g) 0
+  pub gn : getD r (generatorAt g + GN) 0 ≡ getD m (generatorAt g + GN) 0
+  pub gm : getD r (generatorAt g + GM) 0 ≡ getD m (generatorAt g + GM) 0
+  pub gp : getD r (generatorAt g + GP) 0 ≡ getD m (generatorAt g + GP) 0
+  pub gl : getD r (generatorAt g + GL) 0 ≡ getD m (generatorAt g + GL) 0
+  pub gsum : getD r (generatorAt g + GSUM) 0 ≡ getD m (generatorAt g + GSUM) 0
+  pub gfm : getD r (generatorAt g + GFM) 0 ≡ getD m (generatorAt g + GFM) 0
+  pub gmode : runModeAt m g ≢ wait → runModeAt m g ≢ runningC → getD r (generatorAt g + GMODE) 0 ≡ getD m (generatorAt g + GMODE) 0
+  pub gmodeRest : getD r (generatorAt g + GMODE) 0 % 2 ^ 6 ≡ getD m (generatorAt g + GMODE) 0 % 2 ^ 6
+
+-- Those of modifier k: all but M0, M1, L0 and L1.
+pub record ModifierKept (m r : Machine) (k : ℕ) : Type 0 where
+  pub min : getD r (modifierAt k + MIN) 0 ≡ getD m (modifierAt k + MIN) 0
+  pub mrm : getD r (modifierAt k + MRM) 0 ≡ getD m (modifierAt k + MRM) 0
+  pub msum : getD r (modifierAt k + MSUM) 0 ≡ getD m (modifierAt k + MSUM) 0
+  pub mmode : getD r (modifierAt k + MMODE) 0 ≡ getD m (modifierAt k + MMODE) 0
+
+-- All settings of a machine, and what an update sets.
+pub record SettingsKept (m r : Machine) : Type 0 where
+  pub generator : (g : ℕ) → g < 256 → GeneratorKept m r g
+  pub modifier : (k : ℕ) → k < 128 → ModifierKept m r k
+  pub dx : getD r dxAt 0 ≡ getD m dxAt 0
+  pub t : getD r tAt 0 ≡ getD m tAt 0
+  pub n : getD r nAt 0 ≡ getD m nAt 0
+  pub lingering : getD r lingeringAt 0 ≡ getD m lingeringAt 0
+  pub lingerPass : getD r lingerPassAt 0 ≡ getD m lingerPassAt 0
+  pub overrun : getD r overrunAt 0 ≡ getD m overrunAt 0

@@ -1,0 +1,6 @@
+pub mod Puts
+pub mod Registers
+pub mod Views
+pub mod Modifiers
+pub mod Asked
+pub mod Turns

@@ -1,0 +1,122 @@
+-- The generators of a pass, taken in an order (document 01, "A generator" and "A pass, and two orders of it").
+-- Assumes nothing.
+use Prim.Native.Nat.{ℕ, suc, _+_, _-_, _%_, _^_}
+use mathlib.Core.Bool.{Bool, cond, _&&_}
+use mathlib.Core.List.{List, [], _∷_}
+use lib.Dec.{eqb, leb}
+use lib.ListN.{getD, set, drop}
+use Rattle.lists.specs.Lists.{zeros}
+use Rattle.words.specs.Words.{sum}
+use Rattle.modes.specs.Modes.{adds, replaces, writeData, writeDAC}
+use Rattle.generator.specs.declared.Generator.{Generator}
+use Rattle.generator.specs.Generator.{loaded, stored, runMode, pOf, triggers, after}
+use Rattle.layout.specs.Layout.{generatorAt, dacAt}
+use Rattle.layout.specs.Machine.{Machine, Order, Items, Places, Sums}
+use Rattle.sums.specs.Sums.{sumAt, putSum, fAt}
+
+-- What a turn brings: the generator afterwards, whether it triggers, P, whether P is added into a generator-this word or replaces it together with a
+-- read item, and which word; what the generator sends, whether to a DAC and which, and whether as a written item.
+pub record Brought : Type 0 where
+  pub unit : Generator
+  pub triggers : Bool
+  pub p : ℕ
+  pub adds : Bool
+  pub replaces : Bool
+  pub word : ℕ
+  pub sends : ℕ
+  pub feeds : Bool
+  pub dac : ℕ
+  pub writes : Bool
+
+-- The generators of a text: what the turn of generator g brings, by the machine's words, sum memory and whether it is told that its lower neighbour
+-- triggered; and how far below it that neighbour stands.
+pub record Generators : Type 0 where
+  pub turn : Machine → Sums → ℕ → Bool → Brought
+  pub distance : ℕ
+
+-- Generator g of a machine's words.
+unfoldable pub generatorOf : Machine → ℕ → Generator
+generatorOf words g = loaded (drop (generatorAt g) words)
+
+-- The turn of generator g of the 1978 text. F is the word at GFM. Step 5: 0011 sends F as a written item, 0010 to the DAC named by the low 4 bits of GO.
+-- Step 9: P is added into word GSUM where the run mode adds, and in 0111 replaces it.
+unfoldable pub turn1978 : Machine → Sums → ℕ → Bool → Brought
+turn1978 words sums g told =
+    let u = generatorOf words g in
+    let f = fAt sums (u .gfm) in
+    record {
+      unit = after u f told;
+      triggers = triggers u;
+      p = pOf u f;
+      adds = adds (runMode u);
+      replaces = replaces (runMode u);
+      word = u .gsum;
+      sends = f;
+      feeds = eqb (runMode u) writeDAC;
+      dac = u .go % 2 ^ 4;
+      writes = eqb (runMode u) writeData;
+    }
+
+-- The lower neighbour of g is g-1.
+abbrev pub of1978 : Generators
+of1978 = record { turn = turn1978; distance = 1 }
+
+-- A pass under way: the machine's words, sum memory, a 1 for each generator that was taken and triggered, the places for written items, and how many items were read and written.
+pub record State : Type 0 where
+  pub words : Machine
+  pub sums : Sums
+  pub triggered : List ℕ
+  pub places : Places
+  pub reads : ℕ
+  pub writes : ℕ
+
+-- Whether the lower neighbour of g was taken before and triggered. The lowest generators have none.
+unfoldable pub told : ℕ → List ℕ → ℕ → Bool
+told distance triggered g = leb distance g && eqb (getD triggered (g - distance) 0) 1
+
+-- What is sent to a DAC is put there.
+unfoldable pub fed : Machine → Brought → Machine
+fed words b = cond (b .feeds) (set words (dacAt (b .dac)) (b .sends)) words
+
+-- P plus the read item, of which the low 20 bits count, replaces the word; or P is added into it.
+unfoldable pub summed : Sums → Brought → ℕ → Sums
+summed s b item =
+    cond (b .replaces) (putSum s (b .word) (sum 20 (b .p) (item % 2 ^ 20)))
+    (cond (b .adds) (putSum s (b .word) (sum 20 (sumAt s (b .word)) (b .p)))
+    s)
+
+-- Generator g is taken. It reads the next of some items.
+unfoldable pub step : Generators → Items → State → ℕ → State
+step of items s g =
+    let b = of .turn (s .words) (s .sums) g (told (of .distance) (s .triggered) g) in
+    record {
+      words = fed (stored (s .words) (generatorAt g) (b .unit)) b;
+      sums = summed (s .sums) b (getD items (s .reads) 0);
+      triggered = cond (b .triggers) (set (s .triggered) g 1) (s .triggered);
+      places = cond (b .writes) (set (s .places) (s .writes) (b .sends)) (s .places);
+      reads = cond (b .replaces) (suc (s .reads)) (s .reads);
+      writes = cond (b .writes) (suc (s .writes)) (s .writes);
+    }
+
+-- The generators of an order are taken one after the other.
+unfoldable pub steps : Generators → Items → State → Order → State
+steps of items s [] = s
+steps of items s (g ∷ order) = steps of items (step of items s g) order
+
+-- A pass begins: nothing has triggered, been read or written.
+unfoldable pub begun : Machine → Sums → Places → State
+begun words sums places =
+    record { words = words; sums = sums; triggered = zeros 256; places = places; reads = 0; writes = 0 }
+
+-- What the generators leave: all of the state but who triggered, which acts in no later stage.
+pub record Taken : Type 0 where
+  pub words : Machine
+  pub sums : Sums
+  pub places : Places
+  pub reads : ℕ
+  pub writes : ℕ
+
+unfoldable pub takenBy : Generators → Items → State → Order → Taken
+takenBy of items s order =
+    let t = steps of items s order in
+    record { words = t .words; sums = t .sums; places = t .places; reads = t .reads; writes = t .writes }

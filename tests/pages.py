@@ -1,0 +1,46 @@
+"""What the pages name is there: every crate has its place in the layers of docs/ARCHITECTURE.md, every definition file is
+listed once as to be believed or to be skipped, and every must-fail edit that a page names exists.
+
+    python3 tests/pages.py
+"""
+
+import re
+import sys
+from pathlib import Path
+
+ROOT = Path(__file__).resolve().parent.parent
+CRATES = ROOT / "crates"
+PAGE = ROOT / "docs" / "ARCHITECTURE.md"
+NAMING = (PAGE, ROOT / "docs" / "DECISIONS.md", ROOT / "docs" / "TOUR.md", ROOT / "README.md")
+
+
+def section(text, head):
+    """The part of a page under a head of the second level."""
+    return text.split(f"\n## {head}\n", 1)[1].split("\n## ", 1)[0]
+
+
+def faults():
+    """What is wrong, a line each."""
+    page = PAGE.read_text()
+    crates = {folder.name for folder in CRATES.iterdir() if folder.is_dir()}
+    layers = set(re.findall(r"`(\w+)`", "\n".join(line.split("|")[2] for line in page.splitlines() if line.count("|") == 4)))
+    yield from (f"the layers lack {name}" for name in sorted(crates - layers))
+    files = {f"{path.parent.parent.name}/{path.stem}" for path in CRATES.glob("*/specs/*.antt") if path.stem != "Lib"}
+    named = re.findall(r"`(\w+/\w+)`", section(page, "Which definitions need belief"))
+    yield from (f"no word on whether to believe {name}" for name in sorted(files - set(named)))
+    yield from (f"a definition file that is not there, or is listed twice: {name}" for name in sorted(set(named)) if name not in files or named.count(name) > 1)
+    edits = {f"{path.parent.parent.name}/{path.stem}" for path in CRATES.glob("*/must-fail/*.edit")}
+    for path in NAMING:
+        for crate, label in re.findall(r"`(\w+)/([a-z][a-z0-9_]+)`", path.read_text()):
+            if crate in crates and label not in ("specs", "proofs", "src") and f"{crate}/{label}" not in edits:
+                yield f"{path.name} names an edit that is not there: {crate}/{label}"
+
+
+def main():
+    found = list(faults())
+    print("\n".join(found) if found else "crates, definition files and edits are as the pages name them")
+    sys.exit(1 if found else 0)
+
+
+if __name__ == "__main__":
+    main()
