@@ -11,7 +11,7 @@ use lib.Dec.{eqb, leb}
 use lib.ListN.{length, getD, set, take, length-set}
 use lib.Seq.{getD-set-same, getD-set-other, ext-getD}
 use Rattle.lists.specs.Lists.{tabulate}
-use Rattle.lists.proofs.Tables.{tabulate-at}
+use Rattle.lists.proofs.Tables.{tabulate-at, tabulate-length}
 use Rattle.machine.specs.Questions.{question1, question2}
 use Rattle.questions.specs.Questions.{asked}
 use Rattle.pass_model.specs.Pass.{plainCall, refused, passOf}
@@ -19,11 +19,6 @@ use Rattle.pass_model.proofs.Asked.{refused-first, few-ticks}
 use Rattle.bench_pass.specs.ByNumber.{byNumber, passed}
 use Rattle.bench_pass.specs.FewTicks.{fewTicks}
 use Rattle.layout.specs.Machine.{ticksOf}
-
-tabulate-length : (i n : ℕ) → length (tabulate (λ g. g) i n) ≡ n
-unfolding tabulate
-tabulate-length i zero = refl
-tabulate-length i (suc n) = ap suc (tabulate-length (suc i) n)
 
 tabulate-take : (t n i : ℕ) → t ≤ n → take t (tabulate (λ g. g) i n) ≡ tabulate (λ g. g) i t
 unfolding tabulate
@@ -33,7 +28,7 @@ tabulate-take (suc t) (suc n) i h = ap (λ (l : List ℕ). i ∷ l) (tabulate-ta
 
 pub by-number-length : (n : ℕ) → length (byNumber n) ≡ n
 unfolding byNumber
-by-number-length n = tabulate-length 0 n
+by-number-length n = tabulate-length (λ g. g) 0 n
 
 -- The first t entries of the order by number of n generators are that of t.
 pub first-entries : (t n : ℕ) → t ≤ n → take t (byNumber n) ≡ byNumber t

@@ -29,11 +29,11 @@ pub record Falls (r : Ringing) (all : List ℕ) (s : Step) : Type 0 where
   pub prints : all ≡ s .bytes ++ onward (s .next)
 
 of-choice : (r : Ringing) → r .passes ≢ 0 → (a b : Bool) (n : ℕ) (m : List ℕ) (u : Outcome)
-    → Falls r (cond a (cond b (lineAfter (u .machine) ++ printed (r .passes - 1) (u .machine) (u .left)) (refusalLine (u .number))) (refusalLine n))
+    → Falls r (cond a (cond b (lineAfter (u .machine) ++ printed (r .passes - 1) (u .machine) (u .rest)) (refusalLine (u .number))) (refusalLine n))
     (cond a
     (cond b
-    (record { bytes = lineAfter (u .machine); next = record { passes = r .passes - 1; machine = u .machine; commands = u .left } })
-    (record { bytes = refusalLine (u .number); next = record { passes = 0; machine = u .machine; commands = u .left } }))
+    (record { bytes = lineAfter (u .machine); next = record { passes = r .passes - 1; machine = u .machine; commands = u .rest } })
+    (record { bytes = refusalLine (u .number); next = record { passes = 0; machine = u .machine; commands = u .rest } }))
     (record { bytes = refusalLine n; next = record { passes = 0; machine = m; commands = r .commands } }))
 unfolding printed
 of-choice r some true true n m u = record { falls = omega arith; prints = refl }

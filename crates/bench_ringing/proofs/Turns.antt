@@ -36,8 +36,8 @@ start-end cs from h =
 
 -- An update with the commands from a place on: how many it takes, and what it leaves.
 module _ (m cs : List ℕ) (start from : ℕ) (within : start ≤ length cs) (same-rest : drop start cs ≡ drop from cs) {n : ℕ} {l left : List ℕ}
-    (e : record { number = n; machine = l; left = left } ≡ updateOf m (take (length cs - start) (drop start cs))) where
-  whole : record { number = n; machine = l; left = left } ≡ updateOf m (drop from cs)
+    (e : record { number = n; machine = l; rest = left } ≡ updateOf m (take (length cs - start) (drop start cs))) where
+  whole : record { number = n; machine = l; rest = left } ≡ updateOf m (drop from cs)
   whole = e ∙ ap (updateOf m) (take-all (length cs - start) (drop start cs) (omega (arith, length-drop start cs)) ∙ same-rest)
 
   rest-length : length (drop from cs) ≡ length cs - start
@@ -49,10 +49,10 @@ module _ (m cs : List ℕ) (start from : ℕ) (within : start ≤ length cs) (sa
   pub update-count : length cs - start - length left ≡ takenCount m (drop from cs)
   update-count = ap (λ (k : ℕ). k - length left) (sym rest-length) ∙ count-is m (drop from cs) whole
 
-  pub update-from : record { number = n; machine = l; left = drop (from + (length cs - start - length left)) cs } ≡ updateOf m (drop from cs)
+  pub update-from : record { number = n; machine = l; rest = drop (from + (length cs - start - length left)) cs } ≡ updateOf m (drop from cs)
   update-from =
-      ap (λ (k : ℕ). record { number = n; machine = l; left = drop (from + (k - length left)) cs }) (sym rest-length)
-      ∙ ap (λ (rest : List ℕ). record { number = n; machine = l; left = rest }) (sym (drop-drop (length (drop from cs) - length left) from cs))
+      ap (λ (k : ℕ). record { number = n; machine = l; rest = drop (from + (k - length left)) cs }) (sym rest-length)
+      ∙ ap (λ (rest : List ℕ). record { number = n; machine = l; rest = rest }) (sym (drop-drop (length (drop from cs) - length left) from cs))
       ∙ tail-of m (drop from cs) whole
 
 -- An update that is not refused is of a machine that passes questions 1 and 2.
@@ -71,7 +71,7 @@ update-asked m cs e = go (eqb n 0) refl e
     go false t z = z
 
 -- So the line can be made of what it leaves.
-pub lined : (m cs : List ℕ) {n : ℕ} {last left : List ℕ} → record { number = n; machine = last; left = left } ≡ updateOf m cs → n ≡ 0 → Lined last
+pub lined : (m cs : List ℕ) {n : ℕ} {last left : List ℕ} → record { number = n; machine = last; rest = left } ≡ updateOf m cs → n ≡ 0 → Lined last
 lined m cs e z =
     let q = update-asked m cs (sym (ap (λ (o : Outcome). o .number) e) ∙ z) in
     let s = update-sound m cs (is-sound m [] q) in
@@ -101,12 +101,12 @@ module _ (r : Ringing) where
 
     module _ (z : pass .number ≡ 0) where
       by-update : update .number ≢ 0
-          → stepOf r ≡ record { bytes = refusalLine (update .number); next = record { passes = 0; machine = update .machine; commands = update .left } }
+          → stepOf r ≡ record { bytes = refusalLine (update .number); next = record { passes = 0; machine = update .machine; commands = update .rest } }
       unfolding stepOf
       by-update h = rw (ne-eqb (r .passes) 0 some, eq-eqb (pass .number) 0 z, ne-eqb (update .number) 0 h)
 
       by-both : update .number ≡ 0
-          → stepOf r ≡ record { bytes = lineAfter (update .machine); next = record { passes = r .passes - 1; machine = update .machine; commands = update .left } }
+          → stepOf r ≡ record { bytes = lineAfter (update .machine); next = record { passes = r .passes - 1; machine = update .machine; commands = update .rest } }
       unfolding stepOf
       by-both h = rw (ne-eqb (r .passes) 0 some, eq-eqb (pass .number) 0 z, eq-eqb (update .number) 0 h)
 
@@ -134,16 +134,16 @@ module _ (r : Ringing) (line : List ℕ) (from : ℕ) where
         → Stepped line' size (record { passes = 0; machine = after; commands = r .commands }) from
     step-refused h puts = stepped (refusalLine n) (by-pass r some (λ e. h (en ∙ e)) ∙ rw (← en, ea)) puts (omega arith)
 
-    module _ (z : n ≡ 0) {k count : ℕ} {last left : List ℕ} (eu : record { number = k; machine = last; left = left } ≡ updateOf after (r .commands))
+    module _ (z : n ≡ 0) {k count : ℕ} {last left : List ℕ} (eu : record { number = k; machine = last; rest = left } ≡ updateOf after (r .commands))
         (ec : count ≡ takenCount after (r .commands)) where
-      updated : record { number = k; machine = last; left = left } ≡ updateOf (passed (r .machine) .machine) (r .commands)
+      updated : record { number = k; machine = last; rest = left } ≡ updateOf (passed (r .machine) .machine) (r .commands)
       updated = eu ∙ ap (λ (l : List ℕ). updateOf l (r .commands)) ea
 
       number-is : k ≡ updateOf (passed (r .machine) .machine) (r .commands) .number
       number-is = ap (λ (o : Outcome). o .number) updated
 
       taken-is : from + count ≡ from + (length (r .commands) - length left)
-      taken-is = ap (λ (i : ℕ). from + i) (ec ∙ ap (λ (o : Outcome). length (r .commands) - length (o .left)) (sym eu))
+      taken-is = ap (λ (i : ℕ). from + i) (ec ∙ ap (λ (o : Outcome). length (r .commands) - length (o .rest)) (sym eu))
 
       -- The update is refused.
       pub step-update-refused : k ≢ 0 → {line' : List ℕ} {size : ℕ} → (size ≡ length (refusalLine k)) × (line' ≡ sets line 0 (refusalLine k))
@@ -151,7 +151,7 @@ module _ (r : Ringing) (line : List ℕ) (from : ℕ) where
       step-update-refused h puts =
           stepped (refusalLine k)
           (by-update r some (sym en ∙ z) (λ e. h (number-is ∙ e))
-          ∙ ap (λ (o : Outcome). record { bytes = refusalLine (o .number); next = record { passes = 0; machine = o .machine; commands = o .left } }) (sym updated))
+          ∙ ap (λ (o : Outcome). record { bytes = refusalLine (o .number); next = record { passes = 0; machine = o .machine; commands = o .rest } }) (sym updated))
           puts taken-is
 
       -- Neither is.
@@ -160,7 +160,7 @@ module _ (r : Ringing) (line : List ℕ) (from : ℕ) where
       step-goes h puts =
           stepped (lineAfter last)
           (by-both r some (sym en ∙ z) (sym number-is ∙ h)
-          ∙ ap (λ (o : Outcome). record { bytes = lineAfter (o .machine); next = record { passes = r .passes - 1; machine = o .machine; commands = o .left } }) (sym updated))
+          ∙ ap (λ (o : Outcome). record { bytes = lineAfter (o .machine); next = record { passes = r .passes - 1; machine = o .machine; commands = o .rest } }) (sym updated))
           puts taken-is
 
 -- A step's line has at most 51 bytes.

@@ -23,7 +23,7 @@ printed (suc passes) m commands =
     let p = passed m in
     let u = updateOf (p .machine) commands in
     cond (eqb (p .number) 0)
-    (cond (eqb (u .number) 0) (lineAfter (u .machine) ++ printed passes (u .machine) (u .left)) (refusalLine (u .number)))
+    (cond (eqb (u .number) 0) (lineAfter (u .machine) ++ printed passes (u .machine) (u .rest)) (refusalLine (u .number)))
     (refusalLine (p .number))
 
 -- The program's whole output for every text: question 9 first.

@@ -43,8 +43,8 @@ stepOf r =
     cond (eqb (r .passes) 0) (record { bytes = []; next = r })
     (cond (eqb (p .number) 0)
     (cond (eqb (u .number) 0)
-    (record { bytes = lineAfter (u .machine); next = record { passes = r .passes - 1; machine = u .machine; commands = u .left } })
-    (record { bytes = refusalLine (u .number); next = record { passes = 0; machine = u .machine; commands = u .left } }))
+    (record { bytes = lineAfter (u .machine); next = record { passes = r .passes - 1; machine = u .machine; commands = u .rest } })
+    (record { bytes = refusalLine (u .number); next = record { passes = 0; machine = u .machine; commands = u .rest } }))
     (record { bytes = refusalLine (p .number); next = record { passes = 0; machine = p .machine; commands = r .commands } }))
 
 -- How many commands a step takes.

@@ -28,7 +28,7 @@ fn start_of(commands: &[u32], from: usize) -> usize
 // An update with the commands from a place on. Answers how many it takes.
 fn ring_update(m: &mut [u32], commands: &[u32], from: usize, refused: &mut u32) -> usize
     ensures { λ r. ⌜ r ≡ takenCount (now (m .entry)) (drop from (now (commands .entry))) ⌝ }
-    ensures { λ r. ⌜ record { number = now (refused .exit); machine = now (m .exit); left = drop (from + r) (now (commands .entry)) } ≡ updateOf (now (m .entry)) (drop from (now (commands .entry))) ⌝ }
+    ensures { λ r. ⌜ record { number = now (refused .exit); machine = now (m .exit); rest = drop (from + r) (now (commands .entry)) } ≡ updateOf (now (m .entry)) (drop from (now (commands .entry))) ⌝ }
 {
     let start = start_of(commands, from);
     let left = update::update(m, &commands[start..], refused);

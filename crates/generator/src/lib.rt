@@ -219,7 +219,7 @@ impl Generator {
     }
 
     // The turn of a generator whose envelope is on; on is its run mode's switches.
-    pub fn sound(self, sine: &Quarter, decay: &Entries, on: Switches, f: u32) -> Sounded
+    pub fn play(self, sine: &Quarter, decay: &Entries, on: Switches, f: u32) -> Sounded
         requires { ⌜ Ranged self ⌝ }
         requires { ⌜ (now sine ≡ quarter) × (now decay ≡ entries tableSize) ⌝ }
         requires { ⌜ (on ≡ switchesOf (runMode self)) × (envelopeOn (runMode self) ≡ true) ⌝ }

@@ -16,10 +16,10 @@ use Rattle.generator.specs.Generator.{Ranged, stored}
 use Rattle.generator.proofs.Registers.{after-ranged}
 use Rattle.pass_model.specs.Generators.{of1978, turn1978, State, told, step}
 use Rattle.pass_model.proofs.Puts.{Apart, put-length, put-apart, put-gj, put-gk, put-gq, put-gmode, dac-apart, dac-length, generator-ranged}
-use Rattle.pass_generators.specs.Loops.{Low, Ready}
+use Rattle.pass_generators.specs.Loops.{WithinWidths, Ready}
 
 -- Generator h after generator g was put back: as it was, or as it was put.
-low-after : (words : List ℕ) (g h : ℕ) (u : Generator) → g < 256 → h < 256 → Ready words → Ranged u → Low (stored words (generatorAt g) u) h
+low-after : (words : List ℕ) (g h : ℕ) (u : Generator) → g < 256 → h < 256 → Ready words → Ranged u → WithinWidths (stored words (generatorAt g) u) h
 low-after words g h u hg hh ready r = go (eqb h g) refl
   where
     reach : generatorAt g + GMODE < length words
@@ -34,7 +34,7 @@ low-after words g h u hg hh ready r = go (eqb h g) refl
           not-gmode = λ e. n (omega arith);
         }
 
-    go : (b : Bool) → eqb h g ≡ b → Low (stored words (generatorAt g) u) h
+    go : (b : Bool) → eqb h g ≡ b → WithinWidths (stored words (generatorAt g) u) h
     go true e =
         rw (eqb-true h g e)
         (record {

@@ -21,7 +21,7 @@ use Rattle.generator.specs.Generator.{runMode, stored, triggers, after, sounded
 use Rattle.generator.proofs.Turns.{rests, after-untold}
 use Rattle.pass_model.specs.Generators.{of1978, generatorOf, turn1978, State, told, fed, summed, step}
 use Rattle.pass_model.proofs.Turns.{waits-silent}
-use Rattle.pass_generators.specs.Loops.{Low, Sounding, heard, sounded, Sending, sent}
+use Rattle.pass_generators.specs.Loops.{WithinWidths, Sounding, heard, sounded, Sending, sent}
 use Rattle.pass_generators.proofs.Words.{put-same}
 
 -- A choice by what is not, first or alone, is one by what is.
@@ -63,7 +63,7 @@ module _ (items : Items) (s : State) (g : ℕ) (u : Generator) (f : ℕ) (is-u :
       rw (e, q .no-trigger, q .no-add, q .no-replace, q .no-feed, q .no-write, ← is-u, ← is-f)
 
   -- Nothing is on.
-  pub sends-on : {v : Sending} → Low (s .words) g → envelopeOn (runMode u) ≡ false → oscillatorOn (runMode u) ≡ false →
+  pub sends-on : {v : Sending} → WithinWidths (s .words) g → envelopeOn (runMode u) ≡ false → oscillatorOn (runMode u) ≡ false →
       v ≡ sent (record { words = s .words; places = s .places; writes = s .writes }) u f →
       record { words = v .words; sums = s .sums; triggered = s .triggered; places = v .places; reads = s .reads; writes = v .writes } ≡ step of1978 items s g
   unfolding step turn1978 fed summed triggers sent
@@ -75,7 +75,7 @@ module _ (items : Items) (s : State) (g : ℕ) (u : Generator) (f : ℕ) (is-u :
       same = rw is-u (put-same (s .words) g low)
 
   -- Inactive or paused.
-  pub step-idle : Low (s .words) g → runMode u < 2 → s ≡ step of1978 items s g
+  pub step-idle : WithinWidths (s .words) g → runMode u < 2 → s ≡ step of1978 items s g
   unfolding sent
   step-idle low h =
       let i = idle (runMode u) h in

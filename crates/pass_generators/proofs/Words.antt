@@ -9,10 +9,10 @@ use Rattle.layout.specs.Widths.{gjBits, gkBits, gqBits, gmodeBits}
 use Rattle.generator.specs.Generator.{loaded, stored}
 use Rattle.pass_model.specs.Generators.{generatorOf}
 use Rattle.pass_model.proofs.Puts.{at-width}
-use Rattle.pass_generators.specs.Loops.{Low}
+use Rattle.pass_generators.specs.Loops.{WithinWidths}
 
 -- To put a generator back as it was loaded changes nothing.
-pub put-same : (words : List ℕ) (g : ℕ) → Low words g → stored words (generatorAt g) (generatorOf words g) ≡ words
+pub put-same : (words : List ℕ) (g : ℕ) → WithinWidths words g → stored words (generatorAt g) (generatorOf words g) ≡ words
 unfolding stored generatorOf loaded
 put-same words g low =
     rw (

@@ -15,7 +15,7 @@ use Rattle.generator.specs.declared.Generator.{Generator}
 use Rattle.generator.specs.Generator.{stored, runMode, pOf, triggers, after}
 
 -- The registers of generator g that a turn can change are within their widths.
-pub record Low (words : Machine) (g : ℕ) : Type 0 where
+pub record WithinWidths (words : Machine) (g : ℕ) : Type 0 where
   pub gj-low : getD words (generatorAt g + GJ) 0 < 2 ^ gjBits
   pub gk-low : getD words (generatorAt g + GK) 0 < 2 ^ gkBits
   pub gq-low : getD words (generatorAt g + GQ) 0 < 2 ^ gqBits
@@ -24,7 +24,7 @@ pub record Low (words : Machine) (g : ℕ) : Type 0 where
 -- A machine whose generators can be taken.
 pub record Ready (words : Machine) : Type 0 where
   pub reaches : Reaches words
-  pub low : (g : ℕ) → g < 256 → Low words g
+  pub low : (g : ℕ) → g < 256 → WithinWidths words g
 
 -- An order of numbers below 256, at most 256 of them.
 pub record Numbers (order : Order) : Type 0 where

@@ -11,7 +11,7 @@ ghost use Rattle.modes.specs.Modes.{rows, switchesOf, envelopeOn, wait};
 ghost use Rattle.layout.specs.Layout.{generatorAt};
 ghost use Rattle.generator.specs.Generator.{Ranged, stored, runMode, after};
 ghost use Rattle.pass_model.specs.Generators.{of1978, generatorOf, told, step, begun, takenBy};
-ghost use Rattle.pass_generators.specs.Loops.{Low, Ready, Numbers, heard, sounded, sent};
+ghost use Rattle.pass_generators.specs.Loops.{WithinWidths, Ready, Numbers, heard, sounded, sent};
 use exponential::Entries;
 use generator::Generator;
 use modes::Rows;
@@ -73,7 +73,7 @@ fn told(triggered: &Triggered, g: usize) -> bool
 }
 
 // A generator whose envelope is on is taken; the answer is how many items were read.
-fn sound(
+fn play(
     m: &mut [u32],
     s: &mut Sums,
     triggered: &mut Triggered,
@@ -93,7 +93,7 @@ fn sound(
     requires { ⌜ (f < 2 ^ 20) × (g < 256) × (reads < 256) ⌝ }
     ensures { λ r. ⌜ record { words = now (m .exit); sums = now (s .exit); triggered = now (triggered .exit); reads = r } ≡ sounded (now (items .entry)) (record { words = now (m .entry); sums = now (s .entry); triggered = now (triggered .entry); reads = reads }) g unit f ⌝ }
 {
-    let sounded = unit.sound(sine, decay, on, f);
+    let sounded = unit.play(sine, decay, on, f);
     let turned = sounded.unit;
     let p = sounded.p;
     put_generator_at(m, g, turned);
@@ -180,7 +180,7 @@ fn step(
     g: usize,
 ) -> Items
     requires { ⌜ Reaches (now m) ⌝ }
-    requires { ⌜ Low (now m) g ⌝ }
+    requires { ⌜ WithinWidths (now m) g ⌝ }
     requires { ⌜ (now switches ≡ rows) × (now sine ≡ quarter) × (now decay ≡ entries tableSize) ⌝ }
     requires { ⌜ (g < 256) × (done .reads < 256) × (done .writes < 256) ⌝ }
     ensures { λ r. ⌜ record { words = now (m .exit); sums = now (s .exit); triggered = now (triggered .exit); places = now (places .exit); reads = r .reads; writes = r .writes } ≡ step of1978 (now (items .entry)) (record { words = now (m .entry); sums = now (s .entry); triggered = now (triggered .entry); places = now (places .entry); reads = done .reads; writes = done .writes }) g ⌝ }
@@ -192,7 +192,7 @@ fn step(
     let f = sums::f_at(s, unit.gfm);
     let on = modes::switches_of(switches, unit.gmode / 64);
     if on.envelope == 1 {
-        let reads = sound(
+        let reads = play(
             m,
             s,
             triggered,

@@ -25,12 +25,12 @@ unfolding turnSeen modifierOf
 turn-seen-low s early late words m = turn-low _ _ _ (loaded-ranged _) (seen-low _ _ _)
 
 -- What modifier n does to the words.
-record Taken (words : List ℕ) (n : ℕ) (after : List ℕ) : Type 0 where
+record TurnTaken (words : List ℕ) (n : ℕ) (after : List ℕ) : Type 0 where
   unit : Modifier
   ranged : Ranged unit
   is : after ≡ sets words (2816 + 8 * n) (registers unit)
 
-taken : (words : List ℕ) (s : List (List ℕ)) (n : ℕ) → Taken (modifiedBy words s n .words) n (modifiedBy words s (suc n) .words)
+taken : (words : List ℕ) (s : List (List ℕ)) (n : ℕ) → TurnTaken (modifiedBy words s n .words) n (modifiedBy words s (suc n) .words)
 unfolding modifiedBy modified modify
 taken words s n =
     let v = modified words s n in

@@ -28,8 +28,8 @@ abbrev pub atLeast : Fraction → Fraction → Bool
 atLeast a b = leb (b .num * a .den) (a .num * b .den)
 
 -- The difference a - b, where a is at least b.
-abbrev pub less : Fraction → Fraction → Fraction
-less a b = record { num = a .num * b .den - b .num * a .den; den = a .den * b .den }
+abbrev pub minus : Fraction → Fraction → Fraction
+minus a b = record { num = a .num * b .den - b .num * a .den; den = a .den * b .den }
 
 -- The product of m and a.
 abbrev pub times : ℕ → Fraction → Fraction
@@ -41,11 +41,11 @@ whole a = a .num / a .den
 
 -- The first three terms, a - a^3/6 + a^5/120.
 unfoldable pub firstThree : Fraction → Fraction
-firstThree a = plus (less a (over (power a 3) 6)) (over (power a 5) 120)
+firstThree a = plus (minus a (over (power a 3) 6)) (over (power a 5) 120)
 
 -- a - a^3/6 + a^5/120 - a^7/5,040 + a^9/362,880.
 unfoldable pub polynomial : Fraction → Fraction
-polynomial a = plus (less (firstThree a) (over (power a 7) 5040)) (over (power a 9) 362880)
+polynomial a = plus (minus (firstThree a) (over (power a 7) 5040)) (over (power a 9) 362880)
 
 -- The angle of entry j: 355(2j+1)/925,696.
 unfoldable pub angle : ℕ → Fraction

@@ -71,7 +71,7 @@ fn sound_at(
     requires { ⌜ (now sine ≡ quarter) × (now decay ≡ entries tableSize) ⌝ }
 {
     let f = sum_at(sums, unit.gfm);
-    let sounded = unit.sound(sine, decay, on, f);
+    let sounded = unit.play(sine, decay, on, f);
     add_at(sums, unit.gsum, sounded.p);
     put_generator_at(m, n, sounded.unit);
     if sounded.triggers {

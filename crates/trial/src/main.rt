@@ -83,7 +83,7 @@ fn sounded(unit: Generator, on: Switches, f: u32, sine: &Quarter, decay: &Entrie
     requires { ⌜ (on ≡ switchesOf (runMode unit)) × (envelopeOn (runMode unit) ≡ true) ⌝ }
     requires { ⌜ (now sine ≡ quarter) × (now decay ≡ entries tableSize) ⌝ }
 {
-    let after = unit.sound(sine, decay, on, f);
+    let after = unit.play(sine, decay, on, f);
     let mut r = registers(after.unit);
     r[11] = after.p;
     r[12] = flag(after.triggers);

@@ -55,7 +55,7 @@ tail-more c cs left t =
 
 -- What an outcome leaves is a tail.
 abbrev Leaves : List ℕ → Outcome → Type 0
-Leaves cs o = Tail cs (o .left)
+Leaves cs o = Tail cs (o .rest)
 
 taken-tail : (k : ℕ) (m cs : List ℕ) → Leaves cs (takenBy k m cs)
 unfolding takenBy
@@ -74,16 +74,16 @@ update-tail m cs =
     (whole cs)
 
 -- What is left is the commands from the count on.
-taken-rest : (m cs : List ℕ) → drop (takenCount m cs) cs ≡ updateOf m cs .left
+taken-rest : (m cs : List ℕ) → drop (takenCount m cs) cs ≡ updateOf m cs .rest
 taken-rest m cs = update-tail m cs .is-tail
 
 -- Where the part handed back begins.
 module _ (place : ℕ × ℕ) (m cs : List ℕ) {n : ℕ} {l : List ℕ} where
   pub place-whole : outcome n l cs ≡ updateOf m cs → place ≡ tailAt place (takenCount m cs)
-  place-whole e = ap (λ (k : ℕ). (place .0, k)) (omega (arith, ap (λ (o : Outcome). length (o .left)) e))
+  place-whole e = ap (λ (k : ℕ). (place .0, k)) (omega (arith, ap (λ (o : Outcome). length (o .rest)) e))
 
   place-tail : (r : ℕ) → r ≤ length cs → outcome n l (drop r cs) ≡ updateOf m cs → (place .0, r * 4 + place .1) ≡ tailAt place (takenCount m cs)
-  place-tail r h e = ap (λ (k : ℕ). (place .0, k)) (omega (arith, ap (λ (o : Outcome). length (o .left)) e, length-drop r cs))
+  place-tail r h e = ap (λ (k : ℕ). (place .0, k)) (omega (arith, ap (λ (o : Outcome). length (o .rest)) e, length-drop r cs))
 
 -- The commands taken and the part handed back, together.
 pub update-ran : (place : ℕ × ℕ) (m cs : List ℕ) {most r n : ℕ} {l : List ℕ} → asked (question1 m ∷ question2 m ∷ []) ≡ 0 → stillLingering m ≡ false →
@@ -95,8 +95,8 @@ update-ran place m cs {most} {r} {n} {l} e s b (h, q) =
 
 -- From the part handed back to the count of the commands taken.
 module _ (m cs : List ℕ) {n : ℕ} {l left : List ℕ} (e : outcome n l left ≡ updateOf m cs) where
-  left-is : left ≡ updateOf m cs .left
-  left-is = ap (λ (o : Outcome). o .left) e
+  left-is : left ≡ updateOf m cs .rest
+  left-is = ap (λ (o : Outcome). o .rest) e
 
   pub left-within : length left ≤ length cs
   left-within = rw left-is (update-tail m cs .shorter)

@@ -16,10 +16,10 @@ use Rattle.command.specs.Command.{done, waits}
 pub record Outcome : Type 0 where
   pub number : ℕ
   pub machine : Machine
-  pub left : Commands
+  pub rest : Commands
 
 abbrev pub outcome : ℕ → Machine → Commands → Outcome
-outcome number machine left = record { number = number; machine = machine; left = left }
+outcome number machine rest = record { number = number; machine = machine; rest = rest }
 
 -- At most N-T-8 commands, none if that is negative.
 abbrev pub mostCommands : Machine → ℕ
@@ -48,7 +48,7 @@ updateOf m cs =
 
 -- How many commands an update takes.
 abbrev pub takenCount : Machine → Commands → ℕ
-takenCount m cs = length cs - length (updateOf m cs .left)
+takenCount m cs = length cs - length (updateOf m cs .rest)
 
 -- Where the part of a run of 32-bit words begins that starts k words after the run: a place is a block of memory and a byte in it.
 abbrev pub tailAt : ℕ × ℕ → ℕ → ℕ × ℕ

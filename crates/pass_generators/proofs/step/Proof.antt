@@ -34,8 +34,8 @@ switches-of-requires c κs =
     let h : unit .generator-at .result .gmode < 1024 = rw (unit .generator-at .ensures) (generator-ranged _ _ .gmode-low) in
     (start .pre .1 .1 .0 .0, omega arith)
 
-sound-requires : tie.Need-sound-requires
-sound-requires c κs =
+play-requires : tie.Need-play-requires
+play-requires c κs =
     let taken = c .before .before .before in
     let switches = taken .before .before in
     let f = switches .before .before in
@@ -57,15 +57,15 @@ same-length-2 c = search needs
 
 returns-2 : tie.Need-returns-2
 returns-2 c =
-    let sound = c .before .before in
-    let taken = sound .before .before .before .before in
+    let played = c .before .before in
+    let taken = played .before .before .before .before in
     let switches = taken .before .before in
     let f = switches .before .before in
     let unit = f .before .before .before .before in
     let a = unit .before .before .before .before .before .args in
     let s : State
     = record { words = a .m .now; sums = a .s .now; triggered = a .triggered .now; places = a .places .now; reads = a .done .reads; writes = a .done .writes } in
-    sounds-on _ s _ _ _ (unit .generator-at .ensures) (f .f-at .ensures .is) (envelope-is _ _ (switches .switches-of .ensures) (taken .if2 .taken)) (sound .sound .ensures)
+    sounds-on _ s _ _ _ (unit .generator-at .ensures) (f .f-at .ensures .is) (envelope-is _ _ (switches .switches-of .ensures) (taken .if2 .taken)) (played .play .ensures)
 
 wait-requires : tie.Need-wait-requires
 wait-requires c κs =
@@ -130,7 +130,7 @@ step-spec =
     returns
     f-at-requires
     switches-of-requires
-    sound-requires
+    play-requires
     same-length-2
     returns-2
     wait-requires

@@ -1,10 +1,10 @@
--- `generator::Generator::sound` meets its contract: what the steps have computed is the turn, in each case of overflow and switch.
+-- `generator::Generator::play` meets its contract: what the steps have computed is the turn, in each case of overflow and switch.
 -- Assumes nothing.
 use borrow.Author.Tests.{eq-eqb, ne-eqb}
 use Rattle.generator.proofs.Turns.{still-ranged, sounded-triggers, sounded-sticky, sounded-quiet}
 use borrow.Author.Needs.{needs}
-use Rattle.generator.proofs.Generator.sound.Statement.{statement}
-use Rattle.generator.proofs.Generator.sound.Tie as tie
+use Rattle.generator.proofs.Generator.play.Statement.{statement}
+use Rattle.generator.proofs.Generator.play.Tie as tie
 
 phase-requires : tie.Need-phase-requires
 phase-requires c κs = search needs
@@ -69,8 +69,8 @@ returns-3 c =
     (phase .phase .ensures .0) (output .output .ensures) (turned .oscillate .ensures) (c .decay2 .ensures)
     (over .overflows .ensures) (c .before .if1 .left)
 
-pub sound-spec : {M : Type 1} → statement M
-sound-spec =
+pub play-spec : {M : Type 1} → statement M
+play-spec =
     tie.close
     (tie.spec
     phase-requires

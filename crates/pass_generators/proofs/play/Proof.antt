@@ -1,13 +1,13 @@
--- `sound` meets its contract: what the generator brings is put back, marked and heard.
+-- `play` meets its contract: what the generator brings is put back, marked and heard.
 use Rattle.generator.specs.Generator.{soundedOf}
 use Rattle.generator.proofs.Registers.{p-low}
 use Rattle.pass_generators.proofs.Steps.{sounds-by}
 use borrow.Author.Needs.{needs}
-use Rattle.pass_generators.proofs.sound.Statement.{statement}
-use Rattle.pass_generators.proofs.sound.Tie as tie
+use Rattle.pass_generators.proofs.play.Statement.{statement}
+use Rattle.pass_generators.proofs.play.Tie as tie
 
-sound-requires : tie.Need-sound-requires
-sound-requires c κs = search needs
+play-requires : tie.Need-play-requires
+play-requires c κs = search needs
 
 put-generator-at-requires : tie.Need-put-generator-at-requires
 put-generator-at-requires c κs = search needs
@@ -19,9 +19,9 @@ hear-requires : tie.Need-hear-requires
 unfolding soundedOf
 hear-requires c κs =
     let put = c .before .before .before .before .before in
-    let sound = put .before .before .before in
-    let start = sound .before .before .before in
-    (start .pre .1 .0 .gsum-low, rw (sound .sound .ensures) (p-low _ _), start .pre .1 .1 .1 .1 .2)
+    let played = put .before .before .before in
+    let start = played .before .before .before in
+    (start .pre .1 .0 .gsum-low, rw (played .play .ensures) (p-low _ _), start .pre .1 .1 .1 .1 .2)
 
 same-length : tie.Need-same-length
 same-length c = search needs
@@ -30,15 +30,15 @@ returns : tie.Need-returns
 returns c =
     let mark = c .before .before in
     let put = mark .before .before .before .before in
-    let sound = put .before .before .before in
-    let start = sound .before .before .before in
-    sounds-by _ _ _ _ _ (start .pre .1 .1 .1 .0 .0) (sound .sound .ensures) (put .put-generator-at .ensures) (mark .mark .ensures) (c .hear .ensures)
+    let played = put .before .before .before in
+    let start = played .before .before .before in
+    sounds-by _ _ _ _ _ (start .pre .1 .1 .1 .0 .0) (played .play .ensures) (put .put-generator-at .ensures) (mark .mark .ensures) (c .hear .ensures)
 
-pub sound-spec : {M : Type 1} → statement M
-sound-spec =
+pub play-spec : {M : Type 1} → statement M
+play-spec =
     tie.close
     (tie.spec
-    sound-requires
+    play-requires
     put-generator-at-requires
     mark-requires
     hear-requires
