@@ -204,7 +204,12 @@ static void modifiers(uint32_t *m, uint32_t s[4][64]) {
 __attribute__((noinline)) uint32_t plain_pass(uint32_t *m, size_t words, const uint32_t *order, size_t entries,
                                               const uint32_t *items, size_t items_len, uint32_t *places,
                                               size_t places_len, size_t *read, size_t *written) {
+#ifdef UNASKED /* the caller knows that every question is answered yes */
+    uint32_t s[4][64], number = 0;
+    (void)refusal, (void)words, (void)entries, (void)items_len, (void)places_len;
+#else
     uint32_t s[4][64], number = refusal(m, words, order, entries, items_len, places_len);
+#endif
     *read = *written = 0;
     if (number) return number;
     memcpy(s, m + SUMS, sizeof s);

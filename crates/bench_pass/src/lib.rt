@@ -1,14 +1,13 @@
-// A pass of the bench: by number, with no read items and no written places.
+// A pass of the bench: by number, with no read items and no written places. Its questions are asked apart from it, since a pass that is let through keeps its machine good.
 ghost use mathlib.Core.Path.{_≡_};
-ghost use mathlib.Core.List.{[]};
-ghost use Prim.Native.Nat.{_≤_};
-ghost use lib.ListN.{length, take};
-ghost use Rattle.pass_model.specs.Pass.{plainCall, passOf};
+ghost use mathlib.Core.List.{[], _∷_};
+ghost use lib.ListN.{length};
+ghost use Rattle.questions.specs.Questions.{asked};
+ghost use Rattle.machine.specs.Questions.{question1, question2};
 ghost use Rattle.bench_pass.specs.ByNumber.{byNumber, passed};
-ghost use Rattle.bench_pass.specs.FewTicks.{fewTicks};
 
 // Fills the order by number of 256 generators.
-fn by_number(order: &mut [u32; layout::GENERATORS])
+pub fn by_number(order: &mut [u32; layout::GENERATORS])
     requires { ⌜ length (now order) ≡ 256 ⌝ }
     ensures { λ _. ⌜ now (order .exit) ≡ byNumber 256 ⌝ }
 {
@@ -19,36 +18,39 @@ fn by_number(order: &mut [u32; layout::GENERATORS])
     }
 }
 
-// T of the machine, or 0 where it is more than 256.
-fn few_ticks(m: &[u32]) -> usize
-    ensures { λ r. ⌜ r ≡ fewTicks (now (m .entry)) ⌝ }
+// The number of the question that refuses a pass of a machine that passes questions 1 and 2, or 0. The order by number passes 5 and 6.
+pub fn data_refusal(m: &[u32]) -> u32
+    requires { ⌜ asked (question1 (now m) ∷ question2 (now m) ∷ []) ≡ 0 ⌝ }
+    ensures { λ r. ⌜ r ≡ passed (now (m .entry)) .number ⌝ }
 {
-    if m.len() <= layout::T_AT {
-        return 0;
+    let needed = order::in_modes(m);
+    if 0 < needed.reads {
+        return 7;
     }
-    let t = layout::wide(m[layout::T_AT]);
-    if layout::GENERATORS < t {
-        return 0;
+    if 0 < needed.writes {
+        return 8;
     }
-    t
+    0
 }
 
-// A pass by the first t entries of an order, with no read items and no written places.
-fn pass_by(m: &mut [u32], order: &[u32], t: usize) -> u32
-    requires { ⌜ t ≤ length (now order) ⌝ }
-    ensures { λ r. ⌜ (r ≡ passOf (now (m .entry)) (plainCall (take t (now (order .entry))) [] []) .number) × (now (m .exit) ≡ passOf (now (m .entry)) (plainCall (take t (now (order .entry))) [] []) .machine) ⌝ }
+// The number of the question that refuses a pass, or 0.
+pub fn refusal(m: &[u32]) -> u32
+    ensures { λ r. ⌜ r ≡ passed (now (m .entry)) .number ⌝ }
 {
+    let number = machine::refusal(m);
+    if number != 0 {
+        return number;
+    }
+    data_refusal(m)
+}
+
+// A pass that no question refuses, by the first entries of the order by number.
+pub fn run(m: &mut [u32], order: &[u32])
+    requires { ⌜ passed (now m) .number ≡ 0 ⌝ }
+    requires { ⌜ now order ≡ byNumber 256 ⌝ }
+    ensures { λ _. ⌜ now (m .exit) ≡ passed (now (m .entry)) .machine ⌝ }
+{
+    let t = layout::ticks(m);
     let mut places = [0u32; 1];
-    let done = pass::pass(m, &order[0..t], &order[0..0], &mut places[0..0]);
-    done.number
-}
-
-// A pass by number. Answers the number of the refusing question or 0.
-pub fn pass_by_number(m: &mut [u32]) -> u32
-    ensures { λ r. ⌜ (r ≡ passed (now (m .entry)) .number) × (now (m .exit) ≡ passed (now (m .entry)) .machine) ⌝ }
-{
-    let mut order = [0u32; layout::GENERATORS];
-    by_number(&mut order);
-    let t = few_ticks(m);
-    pass_by(m, &order, t)
+    pass::run(m, &order[0..t], &order[0..0], &mut places[0..0]);
 }

@@ -1,3 +1,4 @@
 pub mod Printing
 pub mod RungFile
 pub mod Turns
+pub mod Keeping

@@ -21,6 +21,7 @@ use Rattle.update.proofs.Updating.{left-within, count-is, tail-of}
 use Rattle.update_laws.proofs.Lengths.{update-length}
 use Rattle.update_laws.proofs.UpdateSound.{update-sound}
 use Rattle.lists.proofs.Choices.{of-cond}
+use Rattle.lists.proofs.Parts.{part-from}
 use Rattle.bench_text.specs.Text.{refusalLine}
 use Rattle.bench_text.proofs.Lines.{pass-line-length, refusal-line-length}
 use Rattle.bench_pass.specs.ByNumber.{passed}
@@ -35,45 +36,24 @@ start-end cs from h =
     drop-of-length-le cs l ∙ sym (drop-of-length-le cs k)
 
 -- An update with the commands from a place on: how many it takes, and what it leaves.
-module _ (m cs : List ℕ) (start from : ℕ) (within : start ≤ length cs) (same-rest : drop start cs ≡ drop from cs) {n : ℕ} {l left : List ℕ}
-    (e : record { number = n; machine = l; rest = left } ≡ updateOf m (take (length cs - start) (drop start cs))) where
-  whole : record { number = n; machine = l; rest = left } ≡ updateOf m (drop from cs)
-  whole = e ∙ ap (updateOf m) (take-all (length cs - start) (drop start cs) (omega (arith, length-drop start cs)) ∙ same-rest)
+pub update-from : (m cs : List ℕ) (start from : ℕ) → start ≤ length cs → drop start cs ≡ drop from cs → {n count : ℕ} {l : List ℕ} → let part = take (length cs - start) (drop start cs) in
+    (count ≤ length part) × (outcome n l (drop count part) ≡ updateOf m part)
+    → (count ≡ takenCount m (drop from cs)) × (outcome n l (drop (from + count) cs) ≡ updateOf m (drop from cs))
+update-from m cs start from within same-rest {n} {count} {l} (h, e) =
+    let part-is : take (length cs - start) (drop start cs) ≡ drop from cs = part-from cs start ∙ same-rest in
+    let e' : outcome n l (drop count (drop from cs)) ≡ updateOf m (drop from cs) = rw part-is at e in
+    let h' : count ≤ length (drop from cs) = rw part-is at h in (
+      omega (arith, length-drop count (drop from cs), ap (λ (o : Outcome). length (o .rest)) e'),
+      ap (outcome n l) (sym (drop-drop count from cs)) ∙ e',
+    )
 
-  rest-length : length (drop from cs) ≡ length cs - start
-  rest-length = ap length (sym same-rest) ∙ length-drop start cs
+-- No more are taken than there are from that place on.
+pub taken-most : (m cs : List ℕ) (from : ℕ) {count : ℕ} → count ≡ takenCount m (drop from cs) → count ≤ length cs - from
+taken-most m cs from e = omega (arith, e, length-drop from cs)
 
-  pub update-within : length left ≤ length cs - start
-  update-within = omega (arith, left-within m (drop from cs) whole, rest-length)
-
-  pub update-count : length cs - start - length left ≡ takenCount m (drop from cs)
-  update-count = ap (λ (k : ℕ). k - length left) (sym rest-length) ∙ count-is m (drop from cs) whole
-
-  pub update-from : record { number = n; machine = l; rest = drop (from + (length cs - start - length left)) cs } ≡ updateOf m (drop from cs)
-  update-from =
-      ap (λ (k : ℕ). record { number = n; machine = l; rest = drop (from + (k - length left)) cs }) (sym rest-length)
-      ∙ ap (λ (rest : List ℕ). record { number = n; machine = l; rest = rest }) (sym (drop-drop (length (drop from cs) - length left) from cs))
-      ∙ tail-of m (drop from cs) whole
-
--- An update that is not refused is of a machine that passes questions 1 and 2.
-update-asked : (m cs : List ℕ) → updateOf m cs .number ≡ 0 → asked (question1 m ∷ question2 m ∷ []) ≡ 0
-unfolding updateOf
-update-asked m cs e = go (eqb n 0) refl e
-  where
-    n : ℕ
-    n = asked (question1 m ∷ question2 m ∷ [])
-
-    takes : Outcome
-    takes = cond (stillLingering m) (outcome 0 m cs) (takenBy (mostCommands m) (set m lingeringAt 0) cs)
-
-    go : (b : Bool) → eqb n 0 ≡ b → cond b takes (outcome n m cs) .number ≡ 0 → n ≡ 0
-    go true t z = eqb-true n 0 t
-    go false t z = z
-
--- So the line can be made of what it leaves.
-pub lined : (m cs : List ℕ) {n : ℕ} {last left : List ℕ} → record { number = n; machine = last; rest = left } ≡ updateOf m cs → n ≡ 0 → Lined last
-lined m cs e z =
-    let q = update-asked m cs (sym (ap (λ (o : Outcome). o .number) e) ∙ z) in
+-- The line can be made of what an update leaves of a machine that passes questions 1 and 2.
+pub lined : (m cs : List ℕ) → asked (question1 m ∷ question2 m ∷ []) ≡ 0 → {n : ℕ} {last left : List ℕ} → outcome n last left ≡ updateOf m cs → Lined last
+lined m cs q e =
     let s = update-sound m cs (is-sound m [] q) in
     rw (ap (λ (o : Outcome). o .machine) e)
     (record {
@@ -90,22 +70,18 @@ module _ (r : Ringing) where
   abbrev update : Outcome
   update = updateOf (pass .machine) (r .commands)
 
-  by-none : r .passes ≡ 0 → stepOf r ≡ record { bytes = []; next = r }
-  unfolding stepOf
-  by-none z = rw (eq-eqb (r .passes) 0 z)
-
   module _ (some : r .passes ≢ 0) where
-    by-pass : pass .number ≢ 0 → stepOf r ≡ record { bytes = refusalLine (pass .number); next = record { passes = 0; machine = pass .machine; commands = r .commands } }
+    pub by-pass : pass .number ≢ 0 → stepOf r ≡ record { bytes = refusalLine (pass .number); next = record { passes = 0; machine = pass .machine; commands = r .commands } }
     unfolding stepOf
     by-pass h = rw (ne-eqb (r .passes) 0 some, ne-eqb (pass .number) 0 h)
 
     module _ (z : pass .number ≡ 0) where
-      by-update : update .number ≢ 0
+      pub by-update : update .number ≢ 0
           → stepOf r ≡ record { bytes = refusalLine (update .number); next = record { passes = 0; machine = update .machine; commands = update .rest } }
       unfolding stepOf
       by-update h = rw (ne-eqb (r .passes) 0 some, eq-eqb (pass .number) 0 z, ne-eqb (update .number) 0 h)
 
-      by-both : update .number ≡ 0
+      pub by-both : update .number ≡ 0
           → stepOf r ≡ record { bytes = lineAfter (update .machine); next = record { passes = r .passes - 1; machine = update .machine; commands = update .rest } }
       unfolding stepOf
       by-both h = rw (ne-eqb (r .passes) 0 some, eq-eqb (pass .number) 0 z, eq-eqb (update .number) 0 h)
@@ -120,13 +96,6 @@ module _ (r : Ringing) (line : List ℕ) (from : ℕ) where
   stepped : (bytes : List ℕ) {line' : List ℕ} {size taken : ℕ} {next : Ringing} → stepOf r ≡ record { bytes = bytes; next = next }
       → (size ≡ length bytes) × (line' ≡ sets line 0 bytes) → taken ≡ from + (length (r .commands) - length (next .commands)) → Stepped line' size next taken
   stepped bytes e (es, el) et = rw e (es, (el, (refl, et)))
-
-  -- No pass is left.
-  pub step-none : r .passes ≡ 0 → Stepped line 0 (record { passes = 0; machine = r .machine; commands = r .commands }) from
-  step-none z =
-      stepped []
-      (by-none r z ∙ ap (λ (k : ℕ). record { bytes = []; next = record { passes = k; machine = r .machine; commands = r .commands } }) z)
-      (refl, refl) (omega arith)
 
   module _ (some : r .passes ≢ 0) {n : ℕ} {after : List ℕ} (en : n ≡ passed (r .machine) .number) (ea : after ≡ passed (r .machine) .machine) where
     -- The pass is refused.

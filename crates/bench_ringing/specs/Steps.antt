@@ -1,12 +1,15 @@
 -- The ringing as the code goes: a step, and steps one after another. Readers need only `outputOf`, to which laws join these.
 -- Assumes nothing.
 use Prim.Native.Nat.{ℕ, zero, suc, _-_, _^_, _<_}
-use mathlib.Core.Bool.{cond}
-use mathlib.Core.List.{List, [], _++_}
+use mathlib.Core.Bool.{Bool, true, false, cond}
+use mathlib.Core.List.{List, [], _∷_, _++_}
+use mathlib.Core.Path.{_≡_}
 use lib.Dec.{eqb}
 use lib.ListN.{length, getD, take, drop}
 use Rattle.layout.specs.Layout.{dacAt}
 use Rattle.layout.specs.Machine.{Machine, Commands, Reaches}
+use Rattle.questions.specs.Questions.{asked}
+use Rattle.machine.specs.Questions.{question1, question2}
 use Rattle.update.specs.Update.{updateOf}
 use Rattle.bench_text.specs.Text.{refusalLine}
 use Rattle.bench_file.specs.BenchFile.{Answer}
@@ -50,6 +53,11 @@ stepOf r =
 -- How many commands a step takes.
 abbrev pub commandsTaken : Ringing → Step → ℕ
 commandsTaken r s = length (r .commands) - length (s .next .commands)
+
+-- What is known after a step of which question refuses the next pass: where it took no command the number is as it was, and where it took one the machine passes questions 1 and 2.
+pub record Known (m : Machine) (number : ℕ) (took : Bool) : Type 0 where
+  pub as-before : took ≡ false → number ≡ passed m .number
+  pub good : took ≡ true → asked (question1 m ∷ question2 m ∷ []) ≡ 0
 
 -- The steps one after another until no pass is left, at most k of them.
 unfoldable pub untilDone : ℕ → Ringing → List ℕ

@@ -1,12 +1,16 @@
 // The ringing of a bench file: one step, a pass by number and then an update with the commands still left.
 ghost use mathlib.Core.Path.{_≡_};
 ghost use mathlib.Core.Logic.{_≢_};
+ghost use mathlib.Core.List.{[], _∷_};
 ghost use Prim.Native.Nat.{_+_, _≤_};
 ghost use lib.ListN.{length, drop};
 ghost use lib.Seq.{sets};
+ghost use Rattle.questions.specs.Questions.{asked};
+ghost use Rattle.machine.specs.Questions.{question1, question2};
+ghost use Rattle.bench_pass.specs.ByNumber.{byNumber, passed};
 ghost use Rattle.update.specs.Update.{updateOf, takenCount};
 ghost use Rattle.bench_ringing.specs.Ringing.{lineAfter};
-ghost use Rattle.bench_ringing.specs.Steps.{Lined, ringingAt, stepOf, commandsTaken};
+ghost use Rattle.bench_ringing.specs.Steps.{Lined, Known, ringingAt, stepOf, commandsTaken};
 
 // How far a ringing is: the passes left, the commands taken so far, and the length of the last step's line.
 pub struct Progress {
@@ -25,14 +29,14 @@ fn start_of(commands: &[u32], from: usize) -> usize
     from
 }
 
-// An update with the commands from a place on. Answers how many it takes.
+// An update, of a machine that passes questions 1 and 2, with the commands from a place on. Answers how many it takes.
 fn ring_update(m: &mut [u32], commands: &[u32], from: usize, refused: &mut u32) -> usize
+    requires { ⌜ asked (question1 (now m) ∷ question2 (now m) ∷ []) ≡ 0 ⌝ }
     ensures { λ r. ⌜ r ≡ takenCount (now (m .entry)) (drop from (now (commands .entry))) ⌝ }
     ensures { λ r. ⌜ record { number = now (refused .exit); machine = now (m .exit); rest = drop (from + r) (now (commands .entry)) } ≡ updateOf (now (m .entry)) (drop from (now (commands .entry))) ⌝ }
 {
     let start = start_of(commands, from);
-    let left = update::update(m, &commands[start..], refused);
-    commands.len() - start - left.len()
+    update::take_commands(m, &commands[start..], refused)
 }
 
 // The line of a machine. Answers its length.
@@ -47,14 +51,18 @@ fn ring_line(m: &[u32], line: &mut [u8; bench_text::LINE_BYTES]) -> usize
     bench_text::pass_line(line, counter, left, right)
 }
 
-// A pass and an update, and the line of both or of a refusal; a pass is left.
-fn ring_once(
+// One step: a pass and an update, and the line of both or of a refusal. A pass is left, and which question refuses it is known.
+pub fn step(
     at: Progress,
     m: &mut [u32],
     commands: &[u32],
+    order: &[u32],
+    number: u32,
     line: &mut [u8; bench_text::LINE_BYTES],
 ) -> Progress
     requires { ⌜ at .passes ≢ 0 ⌝ }
+    requires { ⌜ now order ≡ byNumber 256 ⌝ }
+    requires { ⌜ number ≡ passed (now m) .number ⌝ }
     ensures { λ r. ⌜ r .length ≡ length (stepOf (ringingAt at (now (m .entry)) (now (commands .entry))) .bytes) ⌝ }
     ensures { λ _. ⌜ now (line .exit) ≡ sets (now (line .entry)) 0 (stepOf (ringingAt at (now (m .entry)) (now (commands .entry))) .bytes) ⌝ }
     ensures { λ r. ⌜ ringingAt r (now (m .exit)) (now (commands .entry)) ≡ stepOf (ringingAt at (now (m .entry)) (now (commands .entry))) .next ⌝ }
@@ -63,7 +71,6 @@ fn ring_once(
     // After a refusal no pass is left.
     let ended: u32 = 0;
     let from = at.taken;
-    let number = bench_pass::pass_by_number(m);
     if number != 0 {
         let length = bench_text::refusal_line(line, number);
         return Progress {
@@ -72,6 +79,7 @@ fn ring_once(
             length,
         };
     }
+    bench_pass::run(m, order);
     let mut refused: u32 = 0;
     let count = ring_update(m, commands, from, &mut refused);
     let taken = at.taken + count;
@@ -92,24 +100,13 @@ fn ring_once(
     }
 }
 
-// One step. With no pass left nothing is printed.
-pub fn step(
-    at: Progress,
-    m: &mut [u32],
-    commands: &[u32],
-    line: &mut [u8; bench_text::LINE_BYTES],
-) -> Progress
-    ensures { λ r. ⌜ r .length ≡ length (stepOf (ringingAt at (now (m .entry)) (now (commands .entry))) .bytes) ⌝ }
-    ensures { λ _. ⌜ now (line .exit) ≡ sets (now (line .entry)) 0 (stepOf (ringingAt at (now (m .entry)) (now (commands .entry))) .bytes) ⌝ }
-    ensures { λ r. ⌜ ringingAt r (now (m .exit)) (now (commands .entry)) ≡ stepOf (ringingAt at (now (m .entry)) (now (commands .entry))) .next ⌝ }
-    ensures { λ r. ⌜ r .taken ≡ at .taken + commandsTaken (ringingAt at (now (m .entry)) (now (commands .entry))) (stepOf (ringingAt at (now (m .entry)) (now (commands .entry)))) ⌝ }
+// Which question refuses the next pass, or 0: it is asked again only where the step took commands, since a pass and an update without commands keep the answers.
+pub fn next_number(m: &[u32], number: u32, took: bool) -> u32
+    requires { ⌜ Known (now m) number took ⌝ }
+    ensures { λ r. ⌜ r ≡ passed (now (m .entry)) .number ⌝ }
 {
-    if at.passes == 0 {
-        return Progress {
-            passes: 0,
-            taken: at.taken,
-            length: 0,
-        };
+    if took {
+        return bench_pass::data_refusal(m);
     }
-    ring_once(at, m, commands, line)
+    number
 }

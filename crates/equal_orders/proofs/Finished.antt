@@ -21,7 +21,7 @@ use Rattle.pass_model.proofs.Asked.{not-refused}
 use Rattle.pass_laws.specs.Good.{Good}
 use Rattle.pass_laws.proofs.Completing.{completed-word, completed-last}
 use Rattle.pass_laws.proofs.Frames.{steps-length, steps-quadrants}
-use Rattle.pass_laws.proofs.Passing.{begun-words, begun-sums, let-through}
+use Rattle.pass_laws.proofs.Passing.{good-passes, begun-words, begun-sums, let-through}
 use Rattle.equal_endings.specs.Ends.{takenIn, SameTaken}
 use Rattle.equal_witnesses.specs.Contents.{SameHeard}
 use Rattle.equal_orders.specs.Equal.{Enough, SameEnd}
@@ -29,10 +29,6 @@ use Rattle.equal_orders.specs.Equal.{Enough, SameEnd}
 -- An order passes questions 5 and 6.
 abbrev pub OrderPasses : ℕ → Order → Type 0
 OrderPasses t order = asked (question5 t order ∷ question6 t order ∷ []) ≡ 0
-
-good-passes : (n : Machine) → Good n → asked (question1 n ∷ question2 n ∷ []) ≡ 0
-unfolding asked
-good-passes n good = rw (eq-eqb (length n) machineLength (good .whole), good .is-sound)
 
 -- A pass by an order from a good machine, with a call that brings enough.
 pub pass-runs : (n : Machine) → Good n → (order : Order) → OrderPasses (ticksOf n) order → (call : Call) → Enough n call

@@ -112,3 +112,9 @@ pub count-below-le : (p : ℕ → Bool) (n : ℕ) → countBelow p n ≤ n
 unfolding countBelow
 count-below-le p zero = omega arith
 count-below-le p (suc n) = omega (arith, count-below-le p n, one-at-most (p n))
+
+-- Tests that tell the same below n count the same.
+pub count-below-same : (p q : ℕ → Bool) (n : ℕ) → ((k : ℕ) → k < n → p k ≡ q k) → countBelow p n ≡ countBelow q n
+unfolding countBelow
+count-below-same p q zero same = refl
+count-below-same p q (suc n) same = rw (same n (omega arith), count-below-same p q n (λ k h. same k (omega arith)))

@@ -23,7 +23,7 @@ fn count(m: &mut [u32])
 }
 
 // The pass itself: generators in the order, modifiers by number, the end of sum memory, the counter.
-fn run(m: &mut [u32], order: &[u32], items: &[u32], places: &mut [u32]) -> Items
+pub fn run(m: &mut [u32], order: &[u32], items: &[u32], places: &mut [u32]) -> Items
     requires { ⌜ Ready (now m) ⌝ }
     requires { ⌜ Numbers (now order) ⌝ }
     requires { ⌜ ticksOf (now m) ≤ 256 ⌝ }

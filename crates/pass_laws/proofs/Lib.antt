@@ -6,6 +6,7 @@ pub mod SoundPuts
 pub mod Passing
 pub mod Completing
 pub mod PassSound
+pub mod PassModes
 pub mod PassSettings
 pub mod PassCounts
 pub mod PassesInSequence

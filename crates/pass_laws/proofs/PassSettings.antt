@@ -6,7 +6,7 @@ use mathlib.Core.Bool.{Bool, true, false, cond, _&&_}
 use Prim.Native.Nat.{ℕ, _+_, _/_, _%_, _^_, _≤_, _<_}
 use native.Mathlib.Omega.{arith}
 use native.Mathlib.Nat.{add-zero}
-use borrow.Author.Tests.{eqb-true, eqb-false, ltb-true}
+use borrow.Author.Tests.{eqb-true, eqb-false, ne-eqb, ltb-true}
 use lib.Dec.{eqb, ltb, lit<, lit≤}
 use lib.ListN.{length, getD}
 use Rattle.lists.proofs.Below.{and-first}
@@ -32,13 +32,18 @@ use Rattle.pass_laws.proofs.Passing.{Admitted, generatorsDone, begun-wo
 use Rattle.pass_laws.proofs.Completing.{completed-word}
 use Rattle.pass_laws.proofs.PassSound.{step-sound}
 
--- GMODE y after GMODE x: the envelope and oscillator modes are kept, and the run mode too unless it was 1001 or 1101.
+-- GMODE y after GMODE x: the envelope and oscillator modes are kept, and the run mode too unless it was 1001 or 1101, when it is one of these.
 pub record ModeKept (x y : ℕ) : Type 0 where
   pub rest : y % 2 ^ 6 ≡ x % 2 ^ 6
   pub whole : x / 2 ^ 6 ≢ wait → x / 2 ^ 6 ≢ runningC → y ≡ x
+  pub other : (mode : ℕ) → mode ≢ wait → mode ≢ runningC → eqb (y / 2 ^ 6) mode ≡ eqb (x / 2 ^ 6) mode
 
 kept-same : (x : ℕ) → ModeKept x x
-kept-same x = record { rest = refl; whole = λ n c. refl }
+kept-same x = record { rest = refl; whole = λ n c. refl; other = λ mode n c. refl }
+
+-- From one of the two to one of the two.
+between-two : (x y : ℕ) {a b : ℕ} → x ≡ a → y ≡ b → (mode : ℕ) → mode ≢ a → mode ≢ b → eqb y mode ≡ eqb x mode
+between-two x y {a} {b} ex ey mode m n = ne-eqb y mode (λ e. n (sym e ∙ ey)) ∙ sym (ne-eqb x mode (λ e. m (sym e ∙ ex)))
 
 kept-on : (x y z : ℕ) → ModeKept x y → ModeKept y z → ModeKept x z
 kept-on x y z a b =
@@ -47,6 +52,7 @@ kept-on x y z a b =
       whole = λ n c.
           let e : y ≡ x = a .whole n c in
           b .whole (λ q. n (ap (λ (v : ℕ). v / 2 ^ 6) (sym e) ∙ q)) (λ q. c (ap (λ (v : ℕ). v / 2 ^ 6) (sym e) ∙ q)) ∙ e;
+      other = λ mode n c. b .other mode n c ∙ a .other mode n c;
     }
 
 -- Of one turn.
@@ -60,11 +66,17 @@ mode-after u told = go (eqb (runMode u) runningC && triggers u) (eqb (runMode u)
         record {
           rest = omega arith;
           whole = λ n c. absurd (c (eqb-true (runMode u) runningC (and-first (eqb (runMode u) runningC) (triggers u) ea)));
+          other = λ mode n c.
+              between-two (runMode u) (withRunMode wait (u .gmode) / 2 ^ 6)
+              (eqb-true (runMode u) runningC (and-first (eqb (runMode u) runningC) (triggers u) ea)) (omega arith) mode c n;
         }
     go false true ea eb =
         record {
           rest = omega arith;
           whole = λ n c. absurd (n (eqb-true (runMode u) wait (and-first (eqb (runMode u) wait) told eb)));
+          other = λ mode n c.
+              between-two (runMode u) (withRunMode runningC (u .gmode) / 2 ^ 6)
+              (eqb-true (runMode u) wait (and-first (eqb (runMode u) wait) told eb)) (omega arith) mode n c;
         }
     go false false ea eb = kept-same (u .gmode)
 
@@ -110,7 +122,7 @@ steps-mode items order s k l below e r =
 same-settings : (m : Machine) → SettingsKept m m
 same-settings m =
     record {
-      generator = λ g h. record { go = refl; gn = refl; gm = refl; gp = refl; gl = refl; gsum = refl; gfm = refl; gmode = λ a b. refl; gmodeRest = refl };
+      generator = λ g h. record { go = refl; gn = refl; gm = refl; gp = refl; gl = refl; gsum = refl; gfm = refl; gmode = λ a b. refl; gmodeOther = λ mode a b. refl; gmodeRest = refl };
       modifier = λ k h. record { min = refl; mrm = refl; msum = refl; mmode = refl };
       dx = refl;
       t = refl;
@@ -179,6 +191,7 @@ module _ (m : Machine) (call : Call) (p : Admitted m (call .order)) where
               gsum = setting-word g 8 h refl refl refl refl refl;
               gfm = setting-word g 9 h refl refl refl refl refl;
               gmode = λ a b. mode-word g h .whole a b;
+              gmodeOther = λ mode a b. mode-word g h .other mode a b;
               gmodeRest = mode-word g h .rest;
             };
         modifier = λ k h.

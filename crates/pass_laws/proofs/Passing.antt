@@ -2,11 +2,15 @@
 -- Assumes nothing.
 use mathlib.Core.Path.{_≡_, refl, sym}
 use mathlib.Core.Bool.{Bool, true, false, cond}
+use mathlib.Core.List.{[], _∷_}
 use Prim.Native.Nat.{ℕ, _/_, _≤_, _<_}
-use borrow.Author.Tests.{eqb-true}
+use borrow.Author.Tests.{eq-eqb, eqb-true}
 use lib.Dec.{eqb}
 use lib.ListN.{length, getD}
+use Rattle.layout.specs.Layout.{machineLength}
 use Rattle.layout.specs.Machine.{Machine, Order, Sums, Places, ticksOf}
+use Rattle.questions.specs.Questions.{asked}
+use Rattle.machine.specs.Questions.{question1, question2}
 use Rattle.order.specs.Order.{IsOrder}
 use Rattle.order.proofs.Entries.{order-passes}
 use Rattle.sums.specs.Sums.{sumsOf}
@@ -21,6 +25,11 @@ pub record Admitted (m : Machine) (order : Order) : Type 0 where
   pub ticks : ticksOf m ≤ 256
   pub is-order : IsOrder (ticksOf m) order
   pub below : (i : ℕ) → i < length order → getD order i 0 < 256
+
+-- A good machine passes questions 1 and 2.
+pub good-passes : (m : Machine) → Good m → asked (question1 m ∷ question2 m ∷ []) ≡ 0
+unfolding asked
+good-passes m good = rw (eq-eqb (length m) machineLength (good .whole), good .is-sound)
 
 -- As a pass begins: its words and sum memory.
 module _ (m : Machine) (sums : Sums) (places : Places) where

@@ -3,12 +3,14 @@
 use mathlib.Core.Logic.{_≢_}
 use mathlib.Core.Path.{_≡_}
 use Prim.Native.Nat.{ℕ, _+_, _%_, _^_, _<_}
+use lib.Dec.{eqb}
 use lib.ListN.{getD}
 use Rattle.layout.specs.Layout.{generatorAt, modifierAt, dxAt, tAt, nAt, lingeringAt, lingerPassAt, overrunAt, GN, GM, GP, GL, GSUM, GFM, GMODE, MIN, MRM, MSUM, MMODE}
 use Rattle.layout.specs.Machine.{Machine, runModeAt}
 use Rattle.modes.specs.Modes.{wait, runningC}
 
--- The registers of generator g of a machine r that a pass does not change are as they are in m: all but GJ, GK, GQ, and of GMODE the run mode of a 1001 and of a 1101.
+-- The registers of generator g of a machine r that a pass does not change are as they are in m: all but GJ, GK, GQ, and of GMODE the run mode of a 1001 and of a 1101,
+-- which stays one of these: it is in another run mode exactly if it was.
 pub record GeneratorKept (m r : Machine) (g : ℕ) : Type 0 where
   pub go : getD r (generatorAt g) 0 ≡ getD m (generatorAt g) 0
   pub gn : getD r (generatorAt g + GN) 0 ≡ getD m (generatorAt g + GN) 0
@@ -18,6 +20,7 @@ pub record GeneratorKept (m r : Machine) (g : ℕ) : Type 0 where
   pub gsum : getD r (generatorAt g + GSUM) 0 ≡ getD m (generatorAt g + GSUM) 0
   pub gfm : getD r (generatorAt g + GFM) 0 ≡ getD m (generatorAt g + GFM) 0
   pub gmode : runModeAt m g ≢ wait → runModeAt m g ≢ runningC → getD r (generatorAt g + GMODE) 0 ≡ getD m (generatorAt g + GMODE) 0
+  pub gmodeOther : (mode : ℕ) → mode ≢ wait → mode ≢ runningC → eqb (runModeAt r g) mode ≡ eqb (runModeAt m g) mode
   pub gmodeRest : getD r (generatorAt g + GMODE) 0 % 2 ^ 6 ≡ getD m (generatorAt g + GMODE) 0 % 2 ^ 6
 
 -- Those of modifier k: all but M0, M1, L0 and L1.

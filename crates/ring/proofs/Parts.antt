@@ -1,12 +1,12 @@
--- The parts of the program's buffers that are printed and lent, and that each part rung leaves fewer passes.
+-- The parts of the program's buffers that are read, printed and lent, and that each part rung leaves fewer passes.
 -- Assumes nothing.
 use mathlib.Core.Path.{_≡_, sym, ap, _∙_}
 use mathlib.Core.Logic.{_≢_}
 use mathlib.Core.List.{List}
-use Prim.Native.Nat.{ℕ, _≤_, _<_}
+use Prim.Native.Nat.{ℕ, _+_, _-_, _≤_, _<_}
 use native.Mathlib.Omega.{arith}
 use lib.Dec.{lit≤}
-use lib.ListN.{length}
+use lib.ListN.{length, take, drop, length-take, length-drop}
 use lib.Seq.{sets, length-sets}
 use Rattle.bench_text.specs.Text.{lineBytes, refusalLine}
 use Rattle.bench_text.proofs.Lines.{refusal-line-length}
@@ -16,6 +16,7 @@ use Rattle.bench_ringing.specs.Steps.{Ringing}
 use Rattle.bench_ringing.proofs.RungFile.{read-count, read-room, read-machine}
 use Rattle.bench_gathering.specs.Gathering.{gathered}
 use Rattle.bench_gathering.proofs.Gatherings.{gathered-length, gathered-falls}
+use Rattle.ring.specs.declared.Input.the-variants.{Bytes, Failed}
 
 -- What was put into a buffer has room in it.
 put-within : (line bytes : List ℕ) {size : ℕ} {after : List ℕ} → length bytes ≤ length line → size ≡ length bytes → after ≡ sets line 0 bytes → size ≤ length after
@@ -41,3 +42,15 @@ read-whole text m room h e = sym (ap (λ (a : Answer). length (a .machine)) e �
 -- Each part leaves fewer passes.
 pub part-falls : (r : Ringing) {next : Ringing} → r .passes ≢ 0 → next ≡ gathered 8192 r .next → next .passes < r .passes
 part-falls r n e = rw e (gathered-falls 8192 r (lit≤ tt) n)
+
+-- So many bytes that were read lie within a buffer; where a read failed there are none.
+pub bytes-within : {k m : ℕ} → k ≤ m → (n : ℕ) → Bytes k ≡ Bytes n → n ≤ m
+bytes-within {k} {m} h n e = let same : k ≡ n = cc in omega arith
+
+pub failed-within : {m : ℕ} (n : ℕ) → Failed ≡ Bytes n → n ≤ m
+failed-within n e = let never : _≡_ {A = ℕ} 0 1 = cc in omega arith
+
+-- What was read into the rest of a buffer, behind the bytes that are there, lies within the buffer.
+pub more-within : (buffer rest : List ℕ) (at more : ℕ) → at ≤ length buffer → length rest ≡ length (take (length buffer - at) (drop at buffer))
+    → more ≤ length rest → at + more ≤ length buffer
+more-within buffer rest at more h e l = omega (arith, simp (length-take, length-drop) at e)

@@ -1,65 +1,125 @@
 // Program ring: rings the bench file on standard input and prints a line for each pass, or a refusal.
+// A read or a write that fails ends it with a line on standard error.
 ghost use mathlib.Core.Path.{_≡_};
+ghost use Prim.Native.Nat.{ℕ, _≤_};
+ghost use lib.ListN.{length};
 ghost use Rattle.bench_ringing.specs.Steps.{ringingAt};
 ghost use Rattle.bench_gathering.specs.Gathering.{gathered};
 use bench_ringing::Progress;
+use libc::STDERR_FILENO;
+use libc::STDIN_FILENO;
+use libc::STDOUT_FILENO;
 
 // The buffer for lines that are printed together.
 const OUTPUT_BYTES: usize = 8192;
 
-// Prints the line of a refusal.
-fn refuse(n: u32) {
-    let mut line = [0u8; bench_text::LINE_BYTES];
-    let size = bench_text::refusal_line(&mut line, n);
-    io::write_all(1, &line[0..size]);
+// How often a read that signals interrupt is tried before it counts as failed.
+const TRIES: u32 = 1000;
+
+// What was read: so many bytes, or a read failed.
+enum Input {
+    Bytes(usize),
+    Failed,
 }
 
-// Rings as many passes as the buffer has room for, and prints them.
-fn ring_part(at: Progress, m: &mut [u32], commands: &[u32]) -> Progress
-    ensures { λ r. ⌜ ringingAt r (now (m .exit)) (now (commands .entry)) ≡ gathered 8192 (ringingAt at (now (m .entry)) (now (commands .entry))) .next ⌝ }
+// What is left to ring after a part, and whether the part was written.
+struct Part {
+    next: Progress,
+    written: bool,
+}
+
+// Prints the line of a refusal; says whether it was written.
+fn refuse(n: u32) -> bool {
+    let mut line = [0u8; bench_text::LINE_BYTES];
+    let size = bench_text::refusal_line(&mut line, n);
+    io::write_all(STDOUT_FILENO, &line[0..size])
+}
+
+// Rings as many passes as the buffer has room for, and prints them; says whether they were written.
+fn ring_part(at: Progress, m: &mut [u32], commands: &[u32]) -> Part
+    ensures { λ r. ⌜ ringingAt (r .next) (now (m .exit)) (now (commands .entry)) ≡ gathered 8192 (ringingAt at (now (m .entry)) (now (commands .entry))) .next ⌝ }
 {
     let mut out = [0u8; OUTPUT_BYTES];
     let next = bench_gathering::gather(at, m, commands, &mut out);
-    let passes = next.passes;
-    let taken = next.taken;
     let length = next.length;
-    io::write_all(1, &out[0..length]);
-    Progress {
-        passes,
-        taken,
-        length,
-    }
+    let written = io::write_all(STDOUT_FILENO, &out[0..length]);
+    Part { next, written }
 }
 
-// Rings until no pass is left.
-fn ring_all(m: &mut [u32], commands: &[u32], passes: u32) {
+// Rings until no pass is left or a write fails; says whether all was written.
+fn ring_all(m: &mut [u32], commands: &[u32], passes: u32) -> bool {
     let mut at = Progress {
         passes,
         taken: 0,
         length: 0,
     };
     while at.passes != 0 {
-        let next = ring_part(at, m, commands);
+        let part = ring_part(at, m, commands);
+        if !part.written {
+            return false;
+        }
+        let next = part.next;
         at = next;
     }
+    true
 }
 
-// Rings a text.
-fn ring(text: &[u8]) {
+// Rings a text; says whether all was written.
+fn ring(text: &[u8]) -> bool {
     let mut m = [0u32; layout::MACHINE_LENGTH];
     let mut room = [0u32; bench_file::COMMAND_PLACES];
     let file = bench_file::read(text, &mut m, &mut room);
     if file.number != 0 {
-        refuse(file.number);
-        return;
+        return refuse(file.number);
     }
     let count = file.count;
-    ring_all(&mut m, &room[0..count], file.passes);
+    ring_all(&mut m, &room[0..count], file.passes)
+}
+
+// Reads from standard input once. A read that a signal interrupts is tried again.
+fn read_some(buffer: &mut [u8]) -> Input
+    ensures { λ r. ⌜ ((n : ℕ) → r ≡ Input.Bytes n → n ≤ length (now (buffer .exit))) ⌝ }
+{
+    for _ in 0..TRIES {
+        let got = libc::read(STDIN_FILENO, buffer);
+        if got >= 0 {
+            return Input::Bytes(io::count(got, buffer));
+        }
+        if os::errno() != libc::EINTR {
+            return Input::Failed;
+        }
+    }
+    Input::Failed
+}
+
+// Reads until the buffer is full or the input ends. A read that fails is not the end.
+fn read_all(buffer: &mut [u8]) -> Input
+    ensures { λ r. ⌜ ((n : ℕ) → r ≡ Input.Bytes n → n ≤ length (now (buffer .exit))) ⌝ }
+{
+    let mut n = 0;
+    while n < buffer.len() {
+        let got = read_some(&mut buffer[n..]);
+        let Input::Bytes(more) = got else {
+            return Input::Failed;
+        };
+        if more == 0 {
+            return Input::Bytes(n);
+        }
+        n += more;
+    }
+    Input::Bytes(n)
 }
 
 // One byte more than a file may have is read, so that a longer one is told apart.
 fn main() {
     let mut text = [0u8; bench_lines::FILE_BYTES + 1];
-    let n = io::read_full(0, &mut text);
-    ring(&text[..n]);
+    let input = read_all(&mut text);
+    let Input::Bytes(n) = input else {
+        io::write_all(STDERR_FILENO, b"ring: cannot read\n");
+        return;
+    };
+    let written = ring(&text[..n]);
+    if !written {
+        io::write_all(STDERR_FILENO, b"ring: cannot write\n");
+    }
 }

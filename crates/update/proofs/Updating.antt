@@ -2,7 +2,7 @@
 -- Assumes nothing.
 use mathlib.Core.Path.{_≡_, refl, ap, sym, _∙_}
 use mathlib.Core.Logic.{_≢_}
-use mathlib.Core.Bool.{true, false}
+use mathlib.Core.Bool.{Bool, true, false, cond}
 use mathlib.Core.List.{List, [], _∷_}
 use Prim.Native.Nat.{ℕ, zero, suc, _+_, _-_, _*_, _≤_}
 use native.Mathlib.Omega.{arith}
@@ -39,6 +39,10 @@ module _ (m cs : List ℕ) where
     unfolding updateOf
     update-takes s q = rw (eq-eqb (asked (question1 m ∷ question2 m ∷ [])) 0 e, s) q
 
+    pub update-ran : {most r n : ℕ} {l : List ℕ} → stillLingering m ≡ false → most ≡ mostCommands m →
+        (r ≤ length cs) × (outcome n l (drop r cs) ≡ takenBy most (set m lingeringAt 0) cs) → (r ≤ length cs) × (outcome n l (drop r cs) ≡ updateOf m cs)
+    update-ran s b (h, q) = (h, update-takes s (q ∙ ap (λ (k : ℕ). takenBy k (set m lingeringAt 0) cs) b))
+
 -- The part handed back is a tail of the commands.
 pub record Tail (cs left : List ℕ) : Type 0 where
   pub shorter : length left ≤ length cs
@@ -73,6 +77,37 @@ update-tail m cs =
     (of-cond (Leaves cs) (stillLingering m) (whole cs) (taken-tail (mostCommands m) (set m lingeringAt 0) cs))
     (whole cs)
 
+-- An update that takes no command ends lingering at most.
+stays : (k : ℕ) (m cs : List ℕ) → length (takenBy k m cs .rest) ≡ length cs → takenBy k m cs .machine ≡ m
+unfolding takenBy
+stays zero m cs e = refl
+stays (suc k) m [] e = refl
+stays (suc k) m (c ∷ cs) e = go (eqb (commandRefusal c) 0) (waits m c) e
+  where
+    next : Outcome
+    next = takenBy k (done m c) cs
+
+    go : (a b : Bool) → length (cond a (cond b (outcome 0 (done m c) cs) next) (outcome (commandRefusal c) m (c ∷ cs)) .rest) ≡ suc (length cs)
+        → cond a (cond b (outcome 0 (done m c) cs) next) (outcome (commandRefusal c) m (c ∷ cs)) .machine ≡ m
+    go true true q = absurd (omega arith)
+    go true false q = absurd (omega (arith, taken-tail k (done m c) cs .shorter))
+    go false b q = refl
+
+pub none-taken : (P : List ℕ → Type 0) (m cs : List ℕ) → takenCount m cs ≡ 0 → P m → P (set m lingeringAt 0) → P (updateOf m cs .machine)
+unfolding updateOf
+none-taken P m cs e p q = go (eqb (asked (question1 m ∷ question2 m ∷ [])) 0) (stillLingering m) (omega (arith, e, update-tail m cs .shorter))
+  where
+    taken : Outcome
+    taken = takenBy (mostCommands m) (set m lingeringAt 0) cs
+
+    chosen : Bool → Bool → Outcome
+    chosen a b = cond a (cond b (outcome 0 m cs) taken) (outcome (asked (question1 m ∷ question2 m ∷ [])) m cs)
+
+    go : (a b : Bool) → length (chosen a b .rest) ≡ length cs → P (chosen a b .machine)
+    go true true l = p
+    go true false l = rw (stays (mostCommands m) (set m lingeringAt 0) cs l) q
+    go false b l = p
+
 -- What is left is the commands from the count on.
 taken-rest : (m cs : List ℕ) → drop (takenCount m cs) cs ≡ updateOf m cs .rest
 taken-rest m cs = update-tail m cs .is-tail
@@ -85,13 +120,10 @@ module _ (place : ℕ × ℕ) (m cs : List ℕ) {n : ℕ} {l : List ℕ} where
   place-tail : (r : ℕ) → r ≤ length cs → outcome n l (drop r cs) ≡ updateOf m cs → (place .0, r * 4 + place .1) ≡ tailAt place (takenCount m cs)
   place-tail r h e = ap (λ (k : ℕ). (place .0, k)) (omega (arith, ap (λ (o : Outcome). length (o .rest)) e, length-drop r cs))
 
--- The commands taken and the part handed back, together.
-pub update-ran : (place : ℕ × ℕ) (m cs : List ℕ) {most r n : ℕ} {l : List ℕ} → asked (question1 m ∷ question2 m ∷ []) ≡ 0 → stillLingering m ≡ false →
-    most ≡ mostCommands m → (r ≤ length cs) × (outcome n l (drop r cs) ≡ takenBy most (set m lingeringAt 0) cs) →
+-- The part handed back begins at the count of the commands taken.
+pub handed-back : (place : ℕ × ℕ) (m cs : List ℕ) {r n : ℕ} {l : List ℕ} → (r ≤ length cs) × (outcome n l (drop r cs) ≡ updateOf m cs) →
     (outcome n l (take (length cs - r) (drop r cs)) ≡ updateOf m cs) × ((place .0, r * 4 + place .1) ≡ tailAt place (takenCount m cs))
-update-ran place m cs {most} {r} {n} {l} e s b (h, q) =
-    let whole-is : outcome n l (drop r cs) ≡ updateOf m cs = update-takes m cs e s (q ∙ ap (λ (k : ℕ). takenBy k (set m lingeringAt 0) cs) b) in
-    (ap (outcome n l) (part-from cs r) ∙ whole-is, place-tail place m cs r h whole-is)
+handed-back place m cs {r} {n} {l} (h, q) = (ap (outcome n l) (part-from cs r) ∙ q, place-tail place m cs r h q)
 
 -- From the part handed back to the count of the commands taken.
 module _ (m cs : List ℕ) {n : ℕ} {l left : List ℕ} (e : outcome n l left ≡ updateOf m cs) where

@@ -1,8 +1,11 @@
 // An update: commands are taken one after the other, and the part of them not taken is handed back.
 ghost use mathlib.Core.Path.{_≡_};
+ghost use mathlib.Core.List.{[], _∷_};
 ghost use Prim.Native.Nat.{_≤_};
 ghost use lib.ListN.{length, drop};
 ghost use Rattle.layout.specs.Machine.{Reaches};
+ghost use Rattle.questions.specs.Questions.{asked};
+ghost use Rattle.machine.specs.Questions.{question1, question2};
 ghost use Rattle.update.specs.Update.{outcome, mostCommands, stillLingering, takenBy, updateOf, takenCount, tailAt};
 
 // Whether it is lingering and the counter isn't the Linger pass.
@@ -53,6 +56,20 @@ fn run(m: &mut [u32], commands: &[u32], most: usize, refused: &mut u32) -> usize
     i
 }
 
+// An update of a machine that passes questions 1 and 2. Answers how many commands it takes.
+pub fn take_commands(m: &mut [u32], commands: &[u32], refused: &mut u32) -> usize
+    requires { ⌜ asked (question1 (now m) ∷ question2 (now m) ∷ []) ≡ 0 ⌝ }
+    ensures { λ r. ⌜ (r ≤ length (now (commands .entry))) × (outcome (now (refused .exit)) (now (m .exit)) (drop r (now (commands .entry))) ≡ updateOf (now (m .entry)) (now (commands .entry))) ⌝ }
+{
+    if still_lingering(m) {
+        *refused = 0;
+        return 0;
+    }
+    let most = most_commands(m);
+    m[layout::LINGERING_AT] = 0;
+    run(m, commands, most, refused)
+}
+
 // An update. It hands back the part of the commands that it didn't take, and gives the number of the refusing question or 0.
 pub fn update<'a>(m: &mut [u32], commands: &'a [u32], refused: &mut u32) -> &'a [u32]
     ensures { λ r. ⌜ outcome (now (refused .exit)) (now (m .exit)) (now r) ≡ updateOf (now (m .entry)) (now (commands .entry)) ⌝ }
@@ -63,12 +80,6 @@ pub fn update<'a>(m: &mut [u32], commands: &'a [u32], refused: &mut u32) -> &'a 
         *refused = number;
         return commands;
     }
-    if still_lingering(m) {
-        *refused = 0;
-        return commands;
-    }
-    let most = most_commands(m);
-    m[layout::LINGERING_AT] = 0;
-    let taken = run(m, commands, most, refused);
+    let taken = take_commands(m, commands, refused);
     &commands[taken..]
 }

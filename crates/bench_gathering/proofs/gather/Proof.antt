@@ -1,81 +1,39 @@
--- `bench_gathering::gather` meets its contract: from what is gathered so far as much is gathered as from the start.
+-- `bench_gathering::gather` meets its contract: the order by number is filled, and the steps are gathered with it.
 -- Assumes nothing.
-use mathlib.Core.Path.{_≡_, refl, _∙_}
-use native.Mathlib.Omega.{arith}
-use lib.ListN.{length, drop}
+use mathlib.Core.Path.{sym, _∙_, ap}
+use lib.ListN.{length}
+use Rattle.bench_pass.proofs.ByNumber.{by-number-length}
 use borrow.Author.Needs.{needs}
-use Rattle.bench_ringing.specs.Steps.{ringingAt}
-use Rattle.bench_gathering.proofs.Gatherings.{Gathering, gathering-begins, gathering-ends, gathering-full, gathering-goes, step-lowers}
 use Rattle.bench_gathering.proofs.gather.Statement.{statement}
 use Rattle.bench_gathering.proofs.gather.Tie as tie
 
-abbrev Inv-loop : tie.InvT-loop
-Inv-loop m₀ commands out₀ passes taken here₀ m out here =
-    (length m ≡ length m₀)
-    × Gathering out₀ (record { passes = passes; machine = m₀; commands = drop taken commands }) taken out (here .length) (ringingAt here m commands) (here .taken)
+by-number-requires : tie.Need-by-number-requires
+by-number-requires c κs = search needs
 
-abbrev μ-loop : tie.MeasureT-loop
-μ-loop m₀ commands out₀ passes taken here₀ m out here = here .passes
+slice-aggregate-gather-by : tie.Need-slice-aggregate-gather-by
+slice-aggregate-gather-by c =
+    let filled = c .before .before in
+    sym (by-number-length 256) ∙ ap length (sym (filled .by-number .ensures))
 
-loop-holds : tie.Need-loop-holds Inv-loop μ-loop
-loop-holds c = (refl, gathering-begins _ _ _)
+gather-by-requires : tie.Need-gather-by-requires
+gather-by-requires c κs = search needs
 
-add-if2 : tie.Need-add-if2 Inv-loop μ-loop
-add-if2 c = omega (arith, c .before .before .before .loop .inv .1 .inside)
+same-length : tie.Need-same-length
+same-length c = search needs
 
-same-length : tie.Need-same-length Inv-loop μ-loop
-same-length c = c .before .before .before .before .loop .inv .0
+same-length-2 : tie.Need-same-length-2
+same-length-2 c = search needs
 
-same-length-2 : tie.Need-same-length-2 Inv-loop μ-loop
-same-length-2 c = c .before .before .before .before .loop .inv .1 .room
-
-returns : tie.Need-returns Inv-loop μ-loop
-returns c = gathering-full (c .before .before .before .before .loop .inv .1) (c .if2 .taken)
-
-step-into-requires : tie.Need-step-into-requires Inv-loop μ-loop
-step-into-requires c κs = search needs
-
-loop-less : tie.Need-loop-less Inv-loop μ-loop
-loop-less c =
-    let stepped = c .before .before .before .before in
-    let test = stepped .before .before .before .before .before in
-    let turn = test .before .before in
-    let a = turn .before .before .before .before .args in
-    step-lowers (ringingAt (turn .loop .here) (turn .loop .m) (a .commands .now)) (test .if1 .taken) (stepped .step-into .ensures .1 .1 .0)
-
-loop-again : tie.Need-loop-again Inv-loop μ-loop
-loop-again c =
-    let stepped = c .before .before .before .before in
-    let free = stepped .before .before .before in
-    let test = free .before .before in
-    let turn = test .before .before in (
-      stepped .step-into .kept .1 .0 ∙ turn .loop .inv .0,
-      gathering-goes (turn .loop .inv .1) (test .if1 .taken) (free .if2 .left) (stepped .step-into .ensures),
-    )
-
-same-length-3 : tie.Need-same-length-3 Inv-loop μ-loop
-same-length-3 c = c .before .before .loop .inv .0
-
-same-length-4 : tie.Need-same-length-4 Inv-loop μ-loop
-same-length-4 c = c .before .before .loop .inv .1 .room
-
-returns-2 : tie.Need-returns-2 Inv-loop μ-loop
-returns-2 c = gathering-ends (c .before .before .loop .inv .1) (c .if1 .left)
+returns : tie.Need-returns
+returns c = search needs
 
 pub gather-spec : {M : Type 1} → statement M
 gather-spec =
     tie.close
     (tie.spec
-    Inv-loop
-    μ-loop
-    loop-holds
-    add-if2
+    by-number-requires
+    slice-aggregate-gather-by
+    gather-by-requires
     same-length
     same-length-2
-    returns
-    step-into-requires
-    loop-less
-    loop-again
-    same-length-3
-    same-length-4
-    returns-2)
+    returns)

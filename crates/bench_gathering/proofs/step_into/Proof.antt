@@ -19,15 +19,16 @@ part-put-start c = search needs
 part-put-end : tie.Need-part-put-end
 part-put-end c =
     let done = c .before .before .before .before in
-    let a = done .before .before .before .before .before .before .args in
+    let start = done .before .before .before .before .before .before .before in
+    let a = start .args in
     part-within (ringingAt (a .at) (a .m .now) (a .commands .now)) _ refl (done .step .ensures .0) (done .step .ensures .1 .0)
 
 put-requires : tie.Need-put-requires
 put-requires c κs =
     let done = c .before .before .before .before .before in
-    let start = done .before .before .before .before .before .before in
+    let start = done .before .before .before .before .before .before .before in
     let a = start .args in
-    part-fits (ringingAt (a .at) (a .m .now) (a .commands .now)) _ refl (done .step .ensures .0) (done .step .ensures .1 .0) (a .at .length) _ (start .pre)
+    part-fits (ringingAt (a .at) (a .m .now) (a .commands .now)) _ refl (done .step .ensures .0) (done .step .ensures .1 .0) (a .at .length) _ (start .pre .0)
 
 same-length : tie.Need-same-length
 same-length c = search needs
@@ -39,7 +40,8 @@ returns : tie.Need-returns
 returns c =
     let puts = c .before .before in
     let done = puts .before .before .before .before .before .before in
-    let a = done .before .before .before .before .before .before .args in
+    let start = done .before .before .before .before .before .before .before in
+    let a = start .args in
     part-put (ringingAt (a .at) (a .m .now) (a .commands .now)) _ refl (done .step .ensures .0) (done .step .ensures .1 .0) (a .at .length) _ (a .at .taken) (puts .put .ensures) (done .step .ensures .1 .1)
 
 pub step-into-spec : {M : Type 1} → statement M

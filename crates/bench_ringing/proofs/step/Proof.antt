@@ -1,24 +1,100 @@
--- `bench_ringing::step` meets its contract: with no pass left it does nothing.
+-- `bench_ringing::step` meets its contract: the step ends with a refused pass, with a refused update, or with its line.
 -- Assumes nothing.
+use native.Mathlib.Omega.{arith}
+use lib.ListN.{drop}
 use Rattle.bench_ringing.specs.Steps.{ringingAt}
-use Rattle.bench_ringing.proofs.Turns.{step-none}
+use Rattle.bench_ringing.proofs.Turns.{taken-most, lined, step-refused, step-update-refused, step-goes}
+use Rattle.bench_ringing.proofs.Keeping.{refused-stays, last-passes}
+use mathlib.Core.Path.{sym, _∙_}
 use borrow.Author.Needs.{needs}
 use Rattle.bench_ringing.proofs.step.Statement.{statement}
 use Rattle.bench_ringing.proofs.step.Tie as tie
 
+refusal-line-requires : tie.Need-refusal-line-requires
+refusal-line-requires c κs = search needs
+
 returns : tie.Need-returns
 returns c =
-    let a = c .before .before .before .before .args in
-    step-none (ringingAt (a .at) (a .m .now) (a .commands .now)) (a .line .now) (a .at .taken) (c .if1 .taken)
+    let test = c .before .before in
+    let start = test .before .before .before .before in
+    let a = start .args in
+    let n = start .pre .1 .1 in
+    step-refused (ringingAt (a .at) (a .m .now) (a .commands .now)) (a .line .now) (a .at .taken) (start .pre .0) n (refused-stays (a .m .now) (λ e. test .if1 .taken (n ∙ e))) (test .if1 .taken) (c .refusal-line .ensures)
 
-ring-once-requires : tie.Need-ring-once-requires
-ring-once-requires c κs = search needs
+run-requires : tie.Need-run-requires
+run-requires c κs = search needs
+
+ring-update-requires : tie.Need-ring-update-requires
+ring-update-requires c κs =
+    let ran = c .before .before .before .before in
+    let passes = ran .before .before in
+    let start = passes .before .before .before .before in
+    rw (ran .run .ensures) (last-passes (start .args .m .now) (sym (start .pre .1 .1) ∙ passes .if1 .left))
+
+add-taken : tie.Need-add-taken
+add-taken c =
+    let updated = c .before .before .before in
+    let ran = updated .before .before .before .before .before in
+    let start = ran .before .before .before .before .before .before in
+    let a = start .args in
+    omega (arith, start .good .1 .1 .0 .0, taken-most _ (a .commands .now) (a .at .taken) (updated .ring-update .ensures .0))
+
+refusal-line-requires-2 : tie.Need-refusal-line-requires-2
+refusal-line-requires-2 c κs = search needs
 
 same-length : tie.Need-same-length
 same-length c = search needs
 
 returns-2 : tie.Need-returns-2
-returns-2 c = search needs
+returns-2 c =
+    let test = c .before .before in
+    let updated = test .before .before .before .before in
+    let ran = updated .before .before .before .before .before in
+    let passes = ran .before .before in
+    let start = passes .before .before .before .before in
+    let a = start .args in
+    step-update-refused (ringingAt (a .at) (a .m .now) (a .commands .now)) (a .line .now) (a .at .taken) (start .pre .0) (start .pre .1 .1) (ran .run .ensures) (passes .if1 .left) (updated .ring-update .ensures .1) (updated .ring-update .ensures .0) (test .if2 .taken) (c .refusal-line2 .ensures)
+
+ring-line-requires : tie.Need-ring-line-requires
+ring-line-requires c κs =
+    let test = c .before .before in
+    let updated = test .before .before .before .before in
+    let ran = updated .before .before .before .before .before in
+    let passes = ran .before .before in
+    let start = passes .before .before .before .before in
+    let a = start .args in
+    lined _ (drop (a .at .taken) (a .commands .now)) (rw (ran .run .ensures) (last-passes (a .m .now) (sym (start .pre .1 .1) ∙ passes .if1 .left))) (updated .ring-update .ensures .1)
+
+sub-passes : tie.Need-sub-passes
+sub-passes c = search needs
+
+same-length-2 : tie.Need-same-length-2
+same-length-2 c = search needs
+
+returns-3 : tie.Need-returns-3
+returns-3 c =
+    let line = c .before in
+    let test = line .before .before .before in
+    let updated = test .before .before .before .before in
+    let ran = updated .before .before .before .before .before in
+    let passes = ran .before .before in
+    let start = passes .before .before .before .before in
+    let a = start .args in
+    step-goes (ringingAt (a .at) (a .m .now) (a .commands .now)) (a .line .now) (a .at .taken) (start .pre .0) (start .pre .1 .1) (ran .run .ensures) (passes .if1 .left) (updated .ring-update .ensures .1) (updated .ring-update .ensures .0) (test .if2 .left) (line .ring-line .ensures)
 
 pub step-spec : {M : Type 1} → statement M
-step-spec = tie.close (tie.spec returns ring-once-requires same-length returns-2)
+step-spec =
+    tie.close
+    (tie.spec
+    refusal-line-requires
+    returns
+    run-requires
+    ring-update-requires
+    add-taken
+    refusal-line-requires-2
+    same-length
+    returns-2
+    ring-line-requires
+    sub-passes
+    same-length-2
+    returns-3)

@@ -20,23 +20,31 @@ loop-holds c = refl
 ring-part-requires : tie.Need-ring-part-requires Inv-loop μ-loop
 ring-part-requires c κs = search needs
 
+same-length : tie.Need-same-length Inv-loop μ-loop
+same-length c =
+    let part = c .before .before .before .before in
+    part .ring-part .kept .1 .0 ∙ part .before .before .before .before .loop .inv
+
+returns : tie.Need-returns Inv-loop μ-loop
+returns c = search needs
+
 loop-less : tie.Need-loop-less Inv-loop μ-loop
 loop-less c =
-    let part = c .before .before in
+    let part = c .before .before .before .before .before in
     let test = part .before .before in
     let turn = test .before .before in
     part-falls (ringingAt (turn .loop .at) (turn .loop .m) (turn .before .before .before .args .commands .now)) (test .if1 .taken) (part .ring-part .ensures)
 
 loop-again : tie.Need-loop-again Inv-loop μ-loop
 loop-again c =
-    let part = c .before .before in
+    let part = c .before .before .before .before .before in
     part .ring-part .kept .1 .0 ∙ part .before .before .before .before .loop .inv
 
-same-length : tie.Need-same-length Inv-loop μ-loop
-same-length c = c .before .before .loop .inv
+same-length-2 : tie.Need-same-length-2 Inv-loop μ-loop
+same-length-2 c = c .before .before .loop .inv
 
-returns : tie.Need-returns Inv-loop μ-loop
-returns c = search needs
+returns-2 : tie.Need-returns-2 Inv-loop μ-loop
+returns-2 c = search needs
 
 pub ring-all-spec : {M : Type 1} → statement M
 ring-all-spec =
@@ -46,7 +54,9 @@ ring-all-spec =
     μ-loop
     loop-holds
     ring-part-requires
+    same-length
+    returns
     loop-less
     loop-again
-    same-length
-    returns)
+    same-length-2
+    returns-2)

@@ -1,0 +1,33 @@
+-- `bench_pass::data_refusal` meets its contract: 7 and 8 by the counts.
+-- Assumes nothing.
+use native.Mathlib.Omega.{arith}
+use mathlib.Core.List.{[]}
+use Rattle.pass_model.proofs.Asked.{few-ticks}
+use Rattle.pass.proofs.Readiness.{is-ready}
+use Rattle.bench_pass.proofs.Asked.{refused-reads, refused-writes, goes}
+use Rattle.bench_pass.proofs.data_refusal.Statement.{statement}
+use Rattle.bench_pass.proofs.data_refusal.Tie as tie
+
+in-modes-requires : tie.Need-in-modes-requires
+in-modes-requires c κs = let start = c .before in (is-ready _ (start .pre) .reaches, few-ticks (start .args .m .now) [] (start .pre))
+
+returns : tie.Need-returns
+returns c =
+    let needed = c .before .before in
+    let start = needed .before .before in
+    refused-reads (start .args .m .now) (start .pre) (omega (arith, needed .in-modes .ensures .0))
+
+returns-2 : tie.Need-returns-2
+returns-2 c =
+    let needed = c .before .before .before .before in
+    let start = needed .before .before in
+    refused-writes (start .args .m .now) (start .pre) (omega (arith, needed .in-modes .ensures .0)) (omega (arith, needed .in-modes .ensures .1))
+
+returns-3 : tie.Need-returns-3
+returns-3 c =
+    let needed = c .before .before .before .before in
+    let start = needed .before .before in
+    goes (start .args .m .now) (start .pre) (omega (arith, needed .in-modes .ensures .0)) (omega (arith, needed .in-modes .ensures .1))
+
+pub data-refusal-spec : {M : Type 1} → statement M
+data-refusal-spec = tie.close (tie.spec in-modes-requires returns returns-2 returns-3)

@@ -1,0 +1,292 @@
+"""Tries the bench program where the outside fails it: a full device, a closed pipe, a failing descriptor, input in pieces.
+
+    python3 tests/outside.py [PROGRAM]
+
+target/bin/ring must be built. It runs in a stack of 256 kB. A failed write must end it with one line on
+standard error and no later line; a failed read must have it print nothing, since a part of a file may be
+another file. What the machine cannot do is left out with a sentence.
+"""
+
+import fcntl
+import os
+import resource
+import signal
+import socket
+import struct
+import subprocess
+import sys
+import tempfile
+import time
+from contextlib import contextmanager
+from typing import NamedTuple
+
+from library import ROOT
+from ring_files import EXAMPLE, EXAMPLE_PRINTED, PASSES_MOST, bench, file, sizes
+from ringing import TIME_MOST, small_stack
+
+PROGRAM = sys.argv[1] if sys.argv[1:] else os.path.join(ROOT, "target", "bin", "ring")
+CANNOT_READ, CANNOT_WRITE = b"ring: cannot read\n", b"ring: cannot write\n"
+# Silence by all 256 generators, so that it takes many times as long as to start a program.
+LONG = bench(PASSES_MOST, [(11 * g + 10, 962) for g in range(256)] + [(4113, 256)])
+LONG_PRINTED = "".join(f"pass={i} left=0 right=0\n" for i in range(1, PASSES_MOST + 1)).encode()
+NOT_FITTING = b"passes=x\n"
+# A cut of the example at the end of a line: a bench file that rings otherwise.
+CUT = EXAMPLE[:EXAMPLE.index(b"word=21")]
+PAGE, FILE_LIMIT = 4096, 100_000
+
+
+class Outcome(NamedTuple):
+    """What a program printed, what it said on the error output, and its exit status."""
+
+    printed: bytes
+    told: bytes
+    status: int
+
+
+def started(source, output=subprocess.PIPE, closed=(), prepare=lambda: None):
+    """The program, started; some descriptors are closed in it."""
+    def before():
+        small_stack()
+        prepare()
+        for descriptor in closed:
+            os.close(descriptor)
+    return subprocess.Popen([PROGRAM], stdin=source, stdout=output, stderr=subprocess.PIPE, preexec_fn=before)
+
+
+def outcome(process):
+    """The outcome of a program that was started; one that does not end is ended, and so is this test."""
+    try:
+        printed, told = process.communicate(timeout=TIME_MOST)
+    finally:
+        process.kill()
+    return Outcome(printed or b"", told, process.returncode)
+
+
+def opened(text):
+    """A file that has a text, open at its start."""
+    made = tempfile.TemporaryFile()
+    made.write(text)
+    made.seek(0)
+    return made
+
+
+def ignore_sigpipe():
+    """A write to a closed pipe fails, and no signal comes."""
+    signal.signal(signal.SIGPIPE, signal.SIG_IGN)
+
+
+def limit_files():
+    """A file that reaches the limit is as a full disk: the write fails and no signal comes."""
+    signal.signal(signal.SIGXFSZ, signal.SIG_IGN)
+    resource.setrlimit(resource.RLIMIT_FSIZE, (FILE_LIMIT, FILE_LIMIT))
+
+
+# Writing. Each check is a name, what was got and what must be got.
+
+def ordinary():
+    """Files and pipes that do not fail."""
+    yield "the example", outcome(started(opened(EXAMPLE))), Outcome(EXAMPLE_PRINTED, b"", 0)
+    with tempfile.TemporaryFile() as printed:
+        done = outcome(started(opened(LONG), printed))
+        printed.seek(0)
+        yield "a long file into a file", (done, printed.read()), (Outcome(b"", b"", 0), LONG_PRINTED)
+
+
+def processor_time(output):
+    """The outcome of the long file, and the processor time that it took."""
+    before = resource.getrusage(resource.RUSAGE_CHILDREN)
+    done = outcome(started(opened(LONG), output))
+    after = resource.getrusage(resource.RUSAGE_CHILDREN)
+    return done, after.ru_utime + after.ru_stime - before.ru_utime - before.ru_stime
+
+
+def full_device():
+    """A device that takes no byte. The long file ends in a small part of the time that it takes to ring it all."""
+    if not os.path.exists("/dev/full"):
+        print("outside: left out, since this machine does not have it: a device that is full")
+        return
+    failed = Outcome(b"", CANNOT_WRITE, 0)
+    with open("/dev/full", "wb") as full, open(os.devnull, "wb") as taking:
+        yield "the example on a full device", outcome(started(opened(EXAMPLE), full)), failed
+        yield "a refusal on a full device", outcome(started(opened(NOT_FITTING), full)), failed
+        yield "no passes on a full device", outcome(started(opened(bench(0)), full)), Outcome(b"", b"", 0)
+        done, spent = processor_time(full)
+        yield "a long file on a full device", done, failed
+        all_rung, needed = processor_time(taking)
+        yield "a long file on a device that takes all", all_rung, Outcome(b"", b"", 0)
+        yield f"ends at once on a full device ({spent:.3f} s of {needed:.3f} s)", spent * 4 < needed, True
+
+
+def full_disk():
+    """A file that can take only its first bytes: they are those of the whole output."""
+    with tempfile.TemporaryFile() as limited:
+        done = outcome(started(opened(LONG), limited, prepare=limit_files))
+        limited.seek(0)
+        yield "a file with a limit", (done, limited.read()), (Outcome(b"", CANNOT_WRITE, 0), LONG_PRINTED[:FILE_LIMIT])
+
+
+def closed_pipes():
+    """A reader that leaves after the first bytes, with the signal ignored and as usual; an output that is not open."""
+    endings = (("ignored", ignore_sigpipe, Outcome(b"", CANNOT_WRITE, 0)),
+               ("as usual", lambda: None, Outcome(b"", b"", -signal.SIGPIPE)))
+    for name, prepare, wanted in endings:
+        reader, writer = os.pipe()
+        process = started(opened(LONG), writer, prepare=prepare)
+        os.close(writer)
+        first = os.read(reader, 100)
+        os.close(reader)
+        yield f"a pipe that is closed, its signal {name}", (outcome(process), first), (wanted, LONG_PRINTED[:len(first)])
+    yield "no standard output", outcome(started(opened(EXAMPLE), closed=(1,))), Outcome(b"", CANNOT_WRITE, 0)
+
+
+def filled_pipe():
+    """A pipe of one page that refuses a write while it is full, and is read all the time: no line comes after the failed one."""
+    reader, writer = os.pipe()
+    fcntl.fcntl(writer, getattr(fcntl, "F_SETPIPE_SZ", 1031), PAGE)
+    os.set_blocking(writer, False)
+    process = started(opened(LONG), writer)
+    os.close(writer)
+    printed = b""
+    while more := os.read(reader, PAGE):
+        printed += more
+        time.sleep(0.002)
+    os.close(reader)
+    yield "a pipe that was full for a moment", (outcome(process), printed), (Outcome(b"", CANNOT_WRITE, 0), LONG_PRINTED[:len(printed)])
+
+
+# Reading
+
+@contextmanager
+def reset_socket():
+    """A socket that gives the cut, then fails: its other end was closed with a byte unread."""
+    ours, theirs = socket.socketpair()
+    with theirs:
+        with ours:
+            theirs.sendall(b"x")
+            ours.sendall(CUT)
+        yield theirs.fileno()
+
+
+@contextmanager
+def reset_connection():
+    """A TCP connection that gives the cut, then fails: its other end reset it."""
+    with socket.create_server(("127.0.0.1", 0)) as server, socket.create_connection(server.getsockname()) as theirs:
+        with server.accept()[0] as ours:
+            ours.sendall(CUT)
+            ours.setsockopt(socket.SOL_SOCKET, socket.SO_LINGER, struct.pack("ii", 1, 0))
+        yield theirs.fileno()
+
+
+@contextmanager
+def pipe_without_waiting():
+    """A pipe that gives the cut, then fails since nothing more is there yet."""
+    reader, writer = os.pipe()
+    with open(reader, "rb"), open(writer, "wb"):
+        os.write(writer, CUT)
+        os.set_blocking(reader, False)
+        yield reader
+
+
+def fails_behind_the_cut(make):
+    """Whether reads of a source give the cut and then fail."""
+    read = b""
+    try:
+        with make() as source:
+            while more := os.read(source, PAGE):
+                read += more
+    except OSError:
+        return read == CUT
+    return False
+
+
+def failing_reads():
+    """Descriptors that cannot be read, and those that fail behind a part of a file, which must not be rung."""
+    failed = Outcome(b"", CANNOT_READ, 0)
+    directory = os.open(ROOT, os.O_RDONLY)
+    yield "a directory", outcome(started(directory)), failed
+    os.close(directory)
+    yield "no standard input", outcome(started(None, closed=(0,))), failed
+    assert file("the cut", CUT).printed not in (b"", EXAMPLE_PRINTED)
+    for make in (reset_socket, reset_connection, pipe_without_waiting):
+        if not fails_behind_the_cut(make):
+            print(f"outside: left out, since this machine does not have it: {make.__doc__}")
+            continue
+        with make() as source:
+            yield make.__doc__, outcome(started(source)), failed
+
+
+def in_pieces(text, size):
+    """The outcome of a text that comes in pieces."""
+    process = started(subprocess.PIPE)
+    try:
+        for at in range(0, len(text), size):
+            process.stdin.write(text[at:at + size])
+            process.stdin.flush()
+            time.sleep(0.001)
+    except BrokenPipeError:
+        pass
+    return outcome(process)
+
+
+def slow_input():
+    """Files in pieces ring as whole ones do: the example, one of the most bytes, and one that is too long."""
+    yield "the example, byte by byte", in_pieces(EXAMPLE, 1), Outcome(EXAMPLE_PRINTED, b"", 0)
+    for name, text in sizes():
+        if name in ("full of commands", "full of commands, one LF more"):
+            yield f"{name}, in pieces", in_pieces(text, 1000), Outcome(file(name, text).printed, b"", 0)
+
+
+def wait_for(process, state):
+    """Waits until the system shows a program in a state, or it has ended."""
+    until = time.monotonic() + TIME_MOST
+    while process.poll() is None and time.monotonic() < until:
+        with open(f"/proc/{process.pid}/stat") as shown:
+            if shown.read().rpartition(")")[2].split()[0] == state:
+                return
+        time.sleep(0.001)
+
+
+def interrupted():
+    """Reads that a signal interrupts: a socket with a time limit answers so when the program is stopped and goes on."""
+    ours, theirs = socket.socketpair()
+    theirs.setsockopt(socket.SOL_SOCKET, socket.SO_RCVTIMEO, struct.pack("ll", TIME_MOST, 0))
+    with ours, theirs:
+        process = started(theirs)
+        ours.sendall(CUT)
+        for _ in range(3):
+            wait_for(process, "S")
+            process.send_signal(signal.SIGSTOP)
+            wait_for(process, "T")
+            process.send_signal(signal.SIGCONT)
+        wait_for(process, "S")
+        ours.sendall(EXAMPLE[len(CUT):])
+        ours.shutdown(socket.SHUT_WR)
+        yield "interrupted reads", outcome(process), Outcome(EXAMPLE_PRINTED, b"", 0)
+
+
+def checks():
+    """All checks."""
+    yield from ordinary()
+    yield from full_device()
+    yield from full_disk()
+    yield from closed_pipes()
+    yield from filled_pipe()
+    yield from failing_reads()
+    yield from slow_input()
+    yield from interrupted()
+
+
+def main():
+    """Tries all; prints what differs, gives the exit status."""
+    tried, differ = 0, 0
+    for name, got, wanted in checks():
+        tried += 1
+        if got != wanted:
+            differ += 1
+            print(f"{name}: got {str(got)[:400]}, not {str(wanted)[:400]}")
+    print(f"outside: {tried} checks, {differ} differ")
+    return 1 if differ else 0
+
+
+if __name__ == "__main__":
+    sys.exit(main())
