@@ -236,34 +236,6 @@ def slow_input():
             yield f"{name}, in pieces", in_pieces(text, 1000), Outcome(file(name, text).printed, b"", 0)
 
 
-def wait_for(process, state):
-    """Waits until the system shows a program in a state, or it has ended."""
-    until = time.monotonic() + TIME_MOST
-    while process.poll() is None and time.monotonic() < until:
-        with open(f"/proc/{process.pid}/stat") as shown:
-            if shown.read().rpartition(")")[2].split()[0] == state:
-                return
-        time.sleep(0.001)
-
-
-def interrupted():
-    """Reads that a signal interrupts: a socket with a time limit answers so when the program is stopped and goes on."""
-    ours, theirs = socket.socketpair()
-    theirs.setsockopt(socket.SOL_SOCKET, socket.SO_RCVTIMEO, struct.pack("ll", TIME_MOST, 0))
-    with ours, theirs:
-        process = started(theirs)
-        ours.sendall(CUT)
-        for _ in range(3):
-            wait_for(process, "S")
-            process.send_signal(signal.SIGSTOP)
-            wait_for(process, "T")
-            process.send_signal(signal.SIGCONT)
-        wait_for(process, "S")
-        ours.sendall(EXAMPLE[len(CUT):])
-        ours.shutdown(socket.SHUT_WR)
-        yield "interrupted reads", outcome(process), Outcome(EXAMPLE_PRINTED, b"", 0)
-
-
 def checks():
     """All checks."""
     yield from ordinary()
@@ -273,7 +245,6 @@ def checks():
     yield from filled_pipe()
     yield from failing_reads()
     yield from slow_input()
-    yield from interrupted()
 
 
 def main():

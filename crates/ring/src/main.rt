@@ -13,9 +13,6 @@ use libc::STDOUT_FILENO;
 // The buffer for lines that are printed together.
 const OUTPUT_BYTES: usize = 8192;
 
-// How often a read that signals interrupt is tried before it counts as failed.
-const TRIES: u32 = 1000;
-
 // What was read: so many bytes, or a read failed.
 enum Input {
     Bytes(usize),
@@ -76,20 +73,15 @@ fn ring(text: &[u8]) -> bool {
     ring_all(&mut m, &room[0..count], file.passes)
 }
 
-// Reads from standard input once. A read that a signal interrupts is tried again.
+// Reads from standard input once.
 fn read_some(buffer: &mut [u8]) -> Input
     ensures { λ r. ⌜ ((n : ℕ) → r ≡ Input.Bytes n → n ≤ length (now (buffer .exit))) ⌝ }
 {
-    for _ in 0..TRIES {
-        let got = libc::read(STDIN_FILENO, buffer);
-        if got >= 0 {
-            return Input::Bytes(io::count(got, buffer));
-        }
-        if os::errno() != libc::EINTR {
-            return Input::Failed;
-        }
+    let got = libc::read(STDIN_FILENO, buffer);
+    if got < 0 {
+        return Input::Failed;
     }
-    Input::Failed
+    Input::Bytes(io::count(got, buffer))
 }
 
 // Reads until the buffer is full or the input ends. A read that fails is not the end.

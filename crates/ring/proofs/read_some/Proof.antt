@@ -1,74 +1,28 @@
--- `read_some` meets its contract: each try keeps the buffer's length, and what was read lies within it.
+-- `read_some` meets its contract: what was read lies within the buffer.
 -- Assumes nothing.
-use mathlib.Core.Path.{_≡_}
-use Prim.Native.Nat.{_≤_, _-_}
-use lib.ListN.{length}
-use borrow.Author.Needs.{needs}
 use Rattle.ring.proofs.Parts.{bytes-within, failed-within}
+use borrow.Author.Needs.{needs}
 use Rattle.ring.proofs.read_some.Statement.{statement}
 use Rattle.ring.proofs.read_some.Tie as tie
 
-abbrev Inv-loop : tie.InvT-loop
-Inv-loop buffer₀ counter₀ buffer counter = (length buffer ≡ length buffer₀) × (counter ≤ 1000)
-
-abbrev μ-loop : tie.MeasureT-loop
-μ-loop buffer₀ counter₀ buffer counter = 1000 - counter
-
-loop-holds : tie.Need-loop-holds Inv-loop μ-loop
-loop-holds c = search needs
-
-read-requires : tie.Need-read-requires Inv-loop μ-loop
+read-requires : tie.Need-read-requires
 read-requires c κs = search needs
 
-count-requires : tie.Need-count-requires Inv-loop μ-loop
-count-requires c κs = search needs
-
-same-length : tie.Need-same-length Inv-loop μ-loop
+same-length : tie.Need-same-length
 same-length c = search needs
 
-returns : tie.Need-returns Inv-loop μ-loop
-returns c = bytes-within (c .count .ensures .0 .0)
+returns : tie.Need-returns
+returns c = failed-within
 
-errno-requires : tie.Need-errno-requires Inv-loop μ-loop
-errno-requires c κs = search needs
+count-requires : tie.Need-count-requires
+count-requires c κs = search needs
 
-same-length-2 : tie.Need-same-length-2 Inv-loop μ-loop
+same-length-2 : tie.Need-same-length-2
 same-length-2 c = search needs
 
-returns-2 : tie.Need-returns-2 Inv-loop μ-loop
-returns-2 c = failed-within
-
-add-counter : tie.Need-add-counter Inv-loop μ-loop
-add-counter c = search needs
-
-loop-less : tie.Need-loop-less Inv-loop μ-loop
-loop-less c = search needs
-
-loop-again : tie.Need-loop-again Inv-loop μ-loop
-loop-again c = search needs
-
-same-length-3 : tie.Need-same-length-3 Inv-loop μ-loop
-same-length-3 c = search needs
-
-returns-3 : tie.Need-returns-3 Inv-loop μ-loop
-returns-3 c = failed-within
+returns-2 : tie.Need-returns-2
+returns-2 c = bytes-within (c .count .ensures .0 .0)
 
 pub read-some-spec : {M : Type 1} → statement M
 read-some-spec =
-    tie.close
-    (tie.spec
-    Inv-loop
-    μ-loop
-    loop-holds
-    read-requires
-    count-requires
-    same-length
-    returns
-    errno-requires
-    same-length-2
-    returns-2
-    add-counter
-    loop-less
-    loop-again
-    same-length-3
-    returns-3)
+    tie.close (tie.spec read-requires same-length returns count-requires same-length-2 returns-2)
