@@ -7,14 +7,41 @@
 #include <string.h>
 
 /* Bit n is 1 where function n reads A late. */
-static const uint32_t late_a = 0x0040BB10;
+static const uint32_t late_a = 0x0040BB90;
 
 static int32_t signed20(uint32_t x) { return (int32_t)(x << 12) >> 12; }
 
+/* Whether delay unit n doesn't act as inactive, as it would from (T-6) div 4 on. */
+static int unit_runs(const uint32_t *m, uint32_t n) {
+    return m[DELAYS + DELAY_WORDS * n + P] && 4 * n + 10 <= m[T];
+}
+
 /* The questions of a pass. */
 
+/* Question 10, of memory that is long enough. */
+static int sound_memory(const uint32_t *memory) {
+    uint32_t all = 0;
+    for (int i = 0; i < KARVELORN_MEMORY_WORDS; i++) all |= memory[i];
+    return !(all >> 20);
+}
+
+/* Questions 11 and 12. */
+static uint32_t delay_refusal(const uint32_t *m) {
+    uint32_t named = 0, twice = 0;
+    const uint32_t *end = m + MODIFIERS + MODIFIER_WORDS * (m[T] / 2);
+    for (const uint32_t *u = m + MODIFIERS; u < end; u += MODIFIER_WORDS) {
+        if (u[MMODE] >> 4 != INVOKE_DELAY) continue;
+        uint32_t n = u[MRM] & 31;
+        const uint32_t *d = m + DELAYS + DELAY_WORDS * n;
+        if (d[P] == LINE && unit_runs(m, n) && (d[X] + d[Z] >= KARVELORN_MEMORY_WORDS || d[Y] > d[Z])) return 11;
+        twice |= named & 1u << n;
+        named |= 1u << n;
+    }
+    return twice ? 12 : 0;
+}
+
 static uint32_t refusal(const uint32_t *m, size_t words, const uint32_t *order, size_t entries, size_t items_len,
-                        size_t places_len) {
+                        size_t places_len, const uint32_t *memory, size_t memory_words) {
     if (words != KARVELORN_WORDS) return 1;
     if (!sound_machine(m)) return 2;
     if (entries != m[T]) return 5;
@@ -27,7 +54,8 @@ static uint32_t refusal(const uint32_t *m, size_t words, const uint32_t *order, 
     }
     if (items_len < reads) return 7;
     if (places_len < writes) return 8;
-    return 0;
+    if (memory_words != KARVELORN_MEMORY_WORDS || !sound_memory(memory)) return 10;
+    return delay_refusal(m);
 }
 
 /* Generators. */
@@ -120,10 +148,27 @@ static uint32_t integer_product(uint32_t s, uint32_t a, uint32_t b) {
     return LOW((uint32_t)(scaled(s, a, b) >> 2), 20);
 }
 
-/* A modifier's turn with A and B: its registers are brought up to date; gives S. */
-static uint32_t modifier_turn(uint32_t *u, uint32_t a, uint32_t b) {
+/* The turn of a delay unit with the word from its modifier. */
+static void delay_turn(uint32_t *d, uint32_t *memory, uint32_t word) {
+    d[FIRST] = d[SECOND];
+    if (d[P] == LINE) {
+        uint32_t *slot = &memory[d[X] + d[Y]];
+        d[SECOND] = *slot;
+        d[THIRD] = 0;
+        *slot = word;
+        d[Y] = d[Y] < d[Z] ? d[Y] + 1 : 0;
+    } else {
+        uint32_t shift = d[Z] & 15, argument = word >> shift;
+        if (d[P] == ROUNDED_TABLE && shift) argument += word >> (shift - 1) & 1;
+        d[SECOND] = d[THIRD];
+        d[THIRD] = memory[LOW(argument + d[X], 16)];
+    }
+}
+
+/* A modifier's turn with A and B: its registers are brought up to date, and the delay unit that it invokes; gives S. */
+static uint32_t modifier_turn(uint32_t *m, uint32_t *memory, uint32_t *u, uint32_t a, uint32_t b) {
     uint32_t aa = u[MMODE] >> 2 & 3, bb = u[MMODE] & 3, m0 = u[M0] >> 10, m1 = u[M1] >> 10;
-    uint32_t function = u[MMODE] >> 4, s, x, y;
+    uint32_t function = u[MMODE] >> 4, s, x, y, *d;
     switch (function) {
     case 2: return u[L1] = LOW(u[L0] + integer_product(aa, u[L1], m0), 20);
     case 3:
@@ -135,6 +180,13 @@ static uint32_t modifier_turn(uint32_t *u, uint32_t a, uint32_t b) {
         if (product(bb, b, m1)) u[L1] = a;
         return s;
     case 6: return LOW(product(aa, a, m0) + u[L0], 20) >> 19 ? 0 : product(bb, b, m1);
+    case INVOKE_DELAY:
+        s = LOW(u[L0] + product(aa, u[L1], m0), 20);
+        d = unit_runs(m, u[MRM] & 31) ? m + DELAYS + DELAY_WORDS * (u[MRM] & 31) : NULL;
+        u[L0] = d ? d[FIRST] : 0;
+        u[L1] = LOW(a + product(bb, u[L0], m1), 20);
+        if (d) delay_turn(d, memory, u[L1]);
+        return s;
     case 8: case 9: case 11: case 12: case 13: case 15:
         s = LOW(product(bb, u[L1], m1) + product(aa, u[L0], m0) + a, 20);
         u[L0] = u[L1];
@@ -183,7 +235,7 @@ static void write_sum(uint32_t *quadrant, uint32_t msum, uint32_t s) {
     *word = msum >> 6 ? s : LOW(*word + s, 20);
 }
 
-static void modifiers(uint32_t *m, uint32_t s[4][64]) {
+static void modifiers(uint32_t *m, uint32_t *memory, uint32_t s[4][64]) {
     uint32_t early[64], *late = s[MODIFIER_THIS];
     uint32_t msums[4], written[4]; /* the last four writes, that of k at k mod 4 */
     uint32_t count = m[T] / 2;
@@ -193,7 +245,7 @@ static void modifiers(uint32_t *m, uint32_t s[4][64]) {
         if (k >= 4) write_sum(early, msums[k & 3], written[k & 3]);
         uint32_t a = look(s, late_a >> (u[MMODE] >> 4) & 1 ? late : early, u[MIN]);
         uint32_t b = look(s, early, u[MRM]);
-        uint32_t result = modifier_turn(u, a, b);
+        uint32_t result = modifier_turn(m, memory, u, a, b);
         msums[k & 3] = u[MSUM];
         written[k & 3] = result;
         write_sum(late, u[MSUM], result);
@@ -203,18 +255,19 @@ static void modifiers(uint32_t *m, uint32_t s[4][64]) {
 /* The pass. */
 __attribute__((noinline)) uint32_t plain_pass(uint32_t *m, size_t words, const uint32_t *order, size_t entries,
                                               const uint32_t *items, size_t items_len, uint32_t *places,
-                                              size_t places_len, size_t *read, size_t *written) {
+                                              size_t places_len, uint32_t *memory, size_t memory_words, size_t *read,
+                                              size_t *written) {
 #ifdef UNASKED /* the caller knows that every question is answered yes */
     uint32_t s[4][64], number = 0;
-    (void)refusal, (void)words, (void)entries, (void)items_len, (void)places_len;
+    (void)refusal, (void)words, (void)entries, (void)items_len, (void)places_len, (void)memory_words;
 #else
-    uint32_t s[4][64], number = refusal(m, words, order, entries, items_len, places_len);
+    uint32_t s[4][64], number = refusal(m, words, order, entries, items_len, places_len, memory, memory_words);
 #endif
     *read = *written = 0;
     if (number) return number;
     memcpy(s, m + SUMS, sizeof s);
     generators(m, s, order, items, places, read, written);
-    modifiers(m, s);
+    modifiers(m, memory, s);
     memset(m + SUMS, 0, sizeof s);
     memcpy(m + SUMS + 64, s[GENERATOR_THIS], sizeof s[0]);
     memcpy(m + SUMS + 192, s[MODIFIER_THIS], sizeof s[0]);
@@ -227,9 +280,14 @@ __attribute__((noinline)) uint32_t plain_pass(uint32_t *m, size_t words, const u
 /* The timing. */
 
 typedef uint32_t pass_function(uint32_t *, size_t, const uint32_t *, size_t, const uint32_t *, size_t, uint32_t *,
-                               size_t, size_t *, size_t *);
+                               size_t, uint32_t *, size_t, size_t *, size_t *);
 
 pass_function plain_pass_o3;
+
+static const double limit = 1.1; /* the ratio to gcc -O2 at most */
+
+static pass_function *const sides[SIDES] = {karvelorn_pass, plain_pass, plain_pass_o3};
+static uint32_t machines[SIDES][KARVELORN_WORDS], memories[SIDES][KARVELORN_MEMORY_WORDS], order[256];
 
 /* Sines under exponential envelopes, sticky and free in turn, and T/2 mixing modifiers. */
 static void make_machine(uint32_t *m, uint32_t t) {
@@ -258,46 +316,96 @@ static void make_machine(uint32_t *m, uint32_t t) {
     }
 }
 
-/* The time of one pass, from a number of passes in a row. */
-static double timed(pass_function *pass, uint32_t *m, const uint32_t *order, int passes) {
-    size_t read, written;
-    uint32_t refused = 0;
-    double start = now();
-    for (int i = 0; i < passes; i++)
-        refused |= pass(m, KARVELORN_WORDS, order, m[T], NULL, 0, NULL, 0, &read, &written);
-    if (refused) {
-        fprintf(stderr, "pass: refused\n");
-        exit(1);
+/* So many delay lines, invoked by every fourth modifier in turn. */
+static void add_lines(uint32_t *m, uint32_t lines) {
+    for (uint32_t n = 0; n < lines; n++) {
+        uint32_t *d = m + DELAYS + DELAY_WORDS * n, *u = m + MODIFIERS + MODIFIER_WORDS * 4 * n;
+        d[X] = 2048 * n;
+        d[Z] = 200 + draw(9);
+        d[P] = LINE;
+        u[MRM] = n;
+        u[MMODE] = INVOKE_DELAY << 4 | draw(4);
     }
-    return (now() - start) / passes;
 }
 
-/* The passes in turn, each on a machine of its own that begins alike; whether they end alike. */
-static int compare(uint32_t t, int passes) {
-    static pass_function *const sides[SIDES] = {karvelorn_pass, plain_pass, plain_pass_o3};
-    static uint32_t machines[SIDES][KARVELORN_WORDS], order[256];
-    static double times[SIDES][ROUNDS];
-    char call[32];
+/* The sides begin alike, each with a machine and a delay memory of its own. Memory is full: untouched pages could all
+   be one page of zeros. */
+static void make_sides(uint32_t t, uint32_t lines) {
     make_machine(machines[PROVED], t);
-    for (int side = PLAIN; side < SIDES; side++) memcpy(machines[side], machines[PROVED], sizeof *machines);
+    add_lines(machines[PROVED], lines);
+    for (int i = 0; i < KARVELORN_MEMORY_WORDS; i++) memories[PROVED][i] = draw(20);
+    for (int side = PLAIN; side < SIDES; side++) {
+        memcpy(machines[side], machines[PROVED], sizeof *machines);
+        memcpy(memories[side], memories[PROVED], sizeof *memories);
+    }
     for (uint32_t i = 0; i < t; i++) order[i] = i;
+}
+
+/* The time of one pass, from a number of passes in a row that all give the same answer. */
+static double timed(int side, size_t memory_words, uint32_t answer, int passes) {
+    uint32_t *m = machines[side];
+    size_t read, written;
+    int others = 0;
+    double start = now();
+    for (int i = 0; i < passes; i++)
+        others += sides[side](m, KARVELORN_WORDS, order, m[T], NULL, 0, NULL, 0, memories[side], memory_words, &read,
+                              &written) != answer;
+    double time = (now() - start) / passes;
+    if (others) {
+        fprintf(stderr, "pass: another answer than %u\n", answer);
+        exit(1);
+    }
+    return time;
+}
+
+/* Prints the line of a call; whether the sides ended alike, and R's time within the limit. */
+static int good(const char *call, double times[SIDES][ROUNDS]) {
+    int within = print_times(call, times) <= limit, same = 1;
+    for (int side = PLAIN; side < SIDES; side++)
+        same &= !memcmp(machines[side], machines[PROVED], sizeof *machines) &&
+                !memcmp(memories[side], memories[PROVED], sizeof *memories);
+    if (!within) printf("%s: above the limit of %.2f to C -O2\n", call, limit);
+    if (!same) printf("%s: the machines or delay memories differ\n", call);
+    return within && same;
+}
+
+static int time_pass(uint32_t t, uint32_t lines, int passes) {
+    static double times[SIDES][ROUNDS];
+    char call[48];
+    make_sides(t, lines);
     for (int i = -WARM; i < ROUNDS; i++)
         for (int side = 0; side < SIDES; side++) {
-            double time = timed(sides[side], machines[side], order, passes);
+            double time = timed(side, KARVELORN_MEMORY_WORDS, 0, passes);
             if (i >= 0) times[side][i] = time;
         }
-    snprintf(call, sizeof call, "pass at T=%u", t);
-    print_times(call, times);
-    if (!memcmp(machines[PROVED], machines[PLAIN], sizeof *machines)) return 1;
-    printf("%s: the machines differ\n", call);
-    return 0;
+    snprintf(call, sizeof call, lines ? "pass at T=%u with %u lines" : "pass at T=%u", t, lines);
+    return good(call, times);
+}
+
+/* The sweep of question 10 alone: a pass that the last word of delay memory refuses, without what it takes where the
+   length of delay memory refuses it. */
+static int time_question_10(uint32_t t, int passes) {
+    static double times[SIDES][ROUNDS];
+    char call[48];
+    make_sides(t, 0);
+    for (int side = 0; side < SIDES; side++) memories[side][KARVELORN_MEMORY_WORDS - 1] = 1u << 20;
+    for (int i = -WARM; i < ROUNDS; i++)
+        for (int side = 0; side < SIDES; side++) {
+            double swept = timed(side, KARVELORN_MEMORY_WORDS, 10, passes);
+            double unswept = timed(side, KARVELORN_MEMORY_WORDS - 1, 10, passes);
+            if (i >= 0) times[side][i] = swept - unswept;
+        }
+    snprintf(call, sizeof call, "question 10 of a pass at T=%u", t);
+    return good(call, times);
 }
 
 int main(void) {
-    int same = compare(256, 20);
-    same &= compare(64, 40);
-    same &= compare(1, 80);
-    return same ? 0 : 1;
+    int all = time_pass(256, 0, 20);
+    all &= time_pass(64, 0, 40);
+    all &= time_pass(1, 0, 80);
+    all &= time_pass(256, 32, 20);
+    all &= time_question_10(256, 20);
+    return all ? 0 : 1;
 }
 
 #endif

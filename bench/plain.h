@@ -19,12 +19,15 @@
 
 enum { GO, GJ, GK, GN, GM, GP, GQ, GL, GSUM, GFM, GMODE, GENERATOR_WORDS };
 enum { M0, M1, L0, L1, MIN, MRM, MSUM, MMODE, MODIFIER_WORDS };
-enum { MODIFIERS = 2816, SUMS = 3840, DACS = 4096, DX = 4112, T, N, COUNTER, LINGERING, LINGER_PASS, OVERRUN };
+enum { X, Y, Z, P, FIRST, SECOND, THIRD, DELAY_WORDS };
+enum { MODIFIERS = 2816, SUMS = 3840, DACS = 4096, DX = 4112, T, N, COUNTER, LINGERING, LINGER_PASS, OVERRUN, DELAYS };
 enum { GENERATOR_THIS, GENERATOR_LAST, MODIFIER_THIS, MODIFIER_LAST };
 enum { WRITE_DAC = 2, WRITE_DATA = 3, READ_DATA = 7, WAIT = 9, RUNNING_C = 13, RUNNING_B = 14, RUNNING_A = 15 };
+enum { INVOKE_DELAY = 7 }; /* a modifier's function */
+enum { LINE = 8, TABLE = 10, ROUNDED_TABLE = 11 }; /* modes P of a delay unit */
 
-/* Bit n is 1 where run mode, oscillator mode or function n is built. */
-static const uint32_t built_run = 0xE28F, built_oscillator = 0x010F, built_function = 0x3F53BB5D;
+/* Bit n is 1 where run mode, oscillator mode, function or delay unit's mode n is built. */
+static const uint32_t built_run = 0xE28F, built_oscillator = 0x010F, built_function = 0x3F53BBDD, built_delay = 0x0D01;
 
 /* Questions 1 and 2. */
 
@@ -45,8 +48,16 @@ static uint32_t bad_modifiers(const uint32_t *m) {
     return bad;
 }
 
+static uint32_t bad_delays(const uint32_t *m) {
+    uint32_t bad = 0;
+    for (const uint32_t *d = m + DELAYS; d < m + KARVELORN_WORDS; d += DELAY_WORDS)
+        bad |= d[X] >> 16 | d[Y] >> 16 | d[Z] >> 16 | d[P] >> 4 | d[FIRST] >> 20 | d[SECOND] >> 20 | d[THIRD] >> 20 |
+               (~built_delay >> (d[P] & 15) & 1);
+    return bad;
+}
+
 static int sound_machine(const uint32_t *m) {
-    uint32_t bad = bad_generators(m) | bad_modifiers(m);
+    uint32_t bad = bad_generators(m) | bad_modifiers(m) | bad_delays(m);
     for (int i = SUMS; i <= DX; i++) bad |= m[i] >> 20;
     bad |= m[COUNTER] >> 20 | m[LINGER_PASS] >> 20 | m[LINGERING] >> 1 | m[OVERRUN] >> 1;
     return !bad && m[T] >= 1 && m[T] <= 256 && m[N] >= 2 && m[N] <= 1025;
@@ -87,10 +98,11 @@ SHARED double median(double *times, size_t count) {
 enum { ROUNDS = 1001, WARM = 200 };
 enum { PROVED, PLAIN, PLAIN_O3, SIDES };
 
-/* The line of a call: the median times of the three sides, and the ratios. */
-SHARED void print_times(const char *call, double times[SIDES][ROUNDS]) {
+/* The line of a call: the median times of the three sides, and the ratios. Gives the ratio to -O2. */
+SHARED double print_times(const char *call, double times[SIDES][ROUNDS]) {
     double r = median(times[PROVED], ROUNDS), c2 = median(times[PLAIN], ROUNDS), c3 = median(times[PLAIN_O3], ROUNDS);
     printf("%s: R %.0f ns; C -O2 %.0f ns, ratio %.2f; C -O3 %.0f ns, ratio %.2f\n", call, r, c2, r / c2, c3, r / c3);
+    return r / c2;
 }
 
 #endif

@@ -18,7 +18,7 @@ static uint32_t command_refusal(uint32_t c) {
     uint32_t mode;
     switch (FIELD(c, 24, 28)) {
     case 0: return FIELD(c, 29, 30) >= 2 || FLAG(c, 35) ? 3 : 0;
-    case 1: return 3;
+    case 1: return FIELD(c, 29, 30) == 3 || (FIELD(c, 29, 30) == 2 && !(built_delay >> FIELD(c, 20, 23) & 1)) ? 3 : 0;
     case 3: return FLAG(c, 31) ? 3 : !FLAG(c, 32) && FIELD(c, 14, 23) > 255 ? 4 : 0;
     case 20: case 21:
         mode = FIELD(c, 7, 16);
@@ -40,6 +40,20 @@ static void miscellany(uint32_t *m, uint32_t c) {
     if (FIELD(c, 29, 30) == 1) m[DX] = DATA(c);
     if (FLAG(c, 33)) release(m, WAIT);
     if (FLAG(c, 34)) release(m, PAUSE);
+}
+
+static void load_delay(uint32_t *d, uint32_t c) {
+    switch (FIELD(c, 29, 30)) {
+    case 0:
+        d[X] = FIELD(c, 4, 19);
+        d[Y] = 0;
+        break;
+    case 1: d[Y] = 65535 - FIELD(c, 4, 19); break;
+    case 2:
+        d[Z] = FIELD(c, 4, 19);
+        d[P] = FIELD(c, 20, 23);
+        break;
+    }
 }
 
 /* Says whether the Linger waits. */
@@ -103,6 +117,7 @@ static int take_command(uint32_t *m, uint32_t c) {
     uint32_t *g = m + GENERATOR_WORDS * FIELD(c, 28, 35), *u = m + MODIFIERS + MODIFIER_WORDS * FIELD(c, 29, 35);
     switch (FIELD(c, 24, 28)) {
     case 0: miscellany(m, c); break;
+    case 1: load_delay(m + DELAYS + DELAY_WORDS * FIELD(c, 31, 35), c); break;
     case 2: return timer(m, c);
     case 3: ticks(m, c); break;
     case 4: case 5: case 6: case 7: adjusted(m, g + GQ, 24, FLAG(c, 27), c); break;
@@ -169,28 +184,34 @@ static uint32_t gmode_data(void) {
 }
 
 static uint32_t mmode_data(void) {
-    static const uint32_t functions[8] = {0, 2, 4, 8, 16, 20, 24, 29};
+    static const uint32_t functions[8] = {0, 2, 7, 8, 16, 20, 24, 29};
     return draw(2) << 18 | functions[draw(3)] << 11 | draw(4) << 7 | draw(7);
 }
 
 static uint32_t address(void) { return draw(1) ? draw(7) : 128 | draw(6); }
 
-/* The next of the sixteen kinds of command, in the sequence of their codes without DLY; none of them waits, and T and N
-   stay 1 and 265. */
+static uint32_t delay_data(void) {
+    static const uint32_t modes[4] = {0, LINE, TABLE, ROUNDED_TABLE};
+    return draw(16) << 4 | modes[draw(2)];
+}
+
+/* The next of the sixteen kinds of command, in the sequence of their codes; none of them waits, and T and N stay 1 and
+   265. */
 static uint32_t next_command(int i) {
     switch (i % KINDS) {
     case 0: return command(draw(20), 0x020 | (i % 64 == 0) << 2 | (i % 64 == 32) << 1);
-    case 1: return i % 32 == 1 ? command(5, 0x108) : command(5, 0x110);
-    case 2: return i % 32 == 2 ? command(0, 0x180) : command(263, 0x188);
-    case 3: return command(draw(20), 0x200 | draw(9));
-    case 4: return command(draw(20), 0x400 | draw(9));
-    case 5: return command(draw(20), 0x600 | draw(8));
-    case 6: return command(draw(20), 0x700 | draw(8));
-    case 7: return command(draw(20), 0x800 | draw(8));
-    case 8: return command(draw(20), 0x900 | draw(8));
-    case 9: return command(gmode_data(), 0xA00 | draw(8));
-    case 10: return command(draw(20), 0xB00 | draw(8));
-    case 11: case 12: return command(draw(20), 0xC00 | draw(9));
+    case 1: return command(delay_data(), 0x080 | (uint32_t)(i / KINDS % 3) << 5 | draw(5));
+    case 2: return i % 32 == 2 ? command(5, 0x108) : command(5, 0x110);
+    case 3: return i % 32 == 3 ? command(0, 0x180) : command(263, 0x188);
+    case 4: return command(draw(20), 0x200 | draw(9));
+    case 5: return command(draw(20), 0x400 | draw(9));
+    case 6: return command(draw(20), 0x600 | draw(8));
+    case 7: return command(draw(20), 0x700 | draw(8));
+    case 8: return command(draw(20), 0x800 | draw(8));
+    case 9: return command(draw(20), 0x900 | draw(8));
+    case 10: return command(gmode_data(), 0xA00 | draw(8));
+    case 11: return command(draw(20), 0xB00 | draw(8));
+    case 12: return command(draw(20), 0xC00 | draw(9));
     case 13: return command(draw(20), 0xE00 | draw(8));
     case 14: return command(mmode_data(), 0xF00 | draw(7));
     default: return command(draw(2) << 18 | address() << 8 | address(), 0xF80 | draw(7));

@@ -93,12 +93,13 @@ static bool read_bench(const char *at, const char *end, bench *b) {
 /* A pass by number: generator 0 first, then 1, 2 .. to T-1. There are no items to read and no places to write to, so a
  * generator that reads or writes data is refused. T is whatever the bench file made it: an order has at most 256
  * entries, and the call refuses a larger T before it asks about the order. */
-static uint32_t pass_by_number(uint32_t *machine) {
+static uint32_t pass_by_number(uint32_t *machine, uint32_t *memory) {
     uint32_t order[GENERATORS];
     size_t entries = machine[T] < GENERATORS ? machine[T] : GENERATORS;
     size_t read, written;
     for (uint32_t g = 0; g < entries; g++) order[g] = g;
-    return karvelorn_pass(machine, KARVELORN_WORDS, order, entries, NULL, 0, NULL, 0, &read, &written);
+    return karvelorn_pass(machine, KARVELORN_WORDS, order, entries, NULL, 0, NULL, 0, memory, KARVELORN_MEMORY_WORDS,
+                          &read, &written);
 }
 
 /* What a DAC plays. Its word has 20 bits; the highest is the sign. */
@@ -107,11 +108,12 @@ static int32_t sample(uint32_t word) { return (int32_t)(word ^ 0x80000) - 0x8000
 /* All passes, each with an update after it. An update takes commands from the first on and says how many it took; the
  * rest waits for the next one. Gives the number of the refusal that ended the passes, or 0. */
 static uint32_t ring(bench *b) {
+    static uint32_t memory[KARVELORN_MEMORY_WORDS]; /* delay memory, zero at first */
     const uint32_t *commands = b->commands;
     size_t left = b->command_count;
     for (uint32_t i = 0; i < b->passes; i++) {
         size_t taken;
-        uint32_t refused = pass_by_number(b->machine);
+        uint32_t refused = pass_by_number(b->machine, memory);
         if (refused) return refused;
         refused = karvelorn_update(b->machine, KARVELORN_WORDS, commands, left, &taken);
         if (refused) return refused;

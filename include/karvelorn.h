@@ -5,7 +5,8 @@
  * machines may run at the same time. examples/ring_host.c is a whole host to start from.
  *
  * A run of words is a pointer to its first uint32_t and then how many words it has. A machine is a run that the host
- * owns; between calls the host may read and write any of its words.
+ * owns, and so is the delay memory beside it, which a pass is handed; between calls the host may read and write any of
+ * their words.
  *
  * What the host must see to, for every call:
  * - each pointer is aligned for its type;
@@ -13,8 +14,9 @@
  *   the pointer may be NULL;
  * - a pointer that a call answers through (read, written, taken, equal) is not NULL and has valid memory for one. What
  *   was there before is not looked at, and the call always sets it, in a refusal too;
- * - what a call writes (the runs that are not const, and what it answers through) overlaps nothing else that is handed
- *   to the same call, and nothing else reads or writes it during the call. Runs that are const may overlap each other.
+ * - what a call writes (the runs that are not const, delay memory too, and what it answers through) overlaps nothing
+ *   else that is handed to the same call, and nothing else reads or writes it during the call. Runs that are const may
+ *   overlap each other.
  * Nothing else is asked of the host: words of any contents and runs of any length are answered, by a refusal where
  * they are not good.
  *
@@ -27,9 +29,14 @@
  *   6  Is each number below T in the order once?
  *   7  Are there read items for all generators below T in run mode 0111?
  *   8  Are there written places for all generators below T in run mode 0011?
- * 1 and 2 come first, then 5 and 6, then 7, then 8; 3 and 4 come as each command has its turn in an update. A refused
- * call leaves every run as it was, but for an update that refuses a command (3 or 4): what it did before that command
- * stays done.
+ *   10 Has delay memory KARVELORN_MEMORY_WORDS words, none above 20 bits?
+ *   11 Of the delay units in mode 1000 that modifiers below T div 2 invoke and that don't act as inactive: has each X+Z
+ *      at most 65535 and Y at most Z?
+ *   12 Do the modifiers below T div 2 that invoke delay units name different ones, whatever the units' modes?
+ * A pass asks 1, 2, 5, 6, 7, 8, 10, 11 and 12 in this sequence. An update asks 1 and 2, then 3 and 4 as each command
+ * has its turn; a compare asks 1 and 2, then 5 and 6 of each order. These two ask none of 10 to 12. No call answers 9.
+ * A refused call leaves every run as it was, but for an update that refuses a command (3 or 4): what it did before that
+ * command stays done.
  *
  * The words of a machine (a signed register is kept as its two's-complement bits, in its own width):
  *   11g ..         generator g, 0 to 255: GO (20 bits), GJ (28), GK (20), GN (11), GM (4), GP (20), GQ (24), GL (12),
@@ -45,6 +52,8 @@
  *   4116           lingering, 0 or 1
  *   4117           the Linger pass (20)
  *   4118           overrun, 0 or 1
+ *   4119 + 7u ..   delay unit u, 0 to 31: X (16), Y (16), Z (16), P (4), and three words on their way to the modifier
+ *                  (20 each), next due first
  *
  * Modes and addresses, from the left bit on:
  *   GMODE   run mode (4 bits): 0000 inactive, 0001 pause, 0010 to a DAC (the one that GO's low 4 bits name), 0011 write
@@ -53,13 +62,26 @@
  *           square, 0011 pulse train, 1000 sine of J, the high 20 bits of GJ plus the word at GFM. Other run and
  *           oscillator modes are not built
  *   GFM     0 generator-last or 1 modifier-last, then the word (6)
- *   MMODE   function (5): 00000 inactive, 00010 noise, 00011 triggered noise, 00100 latch, 00110 threshold, 01000 two
- *           poles, 01001 with M0 variable, 01011 with M1 variable, 01100 two zeros, 01101 with M0 variable, 01111 with
- *           M1 variable, 10000 integer mixing, 10001 one pole, 10100 mixing, 10110 one zero, 11000 four-quadrant
- *           product, 11001 amplitude modulation, 11010 maximum, 11011 minimum, 11100 signum, 11101 pulser; others are
- *           not built. Then AA, the scale of the second multiplication (2), and BB, of the first (2)
- *   MIN     and MRM: 00 generator-last, 01 modifier-last or 10 modifier-this, then the word (6)
+ *   MMODE   function (5): 00000 inactive, 00010 noise, 00011 triggered noise, 00100 latch, 00110 threshold, 00111
+ *           invoke delay unit, 01000 two poles, 01001 with M0 variable, 01011 with M1 variable, 01100 two zeros, 01101
+ *           with M0 variable, 01111 with M1 variable, 10000 integer mixing, 10001 one pole, 10100 mixing, 10110 one
+ *           zero, 11000 four-quadrant product, 11001 amplitude modulation, 11010 maximum, 11011 minimum, 11100 signum,
+ *           11101 pulser; others are not built. Then AA, the scale of the second multiplication (2), and BB, of the
+ *           first (2)
+ *   MIN     and MRM: 00 generator-last, 01 modifier-last or 10 modifier-this, then the word (6). In 00111 MRM's low 5
+ *           bits name the delay unit
  *   MSUM    0 adds or 1 replaces, then the word of modifier-this (6)
+ *   P       0000 inactive, 1000 delay line, 1010 table, 1011 table with its argument rounded; others are not built
+ *
+ * Delay units. In 00111 a modifier gets the word DM from its unit: S := L0 + L1*M0; L0 := DM; L1 := A + DM*M1, and this
+ * L1 goes to the unit. A sees the writes of modifiers up to m-1. A unit acts as inactive in mode 0000, from unit
+ * (T-6) div 4 on, and if T is below 10: it gives 0. Neither such a unit nor one that no modifier below T div 2 invokes
+ * changes. Any other gives the first of its three words, and the two behind it move up. Then, by its mode:
+ *   1000         the word at X+Y of delay memory becomes the second word and the third is 0; the word from the modifier
+ *                is put at X+Y, and Y steps by 1, from Z to 0. So a word comes back Z+3 passes later
+ *   1010, 1011   the word from the modifier is shifted to the right by Z's low 4 bits, bringing in zeros; 1011 adds the
+ *                highest bit shifted out, if there is one. The right 16 bits of this, plus X, modulo 65536, are an
+ *                address: the word of delay memory there becomes the third word. So an answer comes three passes later
  */
 #ifndef KARVELORN_H
 #define KARVELORN_H
@@ -67,7 +89,8 @@
 #include <stddef.h>
 #include <stdint.h>
 
-#define KARVELORN_WORDS 4119
+#define KARVELORN_WORDS 4343
+#define KARVELORN_MEMORY_WORDS 65536
 
 #ifdef __cplusplus
 extern "C" {
@@ -81,22 +104,27 @@ extern "C" {
  */
 uint32_t karvelorn_fresh(uint32_t *machine, size_t words);
 
-/* One pass: generators 0 to T-1 in the given order, modifiers 0 to (T div 2)-1 by number; then both this-pass quadrants
- * of sum memory are copied to last and cleared, and 1 is added to the pass counter.
+/* One pass: generators 0 to T-1 in the given order, modifiers 0 to (T div 2)-1 by number, each with the delay unit that
+ * it invokes; then both this-pass quadrants of sum memory are copied to last and cleared, and 1 is added to the pass
+ * counter.
  *
- *   machine, words      the machine, and its length: KARVELORN_WORDS; the pass changes it in place
- *   order, entries      the numbers 0 to T-1, each once, in the order in which generators are taken; entries is T
- *   items, items_len    read data: the items that generators in run mode 0111 take, one each, from the first on; of an
- *                       item the low 20 bits count. There may be more than are taken
- *   places, places_len  written data: where generators in run mode 0011 put their items (20 bits), one each, from the
- *                       first on. There may be more than are written; places past the last item keep their contents
- *   read, written       get how many items were read and written, both 0 in a refusal
+ *   machine, words        the machine, and its length: KARVELORN_WORDS; the pass changes it in place
+ *   order, entries        the numbers 0 to T-1, each once, in the order in which generators are taken; entries is T
+ *   items, items_len      read data: the items that generators in run mode 0111 take, one each, from the first on; of
+ *                         an item the low 20 bits count. There may be more than are taken
+ *   places, places_len    written data: where generators in run mode 0011 put their items (20 bits), one each, from the
+ *                         first on. There may be more than are written; places past the last item keep their contents
+ *   memory, memory_words  delay memory, and its length: KARVELORN_MEMORY_WORDS; the pass changes it in place. At first
+ *                         it is zero, but for what the host puts there, such as tables; each pass of the machine then
+ *                         gets it as the last one left it
+ *   read, written         get how many items were read and written, both 0 in a refusal
  *
- * Answers 0, 1, 2, 5, 6, 7 or 8. A refused pass changes no word of the machine and no place.
+ * Answers 0, 1, 2, 5, 6, 7, 8, 10, 11 or 12. A refused pass changes no word of the machine or of delay memory, and no
+ * place.
  */
 uint32_t karvelorn_pass(uint32_t *machine, size_t words, const uint32_t *order, size_t entries,
                         const uint32_t *items, size_t items_len, uint32_t *places, size_t places_len,
-                        size_t *read, size_t *written);
+                        uint32_t *memory, size_t memory_words, size_t *read, size_t *written);
 
 /* One update: commands change the machine between two passes. They are taken one after the other from the first on, at
  * most N-T-8 of them (none if that is negative) by N and T as the update begins. While the machine lingers and the
@@ -116,6 +144,8 @@ uint32_t karvelorn_pass(uint32_t *machine, size_t words, const uint32_t *order, 
  *
  * The commands, from the left bit on (x: not looked at; in brackets, how many bits):
  *   data(20)                  00000 RR xx W P S   MISC: RR 01 loads DX; W makes each run mode 1001 a 1111, P each 0001
+ *   data(16) P(4)             00001 UU unit(5)    DLY: UU 00 loads X and clears Y, 01 loads Y with 65535 minus the
+ *                                                 data, 10 loads Z and P
  *   data(20)                  00010 xx TT xxx     TIMER: TT 01 sets the counter, 10 is a Linger, 11 clears the counter
  *                                                 and is a Linger
  *   x(10) number(10)          00011 xx 0 Q xxx    TICKS: Q 0 sets T to number + 1, Q 1 sets N to number + 2
@@ -134,16 +164,18 @@ uint32_t karvelorn_pass(uint32_t *machine, size_t words, const uint32_t *order, 
  *   R I C x MRM(8) MIN(8)     11111 modifier(7)   MRM and MIN: R and I disable them; C clears L1
  * A right-adjusted load extends the sign; a left-adjusted one takes its low bits from DX's left and clears DX. A Linger
  * at its pass, or 1 to 4096 passes late (modulo 2^20), doesn't wait, and a late one sets overrun; any other waits: it
- * sets lingering and the Linger pass. Not built (3): MISC with S or with RR 10 or 11, code 00001 (DLY), TICKS with a 1
- * in place of its 0, and modes, functions and MIN or MRM top bits that question 2 refuses, unless disabled.
+ * sets lingering and the Linger pass. Not built (3): MISC with S or with RR 10 or 11, DLY with UU 11 or with UU 10 and
+ * a P that is not built, TICKS with a 1 in place of its 0, and modes, functions and MIN or MRM top bits that question 2
+ * refuses, unless disabled.
  */
 uint32_t karvelorn_update(uint32_t *machine, size_t words, const uint32_t *commands, size_t commands_len,
                           size_t *taken);
 
 /* Whether two orders of the generators are equal, so that it makes no difference which one a pass goes by: on every
- * machine with the settings of this one, whatever its other words hold, and with any read items, passes by the two
- * orders leave the same value in each word of the machine and write the same items in the same sequence. Settings are
- * T, every GMODE, GSUM and GFM, and the low 4 bits of GO of each generator in run mode 0010.
+ * machine with the settings of this one, whatever its other words hold, and with any read items and any delay memory,
+ * passes by the two orders leave the same value in each word of the machine and of delay memory and write the same
+ * items in the same sequence. Settings are T, every GMODE, GSUM and GFM, and the low 4 bits of GO of each generator in
+ * run mode 0010.
  *
  *   machine, words          the machine, and its length: KARVELORN_WORDS; it is only read
  *   first, first_entries    an order: the numbers 0 to T-1, each once; first_entries is T

@@ -1,4 +1,4 @@
-"""Five wrong behaviours, each off unless a trial switches it on."""
+"""Wrong behaviours, each off unless a trial switches it on."""
 
 from contextlib import contextmanager
 
@@ -12,6 +12,16 @@ class Faults:
         self.scales_exchanged = False
         self.swept_gj_read = False
         self.trigger_in_own_pass = False
+        # Delay units.
+        self.y_stepped_before_word = False
+        self.leaving_word_third = False
+        self.table_answer_early = False
+        self.rounded_at_shift_0 = False
+        self.sign_shifted_in = False
+        self.small_t_wraps = False
+        self.only_lines_named_once = False
+        self.y_not_complemented = False
+        self.delay_a_early = False
 
 
 faults = Faults()

@@ -5,7 +5,7 @@ Every number of the layout has its home here. Names are those of the 1978 text.
 
 from typing import NamedTuple
 
-MACHINE_WORDS = 4119
+MACHINE_WORDS = 4343
 
 # Generator g has eleven words from 11g; below are their places within the eleven.
 GENERATORS = 256
@@ -40,6 +40,19 @@ COUNTER = 4115
 LINGERING = 4116
 LINGER_PASS = 4117
 OVERRUN = 4118
+
+# Delay unit u has seven words from 4,119 + 7u; below are their places within the seven. The last
+# three are words on their way to the modifier, next due first.
+DELAY_UNITS = 32
+DELAY_UNITS_AT = 4119
+DELAY_UNIT_WORDS = 7
+X, Y, Z, P, FIRST, SECOND, THIRD = range(DELAY_UNIT_WORDS)
+DELAY_UNIT_NAMES = ("X", "Y", "Z", "P", "first word", "second word", "third word")
+DELAY_UNIT_WIDTHS = (16, 16, 16, 4, 20, 20, 20)
+
+# Delay memory: words beside the machine, which a pass is handed.
+MEMORY_WORDS = 65536
+MEMORY_WIDTH = 20
 
 T_LEAST, T_MOST = 1, 256
 N_LEAST, N_MOST = 2, 1025
@@ -93,12 +106,13 @@ L_PLUS_Q = 0b01
 L_MINUS_EXPONENTIAL = 0b10
 L_PLUS_EXPONENTIAL = 0b11
 
-# Modifier functions, the left five bits of MMODE; 1978's list without the delay unit.
+# Modifier functions, the left five bits of MMODE; 1978's list.
 NO_FUNCTION = 0b00000
 UNIFORM_NOISE = 0b00010
 TRIGGERED_NOISE = 0b00011
 LATCH = 0b00100
 THRESHOLD = 0b00110
+INVOKE_DELAY_UNIT = 0b00111
 TWO_POLES = 0b01000
 TWO_POLES_M0_VARIABLE = 0b01001
 TWO_POLES_M1_VARIABLE = 0b01011
@@ -118,12 +132,19 @@ PULSER = 0b11101
 
 # Functions whose A, in modifier-this, sees the writes of modifiers up to m-1.
 LATE_A = frozenset((
-    LATCH, ONE_ZERO,
+    LATCH, ONE_ZERO, INVOKE_DELAY_UNIT,
     TWO_POLES, TWO_POLES_M0_VARIABLE, TWO_POLES_M1_VARIABLE,
     TWO_ZEROS, TWO_ZEROS_M0_VARIABLE, TWO_ZEROS_M1_VARIABLE,
 ))
 # An early read of modifier m sees the writes up to m-4.
 EARLY_DISTANCE = 4
+
+# Modes of a delay unit, its P.
+DELAY_INACTIVE = 0b0000
+DELAY_LINE = 0b1000
+TABLE = 0b1010
+TABLE_ROUNDED = 0b1011
+DELAY_MODES = (DELAY_INACTIVE, DELAY_LINE, TABLE, TABLE_ROUNDED)
 
 # Top bits of MIN and MRM, and the quadrant each picks; 11 picks none.
 MODIFIER_SOURCES = {0b00: GENERATOR_LAST, 0b01: MODIFIER_LAST, 0b10: MODIFIER_THIS}
@@ -164,6 +185,11 @@ def sum_address(address):
     return address & 0b111111
 
 
+def delay_unit(mrm):
+    """The delay unit that an MRM names in function 00111."""
+    return mrm & 0b11111
+
+
 def modulation_place(gfm):
     """The machine word at GFM: top bit 0 generator-last, 1 modifier-last."""
     quadrant = MODIFIER_LAST if gfm >> 6 else GENERATOR_LAST
@@ -183,3 +209,8 @@ def generator_at(g):
 def modifier_at(m):
     """The place of the first word of modifier m."""
     return MODIFIERS_AT + MODIFIER_WORDS * m
+
+
+def delay_unit_at(u):
+    """The place of the first word of delay unit u."""
+    return DELAY_UNITS_AT + DELAY_UNIT_WORDS * u

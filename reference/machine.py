@@ -1,23 +1,34 @@
 """The machine: a fresh one, its questions, and a pass.
 
-The turns, products and tables have files of their own and are offered here too.
+The turns, delay units, products and tables have files of their own; the turns, products
+and tables are offered here too.
 """
 
+from operator import le
+
 from reference import layout
+from reference.delay import (delay_mode_built, memory_refusal, take_word, units_refusal,
+                             word_given)
 from reference.faults import faults
 from reference.generator import acting_mode, generator_turn
-from reference.modifier import FORMULAS, integer_product, modifier_turn, product
+from reference.modifier import (FORMULAS, delay_turn, integer_product, modifier_turn,
+                                product)
 from reference.tables import exponential, sine
 from reference.words import low
 
 __all__ = [
     "exponential", "fresh", "fresh_machine", "function_built", "generator_turn",
     "integer_product", "modifier_turn", "order_refusal", "oscillator_mode_built",
-    "pass_refusal", "product", "refusal", "run_mode_built", "run_pass", "sine",
+    "pass_refusal", "product", "refusal", "run_mode_built", "run_pass", "sine", "zero_memory",
 ]
 
 
-# A fresh machine
+# A fresh machine, and a delay memory of zeros
+
+def zero_memory():
+    """A delay memory of zeros, as the bench program's is at first."""
+    return [0] * layout.MEMORY_WORDS
+
 
 def fresh_machine():
     """The words of a fresh machine: zero but for T and N."""
@@ -66,14 +77,16 @@ def word_ranges():
     ranges += [wide(20)] * layout.DACS
     ranges += [wide(20), (layout.T_LEAST, layout.T_MOST), (layout.N_LEAST, layout.N_MOST)]
     ranges += [wide(20), wide(1), wide(20), wide(1)]
+    ranges += [wide(w) for w in layout.DELAY_UNIT_WIDTHS] * layout.DELAY_UNITS
     return ranges
 
 
 RANGES = word_ranges()
+LEAST, MOST = zip(*RANGES)
 
 
 def column(run, at, step, count):
-    """One register's words in all generators, or in all modifiers."""
+    """One register's words in all generators, modifiers or delay units."""
     return run[at:at + step * count:step]
 
 
@@ -87,24 +100,31 @@ def modifier_column(run, register):
     return column(run, layout.MODIFIERS_AT + register, layout.MODIFIER_WORDS, layout.MODIFIERS)
 
 
+def delay_unit_column(run, register):
+    """One register's words in all 32 delay units."""
+    return column(run, layout.DELAY_UNITS_AT + register, layout.DELAY_UNIT_WORDS,
+                  layout.DELAY_UNITS)
+
+
 def modes_built(run):
     """Whether all modes are built and no MIN or MRM has top bits 11."""
     gmodes = set(generator_column(run, layout.GMODE))
     mmodes = set(modifier_column(run, layout.MMODE))
     sources = set(modifier_column(run, layout.MIN)) | set(modifier_column(run, layout.MRM))
     return (all(map(run_mode_built, gmodes)) and all(map(oscillator_mode_built, gmodes))
-            and all(map(function_built, mmodes)) and all(map(source_built, sources)))
+            and all(map(function_built, mmodes)) and all(map(source_built, sources))
+            and all(map(delay_mode_built, set(delay_unit_column(run, layout.P)))))
 
 
 def refusal(run):
     """Questions 1 and 2 of a run of words: 0, 1 or 2."""
     if len(run) != layout.MACHINE_WORDS:
         return 1
-    in_range = all(least <= word <= most for word, (least, most) in zip(run, RANGES))
+    in_range = all(map(le, LEAST, run)) and all(map(le, run, MOST))
     return 0 if in_range and modes_built(run) else 2
 
 
-# Questions 5 to 8
+# Questions 5 to 8, and those of a pass
 
 def order_refusal(machine, order):
     """Questions 5 and 6 of one order: 0, 5 or 6."""
@@ -120,7 +140,7 @@ def below_t_in(machine, mode):
     return sum(layout.run_mode(gmode) == mode for gmode in gmodes)
 
 
-def pass_refusal(machine, order, items, places):
+def pass_refusal(machine, order, items, places, memory):
     """The first question that a pass fails, or 0."""
     number = refusal(machine) or order_refusal(machine, order)
     if number:
@@ -129,7 +149,7 @@ def pass_refusal(machine, order, items, places):
         return 7
     if len(places) < below_t_in(machine, layout.WRITE_DATA):
         return 8
-    return 0
+    return memory_refusal(memory) or units_refusal(machine)
 
 
 # The pass
@@ -175,14 +195,22 @@ def word_read(machine, address, view):
     return view[place] if quadrant == layout.MODIFIER_THIS else machine[quadrant + place]
 
 
-def take_modifier(machine, m, early, late):
+def take_modifier(machine, m, early, late, memory):
     """One modifier's turn in place, with its early and late view of modifier-this."""
     at = layout.modifier_at(m)
     words = machine[at:at + layout.MODIFIER_WORDS]
-    a_late = layout.function(words[layout.MMODE]) in layout.LATE_A
+    function = layout.function(words[layout.MMODE])
+    a_late = function in layout.LATE_A
+    if faults.delay_a_early and function == layout.INVOKE_DELAY_UNIT:
+        a_late = False
     a = word_read(machine, words[layout.MIN], late if a_late else early)
-    b = word_read(machine, words[layout.MRM], early)
-    after, s = modifier_turn(words, a, b)
+    if function == layout.INVOKE_DELAY_UNIT:
+        # MRM names a delay unit; there is no B.
+        unit = layout.delay_unit(words[layout.MRM])
+        after, s, sent = delay_turn(words, a, 0, word_given(machine, unit))
+        take_word(machine, memory, unit, sent)
+    else:
+        after, s = modifier_turn(words, a, word_read(machine, words[layout.MRM], early))
     machine[at:at + layout.MODIFIER_WORDS] = after
     place = layout.MODIFIER_THIS + layout.sum_address(words[layout.MSUM])
     if layout.replaces(words[layout.MSUM]):
@@ -191,8 +219,8 @@ def take_modifier(machine, m, early, late):
         add_to(machine, place, s)
 
 
-def take_modifiers(machine):
-    """Modifiers 0..(T div 2)-1 by number, in place."""
+def take_modifiers(machine, memory):
+    """Modifiers 0..(T div 2)-1 by number with their delay units, in place."""
     views = []
     for m in range(machine[layout.T] // 2):
         # views[n] is modifier-this after the writes of all modifiers below n.
@@ -200,7 +228,7 @@ def take_modifiers(machine):
         early = views[max(m - layout.EARLY_DISTANCE + 1, 0)]
         if faults.early_read_sees_previous:
             early = views[m]
-        take_modifier(machine, m, early, views[m])
+        take_modifier(machine, m, early, views[m], memory)
 
 
 def close(machine):
@@ -213,13 +241,13 @@ def close(machine):
     machine[layout.COUNTER] = low(machine[layout.COUNTER] + 1, 20)
 
 
-def run_pass(machine, order, items, places):
-    """A pass: its number, the counts read and written, the machine and the places afterwards."""
-    number = pass_refusal(machine, order, items, places)
+def run_pass(machine, order, items, places, memory):
+    """A pass: its number, the counts read and written; machine, places and memory afterwards."""
+    number = pass_refusal(machine, order, items, places, memory)
     if number:
-        return number, 0, 0, list(machine), list(places)
-    after = list(machine)
+        return number, 0, 0, list(machine), list(places), list(memory)
+    after, memory_after = list(machine), list(memory)
     read, written = take_generators(after, order, items)
-    take_modifiers(after)
+    take_modifiers(after, memory_after)
     close(after)
-    return 0, read, len(written), after, written + list(places)[len(written):]
+    return 0, read, len(written), after, written + list(places)[len(written):], memory_after

@@ -31,11 +31,11 @@ def scales(mmode):
 
 
 class Turn:
-    """A modifier's registers during its turn, with A and B as 20-bit words."""
+    """A modifier's registers during its turn, with A, B and DM as 20-bit words."""
 
-    def __init__(self, words, a, b):
+    def __init__(self, words, a, b, dm):
         self.m0, self.m1, self.l0, self.l1 = words[:4]
-        self.a, self.b = a, b
+        self.a, self.b, self.dm = a, b, dm
         self.aa, self.bb = scales(words[layout.MMODE])
 
     def by_m0(self, x):
@@ -189,12 +189,21 @@ def threshold(t):
     return 0 if signed(total, 20) < 0 else t.by_m1(t.b)
 
 
+def invoke_delay_unit(t):
+    """S := L0 + L1*M0; L0 := DM; Temp0 := A + DM*M1; L1 := Temp0; DM := Temp0"""
+    s = low(t.l0 + t.by_m0(t.l1), 20)
+    temp0 = low(t.a + t.by_m1(t.dm), 20)
+    t.l0, t.l1, t.dm = t.dm, temp0, temp0
+    return s
+
+
 FORMULAS = {
     layout.NO_FUNCTION: inactive,
     layout.UNIFORM_NOISE: uniform_noise,
     layout.TRIGGERED_NOISE: triggered_noise,
     layout.LATCH: latch,
     layout.THRESHOLD: threshold,
+    layout.INVOKE_DELAY_UNIT: invoke_delay_unit,
     layout.TWO_POLES: two_poles,
     layout.TWO_POLES_M0_VARIABLE: m0_variable(two_poles),
     layout.TWO_POLES_M1_VARIABLE: m1_variable(two_poles),
@@ -214,8 +223,14 @@ FORMULAS = {
 }
 
 
-def modifier_turn(words, a, b):
-    """A modifier's eight words after its turn with A and B, and S, a 20-bit word."""
-    t = Turn(words, a, b)
+def delay_turn(words, a, b, dm):
+    """A modifier's eight words after its turn with A, B and DM; S; and DM afterwards."""
+    t = Turn(words, a, b, dm)
     s = FORMULAS[layout.function(words[layout.MMODE])](t)
-    return [t.m0, t.m1, t.l0, t.l1, *words[4:]], s
+    return [t.m0, t.m1, t.l0, t.l1, *words[4:]], s, t.dm
+
+
+def modifier_turn(words, a, b):
+    """A modifier's eight words after its turn with A and B, and S, a 20-bit word; DM is 0."""
+    after, s, _ = delay_turn(words, a, b, 0)
+    return after, s

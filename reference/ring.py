@@ -6,7 +6,7 @@ Run as: python3 -m reference.ring < file
 import sys
 
 from reference import layout
-from reference.machine import fresh_machine, run_pass
+from reference.machine import fresh_machine, run_pass, zero_memory
 from reference.update import run_update
 from reference.words import signed
 
@@ -72,13 +72,16 @@ def pass_line(machine):
     return f"pass={machine[layout.COUNTER]} left={left} right={right}\n"
 
 
-def pass_lines(machine, passes, commands):
+def pass_lines(machine, passes, commands, seen):
     """The lines of the passes, each by number and with an update after it."""
+    memory = zero_memory()
     for _ in range(passes):
         # The order is a range and not a list: T may be beyond its range here.
-        refused, _, _, machine, _ = run_pass(machine, range(machine[layout.T]), [], [])
+        order = range(machine[layout.T])
+        refused, _, _, after, _, memory = run_pass(machine, order, [], [], memory)
         if not refused:
-            refused, taken, machine = run_update(machine, commands)
+            seen(machine, after)
+            refused, taken, machine = run_update(after, commands)
             commands = commands[taken:]
         if refused:
             yield f"refused={refused}\n"
@@ -86,8 +89,10 @@ def pass_lines(machine, passes, commands):
         yield pass_line(machine)
 
 
-def ring(file):
-    """What the bench program prints for a file, bytes for bytes."""
+def ring(file, seen=lambda before, after: None):
+    """What the bench program prints for a file, bytes for bytes.
+
+    For each pass that is done, seen gets the machine before and after it."""
     read = bench_file(file)
     if read is None:
         return b"refused=9\n"
@@ -95,7 +100,7 @@ def ring(file):
     machine = fresh_machine()
     for place, value in words:
         machine[place] = value
-    return "".join(pass_lines(machine, passes, commands)).encode()
+    return "".join(pass_lines(machine, passes, commands, seen)).encode()
 
 
 if __name__ == "__main__":

@@ -4,6 +4,8 @@ Bit b of the 1978 text (4 to 35, from the left) is bit 35-b of the 32-bit word.
 """
 
 from reference import layout
+from reference.delay import delay_mode_built
+from reference.faults import faults
 from reference.machine import (function_built, oscillator_mode_built, refusal, run_mode_built,
                                source_built)
 from reference.words import extended, low
@@ -29,6 +31,11 @@ def generator_word(command, register):
 def modifier_word(command, register):
     """The place of a register of the modifier that a command addresses."""
     return layout.modifier_at(field(command, 29, 35)) + register
+
+
+def delay_unit_word(command, register):
+    """The place of a register of the delay unit that a command addresses."""
+    return layout.delay_unit_at(field(command, 31, 35)) + register
 
 
 def load_left(machine, place, command, width):
@@ -216,12 +223,30 @@ def mrm_min(machine, command):
         machine[modifier_word(command, layout.L1)] = 0
 
 
+# Delay units
+
+def dly_refusal(command):
+    """UU 11 is unused; a P is built."""
+    uu = field(command, 29, 30)
+    unbuilt = uu == 0b10 and not delay_mode_built(field(command, 20, 23))
+    return 3 if uu == 0b11 or unbuilt else 0
+
+
+def dly(machine, command):
+    """UU 00 loads X and clears Y, 01 loads Y from its one's complement, 10 loads Z and P."""
+    uu, number = field(command, 29, 30), field(command, 4, 19)
+    if uu == 0b00:
+        machine[delay_unit_word(command, layout.X)] = number
+        machine[delay_unit_word(command, layout.Y)] = 0
+    if uu == 0b01:
+        complement = number if faults.y_not_complemented else 65535 - number
+        machine[delay_unit_word(command, layout.Y)] = complement
+    if uu == 0b10:
+        machine[delay_unit_word(command, layout.Z)] = number
+        machine[delay_unit_word(command, layout.P)] = field(command, 20, 23)
+
+
 # The codes
-
-def not_built(command):
-    """The question of a code that is left out."""
-    return 3
-
 
 def always(command):
     """The question of a command that every data is good for."""
@@ -231,7 +256,7 @@ def always(command):
 # By the code's bits from bit 24 on: its question and what it does.
 CODES = {
     "00000": (misc_refusal, misc),
-    "00001": (not_built, None),
+    "00001": (dly_refusal, dly),
     "00010": (always, timer),
     "00011": (ticks_refusal, ticks),
     "001": (always, gq),

@@ -3,15 +3,21 @@
 Settings are drawn for one of the four points or for all of them, so that each point
 fails alone now and then. Each request comes with the reference's answer. Where it is
 yes, the request also asks for passes from contents at random, which must end alike;
-where it is no, passes by the two orders from contents that part them follow.
+where it is no, passes by the two orders from contents that part them follow. From T 10
+on these contents have delay lines at work, which must leave the same delay memory.
 """
 
 import random
+from array import array
 from typing import NamedTuple
+from zlib import crc32
 
+from delay_requests import Memory, invoke, made_word, memory_words, put_unit
 from leaf_requests import biased
 from pass_requests import BAD_ORDERS, DAMAGES, LENGTHS, good_order, whole_machine
 from reference import layout
+from reference.delay import units_in_time
+from reference.machine import run_pass
 from reference.orders import POINTS, agree, compare, parting
 
 COMPARE, PASSES = range(2)
@@ -19,10 +25,11 @@ CONTENTS = 12
 
 
 class Request(NamedTuple):
-    """What is asked: the operation, a count of contents, the runs of words, and a name."""
+    """What is asked: the operation, a count of contents, a number to draw by, the runs, a name."""
 
     operation: int
     contents: int
+    drawn: int
     machine: list
     first: list
     second: list
@@ -31,11 +38,14 @@ class Request(NamedTuple):
 
 
 class Answer(NamedTuple):
-    """What is answered: the number, yes or no, and how many pairs of passes end alike."""
+    """What is answered: the number, and yes or no; how many pairs of passes end alike, how many
+    leave the same delay memory, and whether they changed it."""
 
     number: int
     equal: int
     alike: int
+    same_memory: int
+    memory_changed: int
 
 
 # Settings
@@ -57,7 +67,7 @@ def ticks(chance, number):
     """T: every eighth machine takes the next of 1..256, the others have few."""
     if number % 8 == 0:
         return number // 8 * 37 % 256 + 1
-    return chance.choice((1, 2, 3, 4, 4, 5, 6, 6, 7, 8, 8, chance.randint(9, 24)))
+    return chance.choice((1, 2, 3, 4, 4, 5, 6, 6, 7, 8, 10, 12, 14, chance.randint(9, 24)))
 
 
 def shared(chance, limit):
@@ -150,18 +160,64 @@ def damaged(machine, number):
 
 # The whole of the requests
 
+def drawn_by(first, second):
+    """The number to draw contents by, which is the orders' own."""
+    return crc32(array("I", [*first, *second]).tobytes())
+
+
+def units_act(machine):
+    """Whether delay unit 0 acts if it is a line."""
+    return int(units_in_time(machine[layout.T]) > 0)
+
+
 def compared(machine, first, second, name):
     """A compare with the reference's answer; contents are tried where it says yes."""
     number, equal = compare(machine, first, second)
     contents = CONTENTS if equal else 0
-    request = Request(COMPARE, contents, machine, first, second, [], name)
-    return request, Answer(number, int(equal), contents)
+    request = Request(COMPARE, contents, drawn_by(first, second), machine, first, second, [], name)
+    changed = units_act(machine) if contents else 0
+    return request, Answer(number, int(equal), contents, contents, changed)
 
 
-def parted(machine, first, second, name):
+def put_changing_line(chance, contents, drawn):
+    """Delay unit 0 becomes a line whose next slot holds neither 0 nor 1."""
+    while True:
+        put_unit(chance, contents, 0, layout.DELAY_LINE)
+        x, y = contents[layout.delay_unit_at(0):layout.delay_unit_at(0) + 2]
+        if made_word(drawn | 1, x + y) > 1:
+            return
+
+
+def put_delays(chance, contents, drawn):
+    """Two modifiers below T div 2 become 00111s: on unit 0, a line that changes its slot, and on 1.
+
+    They send a word of generator-last; in contents that part orders these are 0 or 1."""
+    put_changing_line(chance, contents, drawn)
+    put_unit(chance, contents, 1, chance.choice(layout.DELAY_MODES[1:]))
+    for u, m in enumerate(chance.sample(range(contents[layout.T] // 2), 2)):
+        at = layout.modifier_at(m)
+        contents[at + layout.L0], contents[at + layout.MIN] = biased(chance, 20), biased(chance, 6)
+        invoke(chance, contents, m, u)
+
+
+def parted(chance, machine, first, second, name):
     """Passes by two unequal orders from contents that part them: no refusal, not alike."""
     contents, items = parting(machine, first, second)
-    return Request(PASSES, 0, contents, first, second, items, "parted, " + name), Answer(0, 0, 0)
+    drawn = drawn_by(first, second)
+    if units_act(contents):
+        put_delays(chance, contents, drawn)
+    request = Request(PASSES, 0, drawn, contents, first, second, items, "parted, " + name)
+    return request, Answer(0, 0, 0, 1, units_act(contents))
+
+
+def tried(request):
+    """The reference's answer to passes that part two orders."""
+    words = memory_words(Memory(layout.MEMORY_WORDS, request.drawn | 1, {}))
+    places = [0] * layout.GENERATORS
+    one, other = (run_pass(request.machine, order, request.items, places, words)
+                  for order in (request.first, request.second))
+    same = one[-1] == other[-1]
+    return Answer(max(one[0], other[0]), 0, int(one == other), int(same), int(one[-1] != words))
 
 
 def failing(request):
@@ -177,7 +233,7 @@ def of_machine(chance, machine, number):
         request, answer = compared(machine, first, second, f"{kind}, {name}")
         yield request, answer
         if not answer.equal:
-            yield parted(machine, first, second, request.name)
+            yield parted(chance, machine, first, second, request.name)
     for first, second, name in refused_pairs(chance, machine):
         yield compared(machine, first, second, name)
     other, name = damaged(machine, number)

@@ -1,12 +1,14 @@
 /* Calls the library for tests/compares.py: requests on standard input, answers on standard output, to the input's end.
  *
- * A request is seven 32-bit numbers (0 for a compare or 1 for passes; a count of contents; a number to draw them by;
- * the lengths of machine, first order, second order and items), then the words of the four. An answer is three 32-bit
+ * A request is seven 32-bit numbers (0 for a compare or 1 for passes; a count of contents; a number to draw by; the
+ * lengths of machine, first order, second order and items), then the words of the four. An answer is five 32-bit
  * numbers:
- * - a compare answers its number, whether it says yes, and, of so many machines with the settings of this one and
- *   contents and items at random, on how many passes by the two orders end alike;
- * - passes by the two orders from this very machine answer the larger number, 0, and whether they end alike.
- * Two passes end alike where they leave the same machine and write the same items.
+ * - a compare answers its number, whether it says yes, and then of so many machines with the settings of this one and
+ *   contents and items at random: on how many passes by the two orders end alike, on how many they leave the same delay
+ *   memory, and whether they changed a word of it;
+ * - passes by the two orders from this very machine answer the larger number, 0, and the same three.
+ * Two passes end alike where they leave the same machine and delay memory and write the same items. Delay memory is
+ * made from the number to draw by, for each request anew; passes from contents at random go on with it.
  */
 #include "karvelorn.h"
 #include "runs.h"
@@ -16,7 +18,17 @@ enum { MACHINE, FIRST, SECOND, ITEMS, RUNS };
 enum { GENERATORS = 256, GO = 0, GP = 5, GQ = 6, GSUM = 8, GFM = 9, GMODE = 10, GENERATOR_WORDS = 11 };
 enum { MODIFIERS = 128, MODIFIERS_AT = 2816, MODIFIER_WORDS = 8, MIN = 4, MRM = 5, MMODE = 7 };
 enum { SUMS_AT = 3840, DX = 4112, T, N, COUNTER, LINGERING, LINGER_PASS, OVERRUN };
-enum { WRITE_DAC = 2 };
+enum { UNITS = 32, UNITS_AT = 4119, X = 0, Y, Z, P, UNIT_WORDS = 7 };
+enum { WRITE_DAC = 2, INVOKE_DELAY_UNIT = 7, DELAY_LINE = 8 };
+
+/* What a request tries and what came of it. */
+typedef struct {
+    uint32_t refused;     /* the largest number of its passes */
+    uint32_t alike;       /* on how many contents two passes end alike */
+    uint32_t same_memory; /* on how many they leave the same delay memory */
+} outcome;
+
+static uint32_t memories[2][KARVELORN_MEMORY_WORDS];
 
 /* Drawing. */
 
@@ -50,21 +62,48 @@ static void draw_modifier(uint32_t *u) {
     u[MMODE] |= functions[draw(4)] << 4;
 }
 
+/* A delay unit in any mode; as a line it fits. */
+static void draw_unit(uint32_t *u) {
+    static const uint32_t modes[4] = {0, DELAY_LINE, 10, 11};
+    for (int j = 0; j < UNIT_WORDS; j++) u[j] = draw(20);
+    u[Z] = draw(1) ? draw(3) : draw(16);
+    u[X] = draw(16) % (KARVELORN_MEMORY_WORDS - u[Z]);
+    u[Y] = draw(16) % (u[Z] + 1);
+    u[P] = modes[draw(2)];
+}
+
+/* Some modifiers become 00111s, each on a unit of its own: unit 0, a line, is named by one that runs where T is 2 or
+ * more. */
+static void draw_naming(uint32_t *m, uint32_t t) {
+    uint32_t unit = 0, step = draw(5) | 1, first = t < 2 ? 0 : draw(8) % (t / 2);
+    m[UNITS_AT + P] = DELAY_LINE;
+    for (uint32_t k = first, left = UNITS; k < MODIFIERS && left; k++) {
+        uint32_t *u = m + MODIFIERS_AT + MODIFIER_WORDS * k;
+        if (k > first && draw(1)) continue;
+        u[MMODE] = INVOKE_DELAY_UNIT << 4 | draw(4);
+        u[MRM] = draw(2) % 3 << 6 | draw(1) << 5 | unit;
+        unit = (unit + step) % UNITS;
+        left--;
+    }
+}
+
 static void draw_contents(uint32_t *m, const uint32_t *settings) {
     uint32_t edge = draw(2);
     for (int g = 0; g < GENERATORS; g++) draw_generator(m + GENERATOR_WORDS * g, settings + GENERATOR_WORDS * g, edge);
     for (int k = 0; k < MODIFIERS; k++) draw_modifier(m + MODIFIERS_AT + MODIFIER_WORDS * k);
     for (int i = SUMS_AT; i <= OVERRUN; i++) m[i] = draw(20);
+    for (int u = 0; u < UNITS; u++) draw_unit(m + UNITS_AT + UNIT_WORDS * u);
     m[T] = settings[T];
     m[N] = 2 + draw(10);
     m[LINGERING] = draw(1);
     m[OVERRUN] = draw(1);
+    draw_naming(m, m[T]);
 }
 
 /* Passes by two orders. */
 
-/* Whether two passes end alike; the larger of their numbers goes to *refused. */
-static uint32_t alike(const uint32_t *m, const run *r, const uint32_t *items, size_t items_len, uint32_t *refused) {
+/* Two passes from one machine, over delay memories that are the same as they begin. */
+static void try_both(const uint32_t *m, const run *r, const uint32_t *items, size_t items_len, outcome *came) {
     static uint32_t machines[2][KARVELORN_WORDS], places[2][GENERATORS];
     size_t read[2], written[2];
     for (int k = 0; k < 2; k++) {
@@ -72,44 +111,57 @@ static uint32_t alike(const uint32_t *m, const run *r, const uint32_t *items, si
         memcpy(machines[k], m, sizeof machines[k]);
         memset(places[k], 0, sizeof places[k]);
         uint32_t number = karvelorn_pass(machines[k], KARVELORN_WORDS, order->words, order->length, items, items_len,
-                                         places[k], GENERATORS, &read[k], &written[k]);
-        if (number > *refused) *refused = number;
+                                         places[k], GENERATORS, memories[k], KARVELORN_MEMORY_WORDS, &read[k],
+                                         &written[k]);
+        if (number > came->refused) came->refused = number;
     }
-    return written[0] == written[1] && !memcmp(machines[0], machines[1], sizeof machines[0]) &&
-           !memcmp(places[0], places[1], written[0] * sizeof places[0][0]);
+    int same_memory = !memcmp(memories[0], memories[1], sizeof memories[0]);
+    came->same_memory += same_memory;
+    came->alike += same_memory && written[0] == written[1] && !memcmp(machines[0], machines[1], sizeof machines[0]) &&
+                   !memcmp(places[0], places[1], written[0] * sizeof places[0][0]);
+    if (!same_memory) memcpy(memories[1], memories[0], sizeof memories[0]);
 }
 
-/* On how many contents two passes end alike. */
-static uint32_t alike_on(uint32_t contents, const run *r) {
+static void try_contents(uint32_t contents, const run *r, outcome *came) {
     static uint32_t m[KARVELORN_WORDS], items[GENERATORS];
-    uint32_t same = 0;
     for (uint32_t i = 0; i < contents; i++) {
-        uint32_t refused = 0;
         draw_contents(m, r[MACHINE].words);
         for (int k = 0; k < GENERATORS; k++) items[k] = draw(32);
-        same += alike(m, r, items, GENERATORS, &refused);
-        if (refused) stop(2, "a pass from contents at random was refused");
+        try_both(m, r, items, GENERATORS, came);
+        if (came->refused) stop(2, "a pass from contents at random was refused");
     }
-    return same;
 }
 
 /* Answers. */
 
-static void answer(uint32_t operation, uint32_t contents, const run *r) {
-    uint32_t given[3] = {0, 0, 0};
+static uint32_t memory_changed(uint32_t fill) {
+    for (uint32_t i = 0; i < KARVELORN_MEMORY_WORDS; i++)
+        if (memories[0][i] != made_word(fill, i)) return 1;
+    return 0;
+}
+
+static void answer(uint32_t operation, uint32_t contents, uint32_t number, const run *r) {
+    uint32_t given[5] = {0, 0, 0, 0, 0}, fill = number | 1;
+    outcome came = {0, 0, 0};
+    drawn = number;
+    for (int k = 0; k < 2; k++) fill_memory(memories[k], KARVELORN_MEMORY_WORDS, fill);
     if (operation == COMPARE) {
         given[1] = UINT32_MAX;
         given[0] = karvelorn_compare(r[MACHINE].words, r[MACHINE].length, r[FIRST].words, r[FIRST].length,
                                      r[SECOND].words, r[SECOND].length, &given[1]);
-        given[2] = alike_on(contents, r);
+        try_contents(contents, r, &came);
     } else {
-        given[2] = alike(r[MACHINE].words, r, r[ITEMS].words, r[ITEMS].length, &given[0]);
+        try_both(r[MACHINE].words, r, r[ITEMS].words, r[ITEMS].length, &came);
+        given[0] = came.refused;
     }
     for (int i = 0; i < RUNS; i++) {
         check_kept(&r[i]);
         check_beside(&r[i]);
     }
-    put(given, sizeof given[0], 3);
+    given[2] = came.alike;
+    given[3] = came.same_memory;
+    given[4] = memory_changed(fill);
+    put(given, sizeof given[0], 5);
 }
 
 int main(void) {
@@ -118,8 +170,7 @@ int main(void) {
         run runs[RUNS];
         get(lengths, sizeof lengths[0], RUNS);
         for (int i = 0; i < RUNS; i++) runs[i] = read_run(lengths[i]);
-        drawn = head[2];
-        answer(head[0], head[1], runs);
+        answer(head[0], head[1], head[2], runs);
         for (int i = 0; i < RUNS; i++) free_run(&runs[i]);
     }
     return fflush(stdout) ? 2 : 0;

@@ -1,35 +1,48 @@
 """Compares compares, called from C, with the reference, and tries what they say on passes.
 
-    python3 tests/compares.py [COUNT] [SEED]
+    python3 tests/compares.py [--dry] [COUNT] [SEED]
 
 Run from the repository root. Builds tests/compares.c with include/karvelorn.h and
 target/staticlib/libhost.a (which it has rt make where it is missing or older than the
 code). Each answer must be the reference's. Where it is yes, passes of the library by
-the two orders from contents at random must end alike; where it is no, they must differ
-from contents that are made to part the two orders.
+the two orders from contents at random must end alike, delay memory too; where it is no,
+they must differ from contents that are made to part the two orders, but not in delay
+memory, which no generator touches. Fails too where the requests met something too seldom.
+With --dry nothing is built or asked: it says what the requests met, and tries some of the
+contents that part orders on the reference.
 """
 
 import struct
 import sys
 from collections import Counter
-from zlib import crc32
 
 # First, since it makes the reference known.
-from library import Test, build, compared, counts, packed
+from library import Test, build, compared, counts, met_seldom, packed, read_arguments
 
-from compare_requests import COMPARE, Answer, all_requests, failing
+from compare_requests import COMPARE, Answer, all_requests, failing, tried
 from reference import layout
+from reference.delay import units_refusal
 
 COUNT, SEED = 20000, 1978
-HEAD, NUMBERS = struct.Struct("<7I"), struct.Struct("<3I")
+HEAD, NUMBERS = struct.Struct("<7I"), struct.Struct("<5I")
+TRIED = 50
+
+# How often each kind is met at least, in COUNT compares.
+PROMISED = {
+    "compares": 20000, "yes": 7000, "no": 3000, "values of T": 120, "pairs of passes": 80000,
+    **{f"refused by {number}": least for number, least in
+       ((1, 120), (2, 700), (5, 1200), (6, 1000))},
+    **{f"point {point} alone fails": 200 for point in (1, 2, 3, 4)},
+    "a pass would be refused by 11 or 12": 1000, "pairs of passes with delay units": 20000,
+    "parted": 3000, "parted with delay units": 1000,
+}
 
 
 def request_bytes(request):
-    """A request as the program reads it; its contents are drawn by its orders."""
-    runs = [packed(run) for run in request[2:6]]
-    lengths = [len(run) for run in request[2:6]]
-    drawn = crc32(runs[1] + runs[2])
-    return HEAD.pack(request.operation, request.contents, drawn, *lengths) + b"".join(runs)
+    """A request as the program reads it."""
+    runs = request[3:7]
+    head = HEAD.pack(*request[:3], *map(len, runs))
+    return head + b"".join(map(packed, runs))
 
 
 def answer_bytes(answer):
@@ -45,37 +58,67 @@ def show(request, expected, got):
         print("  the program gave no whole answer")
         return
     for title, given in (("reference", expected), ("program", Answer(*NUMBERS.unpack(got)))):
-        print(f"  {title}: number {given.number}, equal {given.equal}, "
-              f"{given.alike} of {max(request.contents, 1)} passes end alike")
+        print(f"  {title}: number {given.number}, equal {given.equal}; of "
+              f"{max(request.contents, 1)} pairs of passes {given.alike} end alike and "
+              f"{given.same_memory} in the same delay memory, which "
+              f"{'changed' if given.memory_changed else 'did not change'}")
 
 
 COMPARES = Test("compares", request_bytes, answer_bytes, show)
 
 
+# What the requests met
+
+def events(request, answer):
+    """All that is counted of a request, each with how often it is counted."""
+    if request.operation != COMPARE:
+        yield "parted", 1
+        yield "parted with delay units", answer.memory_changed
+        return
+    yield "compares", 1
+    yield "pairs of passes", answer.alike
+    yield "pairs of passes with delay units", answer.alike * answer.memory_changed
+    if answer.number:
+        yield f"refused by {answer.number}", 1
+        return
+    yield "yes" if answer.equal else "no", 1
+    yield "a pass would be refused by 11 or 12", units_refusal(request.machine) != 0
+    points = failing(request)
+    if points:
+        ending = " alone fails" if len(points) == 1 else " fail"
+        yield "point " + " and ".join(map(str, points)) + ending, 1
+
+
+class Met:
+    """Counts what the requests met; in a dry run the reference tries some of them."""
+
+    def __init__(self, dry):
+        self.kinds, self.ticks, self.dry, self.bad = Counter(), Counter(), dry, 0
+
+    def count(self, request, answer):
+        """Counts a request with its answer."""
+        for event, times in events(request, answer):
+            self.kinds[event] += times
+        if request.operation == COMPARE and not answer.number:
+            self.ticks[request.machine[layout.T]] += 1
+        if self.dry and request.operation != COMPARE and self.kinds["parted"] % TRIED == 0:
+            self.kinds["parted, tried on the reference"] += 1
+            if tried(request) != answer:
+                print(f"the reference says {tried(request)} of {request.name}, not {answer}")
+                self.bad = 1
+
+
 def main(arguments):
     """Reads the arguments; see the head of this file."""
-    count, seed = [int(text) for text in arguments[:2]] + [COUNT, SEED][len(arguments[:2]):]
-    answers, points, ticks, passes = Counter(), Counter(), Counter(), Counter()
+    options = read_arguments(arguments, COUNT, SEED)
+    pairs, met = all_requests(options.count, options.seed), Met(options.dry)
 
-    def counted(request, answer):
-        if request.operation != COMPARE:
-            passes["parted"] += 1
-            return
-        passes["alike"] += answer.alike
-        if answer.number:
-            answers[f"refused by {answer.number}"] += 1
-            return
-        answers["yes" if answer.equal else "no"] += 1
-        ticks[request.machine[layout.T]] += 1
-        if not answer.equal:
-            points[" ".join(map(str, failing(request)))] += 1
-
-    build(COMPARES)
-    status = compared(COMPARES, all_requests(count, seed), counted)
-    print(f"compares: {sum(answers.values())}, {counts(answers)}; "
-          f"{len(ticks)} values of T from {min(ticks)} to {max(ticks)}")
-    print(f"points that fail: {counts(points)}\npairs of passes: {counts(passes)}")
-    return status
+    if not options.dry:
+        build(COMPARES)
+    status = compared(COMPARES, pairs, met.count, options.dry) or met.bad
+    met.kinds["values of T"] = len(met.ticks)
+    print(f"met: {counts(met.kinds)}\nT from {min(met.ticks)} to {max(met.ticks)}")
+    return met_seldom(met.kinds, PROMISED, options.count, COUNT) or status
 
 
 if __name__ == "__main__":

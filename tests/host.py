@@ -1,11 +1,12 @@
 """Compares the example host in C with the reference, tries the header from C and C++, and links the library alone.
 
-    python3 tests/host.py [COUNT] [SEED]
+    python3 tests/host.py [--dry] [COUNT] [SEED]
 
 Run from the repository root. Builds examples/ring_host.c with include/karvelorn.h and
 target/staticlib/libhost.a, with the address and undefined-behaviour sanitizers on and
 tests/host_guard.c before each call, and rings the files of tests/ring_files.py, COUNT of
 them at random: the host must print what the reference does, and the sanitizers nothing.
+Fails too where the files met something too seldom. With --dry nothing is built or run.
 """
 
 import os
@@ -14,7 +15,7 @@ import subprocess
 import sys
 from itertools import chain
 
-from library import LIBRARY, ROOT, library_is_new
+from library import LIBRARY, ROOT, library_is_new, read_arguments
 from ring_files import at_random, by_hand
 from ringing import compared
 
@@ -63,11 +64,12 @@ def build():
 
 def main(arguments):
     """Reads the arguments; see the head of this file."""
-    count, seed = [int(text) for text in arguments[:2]] + [COUNT, SEED][len(arguments[:2]):]
-    if not header_compiles() or not build():
+    options = read_arguments(arguments, COUNT, SEED)
+    if not options.dry and not (header_compiles() and build()):
         print("host: a compiler refused")
         return 1
-    return compared("host", HOST, chain(by_hand(), at_random(count, seed)), NO_LEAKS)
+    files = chain(by_hand(), at_random(options.count, options.seed))
+    return compared("host", HOST, files, options, NO_LEAKS)
 
 
 if __name__ == "__main__":

@@ -26,7 +26,7 @@ def extremes(width):
     return sorted(value for value in near if value < 1 << width)
 
 
-EXTREMES = {width: extremes(width) for width in (4, 6, 7, 8, 11, 12, 20, 24, 28, 30)}
+EXTREMES = {width: extremes(width) for width in (4, 6, 7, 8, 11, 12, 16, 20, 24, 28, 30)}
 
 
 def biased(chance, width):
@@ -180,7 +180,9 @@ def powers(chance, x):
 
 
 MODIFIER_SHAPES = (alike, unit, near_threshold, near_sum, near_coefficient, powers)
-MMODES = [code << 4 | scales for code, scales in pairs_of(FORMULAS, range(16))]
+# A turn of 00111 needs its delay unit's word too: whole passes try it.
+FUNCTIONS = [code for code in FORMULAS if code != layout.INVOKE_DELAY_UNIT]
+MMODES = [code << 4 | scales for code, scales in pairs_of(FUNCTIONS, range(16))]
 
 
 def modifier_request(chance, number):

@@ -16,6 +16,7 @@ ROOT = os.path.dirname(os.path.dirname(os.path.abspath(__file__)))
 sys.path.insert(0, ROOT)
 
 from reference import layout  # noqa: E402
+from reference.faults import NAMES, switched_on  # noqa: E402
 
 BATCH, SHOWN, WORDS_SHOWN = 500, 5, 8
 LIBRARY = os.path.join(ROOT, "target", "staticlib", "libhost.a")
@@ -102,16 +103,80 @@ def kept(test, number, request):
     return path
 
 
-def compared(test, pairs, count):
-    """Asks all pairs of request and answer; count sees each. Prints and gives the exit status."""
-    asked, differ = 0, 0
+def compared(test, pairs, count, dry=False):
+    """Asks all pairs of request and answer; count sees each. Prints and gives the exit status.
+
+    A dry run asks nothing: it makes the requests and the reference's answers, as bytes too."""
+    asked, differ, size = 0, 0, 0
     while batch := list(islice(pairs, BATCH)):
-        differ += differing(test, batch, asked, differ)
+        if dry:
+            size += sum(len(test.request_bytes(request)) + len(test.answer_bytes(answer))
+                        for request, answer in batch)
+        else:
+            differ += differing(test, batch, asked, differ)
         asked += len(batch)
         for request, answer in batch:
             count(request, answer)
-    print(f"{test.name}: {asked} compared, {differ} differ")
+    if dry:
+        print(f"{test.name}: {asked} made and not asked, {size} bytes")
+    else:
+        print(f"{test.name}: {asked} compared, {differ} differ")
     return 1 if differ else 0
+
+
+class Options(NamedTuple):
+    """What a test is told: whether its run is dry, a fault of the reference, count and seed."""
+
+    dry: bool
+    fault: str
+    count: int
+    seed: int
+
+
+def read_arguments(arguments, count, seed):
+    """The options [--dry] [--fault NAME] [COUNT] [SEED]; the numbers have defaults."""
+    dry, fault = "--dry" in arguments, None
+    numbers = [text for text in arguments if text != "--dry"]
+    if "--fault" in numbers:
+        at = numbers.index("--fault")
+        fault, numbers[at:at + 2] = (numbers[at + 1:] + [""])[0], []
+        if fault not in NAMES:
+            sys.exit("Faults: " + ", ".join(NAMES))
+    numbers = [int(text) for text in numbers[:2]]
+    return Options(dry, fault, *numbers, *[count, seed][len(numbers):])
+
+
+def run(test, options, asked, pairs, answered):
+    """Runs a test by its options and gives the exit status: asked() asks everything.
+
+    A dry run with a fault says in how many answers the fault shows: pairs are made without
+    it, and answered(request) is the reference's answer with it."""
+    if not options.dry:
+        build(test)
+    if not options.fault:
+        return asked()
+    if not options.dry:
+        with switched_on(options.fault):
+            return asked()
+    showing = 0
+    for request, answer in pairs:
+        with switched_on(options.fault):
+            showing += answered(request) != answer
+    print(f"fault {options.fault} shows in {showing} of {options.count} answers")
+    return 0 if showing else 1
+
+
+def met_seldom(met, promised, asked, whole):
+    """Prints each promised kind that was met too seldom; gives the exit status.
+
+    What is promised goes for so many requests as the whole; fewer are not judged."""
+    if asked < whole:
+        print(f"not judged by what was met: fewer than {whole}")
+        return 0
+    seldom = {kind: least for kind, least in promised.items() if met[kind] * whole < least * asked}
+    for kind, least in seldom.items():
+        print(f"FAIL: {kind} met {met[kind]} times in {asked}, promised {least} in {whole}")
+    return 1 if seldom else 0
 
 
 # Words by name
@@ -127,18 +192,24 @@ def word_name(place):
     if place < layout.GENERATOR_THIS:
         m, register = divmod(place - layout.MODIFIERS_AT, layout.MODIFIER_WORDS)
         return f"{layout.MODIFIER_NAMES[register]} of modifier {m}"
-    if layout.DX <= place < layout.MACHINE_WORDS:
+    if layout.DX <= place < layout.DELAY_UNITS_AT:
         return CONTROL_NAMES[place - layout.DX]
+    if layout.DELAY_UNITS_AT <= place < layout.MACHINE_WORDS:
+        u, register = divmod(place - layout.DELAY_UNITS_AT, layout.DELAY_UNIT_WORDS)
+        return f"{layout.DELAY_UNIT_NAMES[register]} of delay unit {u}"
     return f"word {place}"
 
 
 def unit_words(machine, place):
     """The words of the unit that a place belongs to, as they were before the call."""
-    if place >= layout.GENERATOR_THIS or len(machine) != layout.MACHINE_WORDS:
+    between = layout.GENERATOR_THIS <= place < layout.DELAY_UNITS_AT
+    if between or len(machine) != layout.MACHINE_WORDS:
         return ""
     at, size = (0, layout.GENERATOR_WORDS)
     if place >= layout.MODIFIERS_AT:
         at, size = layout.MODIFIERS_AT, layout.MODIFIER_WORDS
+    if place >= layout.DELAY_UNITS_AT:
+        at, size = layout.DELAY_UNITS_AT, layout.DELAY_UNIT_WORDS
     first = place - (place - at) % size
     return f", before {machine[first:first + size]}"
 

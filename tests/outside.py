@@ -2,7 +2,7 @@
 
     python3 tests/outside.py [PROGRAM]
 
-target/bin/ring must be built. It runs in a stack of 256 kB. A failed write must end it with one line on
+target/bin/ring must be built. It runs in a stack of 512 kB. A failed write must end it with one line on
 standard error and no later line; a failed read must have it print nothing, since a part of a file may be
 another file. What the machine cannot do is left out with a sentence.
 """

@@ -1,13 +1,18 @@
 """The requests of tests/passes.py: chains of passes on one machine, with refused ones between.
 
 Registers have a bias to extremes. Each request comes with the reference's answer;
-the machine that it leaves goes into the next request of its chain.
+the machine and the delay memory that it leaves go into the next request of its chain.
+Every other chain is one of delay units: T is 10 or more, and it is so long that words
+come back.
 """
 
 import random
 from itertools import chain
 from typing import NamedTuple
 
+from delay_requests import (Memory, bad_memory, changed_words, drawn_memory, memory_words,
+                            put_invoking, put_stray, put_units, unit_damages, with_bad_line,
+                            with_unit_twice, with_words)
 from leaf_requests import biased, generator_request, modifier_request
 from reference import layout
 from reference.machine import below_t_in, fresh, run_pass
@@ -26,17 +31,19 @@ class Request(NamedTuple):
     order: list
     items: list
     places: list
+    memory: Memory
     name: str
 
 
 class Answer(NamedTuple):
-    """What is answered and left."""
+    """What is answered and left; of delay memory, the slots that changed and their words."""
 
     number: int
     read: int
     written: int
     machine: list
     places: list
+    changed: list
 
 
 # Generators: each kind of machine has its run modes and how many words it shares
@@ -119,6 +126,8 @@ def whole_machine(chance):
     machine = [biased(chance, 20) for _ in range(layout.MACHINE_WORDS)]
     put_generators(chance, machine, layout.GENERATORS)
     put_modifiers(chance, machine, layout.MODIFIERS)
+    put_units(chance, machine)
+    put_stray(chance, machine, 0)
     put_controls(chance, machine, 1)
     return machine
 
@@ -131,14 +140,23 @@ def machine_for(chance, pool, t):
     put_generators(chance, machine, t)
     put_modifiers(chance, machine, t // 2)
     put_controls(chance, machine, t)
+    put_units(chance, machine)
+    put_invoking(chance, machine, t)
     return machine
 
 
 def ticks(chance, number):
-    """T: every fourth machine takes the next of 1..256, the others have few."""
-    if number % 4 == 0:
-        return number // 4 % 256 + 1
-    return chance.choice((1, 2, 3, 4, chance.randint(5, 16), chance.randint(8, 32)))
+    """T: every third machine takes the next of 1..256, the others have few."""
+    if number % 3 == 0:
+        return number // 3 * 37 % 256 + 1
+    return chance.choice((1, 2, 3, 4, chance.randint(4, 16), chance.randint(8, 32)))
+
+
+def delay_ticks(chance):
+    """T for a chain of delay units: mostly about where one unit more acts; now and then all act."""
+    if not chance.randrange(24):
+        return chance.choice((133, 134, 256, chance.randint(130, 256)))
+    return chance.choice((10, 11, 13, 14, 17, 18, chance.randint(10, 40), chance.randint(18, 40)))
 
 
 # Orders and lists that are good
@@ -165,16 +183,17 @@ def good_lists(chance, machine):
     return [drawn(chance, count + chance.choice((0, 0, 1, 9))) for count in needed]
 
 
-def good_request(chance, machine, name="good"):
-    """A pass that no question refuses, if the machine is good."""
+def good_request(chance, machine, memory, name="good"):
+    """A pass that no question refuses, if the machine and the memory are good."""
     items, places = good_lists(chance, machine)
-    return Request(PASS, machine, good_order(chance, machine[layout.T]), items, places, name)
+    order = good_order(chance, machine[layout.T])
+    return Request(PASS, machine, order, items, places, memory, name)
 
 
 # Damage to a machine: a place, the bits of the word that stay, and those that are set
 
-def unit_damages():
-    """Each register of some units too wide by its next bit, or by the highest."""
+def register_damages():
+    """Each register of some generators and modifiers too wide: its next bit, or the highest."""
     for at, step, count, names, widths in (
             (0, layout.GENERATOR_WORDS, layout.GENERATORS,
              layout.GENERATOR_NAMES, layout.GENERATOR_WIDTHS),
@@ -220,24 +239,28 @@ def other_damages():
             yield f"word {place} = {value}", place, 0, value
 
 
-DAMAGES = list(chain(unit_damages(), mode_damages(), other_damages()))
-LENGTHS = (0, 1, 4112, 4113, 4114, 4118, 4120, 4121, 8238)
+DAMAGES = list(chain(register_damages(), mode_damages(), other_damages(), unit_damages()))
+# Mixed, so that few requests meet all kinds.
+random.Random(1978).shuffle(DAMAGES)
+LENGTHS = (0, 1, 4112, 4113, 4114, 4118, 4119, 4120, 4342, 4344, 4345, 8686)
 
 
-def damaged_request(chance, machine, number):
-    """The next damage to a copy of the machine, all else good."""
+# Each kind of fault changes a good request, which it gets with a number, into one that a question
+# refuses, or leaves it as it is where that cannot be.
+
+def damaged(chance, request, number):
+    """The next damage to a copy of the machine."""
     name, place, keep, put = DAMAGES[number % len(DAMAGES)]
-    request = good_request(chance, machine, name)
-    other = list(machine)
+    other = list(request.machine)
     other[place] = other[place] & keep | put
-    return request._replace(machine=other)
+    return request._replace(machine=other, name=name)
 
 
-def wrong_length(chance, machine, number):
-    """A run of another length, all else good."""
+def wrong_length(chance, request, number):
+    """A run of another length."""
     length = LENGTHS[number % len(LENGTHS)]
-    request = good_request(chance, machine, f"{length} words")
-    return request._replace(machine=(machine + machine)[:length])
+    other = (request.machine + request.machine)[:length]
+    return request._replace(machine=other, name=f"{length} words")
 
 
 # Orders and lists that are not good
@@ -280,34 +303,58 @@ def alike(chance, t, order):
 BAD_ORDERS = (short, long, empty, doubled, too_high, alike)
 
 
-def bad_order(chance, machine, number):
-    """A pass by the next kind of bad order."""
+def bad_order(chance, request, number):
+    """The next kind of bad order."""
     change = BAD_ORDERS[number % len(BAD_ORDERS)]
-    request = good_request(chance, machine, f"order {change.__name__}")
-    return request._replace(order=change(chance, machine[layout.T], request.order))
+    order = change(chance, len(request.order), request.order)
+    return request._replace(order=order, name=f"order {change.__name__}")
 
 
-def bad_lists(chance, machine, number):
+def bad_lists(chance, request, number):
     """Read items or written places that may be too few: one less than needed, or none."""
-    request = good_request(chance, machine)
     changes = {}
     if number % 3 != 1:
-        left = below_t_in(machine, layout.READ_DATA) - 1
+        left = below_t_in(request.machine, layout.READ_DATA) - 1
         changes["items"] = request.items[:max(chance.choice((left, left, 0)), 0)]
     if number % 3 != 0:
-        left = below_t_in(machine, layout.WRITE_DATA) - 1
+        left = below_t_in(request.machine, layout.WRITE_DATA) - 1
         changes["places"] = request.places[:max(chance.choice((left, left, 0)), 0)]
     return request._replace(name="short " + " and ".join(changes), **changes)
 
 
-def many_faults(chance, machine, number):
-    """Several things at once, so that the sequence of the questions counts."""
-    request = damaged_request(chance, machine, chance.randrange(1 << 20))
-    order, lists = bad_order(chance, machine, number), bad_lists(chance, machine, number)
-    parts = (("machine", request.machine), ("machine", machine + [0]), ("order", order.order),
-             ("items", lists.items), ("places", lists.places))
-    changes = dict(chance.sample(parts, 3))
-    return good_request(chance, machine, "several: " + ", ".join(changes))._replace(**changes)
+# Delay memories and delay units that are not good
+
+def spoilt_memory(chance, request, number):
+    """A delay memory of another length, or with a word too wide."""
+    memory, name = bad_memory(chance, request.memory, number)
+    return request._replace(memory=memory, name=name)
+
+
+def spoilt_line(chance, request, number):
+    """A line that is named and acts doesn't fit, if there is one."""
+    other = with_bad_line(chance, request.machine)
+    return request._replace(machine=other, name="a bad line") if other else request
+
+
+def named_twice(chance, request, number):
+    """One unit is named twice, if there are two modifiers."""
+    other = with_unit_twice(chance, request.machine)
+    return request._replace(machine=other, name="a unit twice") if other else request
+
+
+# Several things at once, so that the sequence of the questions counts. A machine's words are
+# damaged and its length changed after all else, which looks at its T and its units.
+DELAY_FAULTS = (spoilt_memory, spoilt_line, named_twice)
+ALL_FAULTS = DELAY_FAULTS + (bad_lists, bad_order, damaged, wrong_length)
+
+
+def faulty(chance, request, faults):
+    """A request with some faults at once, whichever of their kinds come."""
+    names = []
+    for fault in sorted(faults, key=ALL_FAULTS.index):
+        request = fault(chance, request, chance.randrange(1 << 20))
+        names.append(request.name)
+    return request._replace(name="; ".join(names))
 
 
 # The whole of the requests
@@ -316,38 +363,65 @@ def fresh_request(chance, machine):
     """A fresh machine on a run of any contents, now and then of another length."""
     length = chance.choice((layout.MACHINE_WORDS,) * 3 + LENGTHS)
     dirty = [word ^ chance.getrandbits(32) for word in (machine + machine)[:length]]
-    return Request(FRESH, dirty, [], [], [], f"fresh, {length} words")
+    return Request(FRESH, dirty, [], [], [], Memory(0, 0, {}), f"fresh, {length} words")
 
 
 def answered(request):
     """The reference's answer to a request."""
     if request.operation == FRESH:
         number, machine = fresh(request.machine)
-        return Answer(number, 0, 0, machine, [])
-    return Answer(*run_pass(*request[1:5]))
+        return Answer(number, 0, 0, machine, [], [])
+    words = memory_words(request.memory)
+    *answer, words_after = run_pass(*request[1:5], words)
+    return Answer(*answer, changed_words(words, words_after))
 
 
-def refused_requests(chance, machine, number):
+def refused_requests(chance, machine, memory, number):
     """What a chain has beside its good passes."""
-    yield damaged_request(chance, machine, number)
-    yield chance.choice((bad_order, bad_lists, bad_lists))(chance, machine, number)
+    def changed(fault, its_number):
+        return fault(chance, good_request(chance, machine, memory), its_number)
+
+    yield changed(damaged, number)
+    yield changed(chance.choice((bad_order, bad_lists, bad_lists)), number)
     if number % 4 == 1:
-        yield wrong_length(chance, machine, number // 4)
+        yield changed(wrong_length, number // 4)
     if number % 4 == 2:
-        yield many_faults(chance, machine, number)
+        yield faulty(chance, good_request(chance, machine, memory), chance.sample(ALL_FAULTS, 3))
     if number % 8 == 3:
         yield fresh_request(chance, machine)
 
 
-def chained(chance, machine, number):
-    """The requests of one machine with their answers: good passes in a row, then refused ones."""
-    for _ in range(chance.choice((1, 3, 5, 8))):
-        request = good_request(chance, machine)
+def delay_refusals(chance, machine, memory, number):
+    """What a chain of delay units has beside these: questions 10, 11 and 12, alone and together."""
+    for fault in DELAY_FAULTS:
+        yield fault(chance, good_request(chance, machine, memory), number)
+    several = chance.choice((ALL_FAULTS, DELAY_FAULTS, DELAY_FAULTS))
+    several = chance.sample(several, chance.choice((2, 2, 3)))
+    yield faulty(chance, good_request(chance, machine, memory), several)
+
+
+def chained(chance, machine, passes, refusals, number):
+    """The requests of one machine and one memory: good passes in a row, then refused ones."""
+    memory = drawn_memory(chance)
+    for _ in range(passes):
+        request = good_request(chance, machine, memory)
         answer = answered(request)
         yield request, answer
-        machine = answer.machine
-    for request in refused_requests(chance, machine, number):
-        yield request, answered(request)
+        machine, memory = answer.machine, with_words(memory, dict(answer.changed))
+    for make in refusals:
+        for request in make(chance, machine, memory, number):
+            yield request, answered(request)
+
+
+def chain_of(chance, pool, number):
+    """The next chain: by turns one with any T, and one of delay units."""
+    refusals = refused_requests, delay_refusals
+    if number % 2:
+        machine = machine_for(chance, pool, delay_ticks(chance))
+        return chained(chance, machine, chance.choice((6, 10, 16, 24)), refusals, number // 2)
+    machine = machine_for(chance, pool, ticks(chance, number // 2))
+    refusals = refusals if number % 8 == 0 else refusals[:1]
+    return chained(chance, machine, chance.choice((1, 3, 5, 8)), refusals, number // 2)
 
 
 def all_requests(count, seed):
@@ -356,7 +430,7 @@ def all_requests(count, seed):
     pool = [whole_machine(chance) for _ in range(12)]
     made, number = 0, 0
     while made < count:
-        for pair in chained(chance, machine_for(chance, pool, ticks(chance, number)), number):
+        for pair in chain_of(chance, pool, number):
             if made < count:
                 yield pair
                 made += 1

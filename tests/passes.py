@@ -1,36 +1,78 @@
 """Compares whole passes, called from C, with the reference.
 
-    python3 tests/passes.py [--fault NAME] [COUNT] [SEED]
+    python3 tests/passes.py [--dry] [--fault NAME] [COUNT] [SEED]
 
 Run from the repository root. Builds tests/passes.c with include/karvelorn.h and
 target/staticlib/libhost.a (which it has rt make where it is missing or older than the
-code) and compares each answer, each word of the machine and each written place. With
---fault the reference has one fault of reference/faults.py on: the comparison must fail.
+code) and compares each answer, each word of the machine, each written place and each
+word of delay memory. Fails too where the requests met something too seldom. With --fault
+the reference has one fault of reference/faults.py on: the comparison must fail. With
+--dry nothing is built or asked: it says what the requests met, and with --fault in how
+many answers the fault shows.
 """
 
 import struct
 import sys
 from collections import Counter
 
-from library import (Test, build, compared, counts, machine_differences, packed, show_words,
-                     unpacked)
-from pass_requests import Answer, all_requests
+from library import (Test, compared, counts, machine_differences, met_seldom, packed,
+                     read_arguments, run, show_words, unpacked)
+
+from delay_requests import Echoes, delay_events, question_events
+from pass_requests import PASS, Answer, all_requests, answered
 from reference import layout
-from reference.faults import NAMES, switched_on
 
-COUNT, SEED = 20000, 1978
-HEAD, COUNTS = struct.Struct("<5I"), struct.Struct("<IQQ")
+COUNT, SEED = 21000, 1978
+HEAD, COUNTS = struct.Struct("<8I"), struct.Struct("<IQQ")
+# So many changed words of delay memory are in an answer: there are 32 units.
+CHANGED = layout.DELAY_UNITS
 
+# How often each kind is met at least, in COUNT requests.
+PROMISED = {
+    "passes": 20000, "passes done": 12000, "values of T": 200, "delay memory changed": 5000,
+    # Units that are named.
+    "line": 9000, "table": 4000, "rounded table": 4000, "inactive unit": 4000,
+    "unit out of range": 8000, "unit named above T div 2 too": 5000,
+    "line, a word given": 8000, "table, a word given": 4000, "rounded table, a word given": 4000,
+    "line, a word came back": 3000, "line of one slot": 1500, "line, Y from Z to 0": 3000,
+    "line, slot of another": 300, "table, address past the end": 2000,
+    "table, answer of this pass": 60, "rounded table, rounded up": 1500,
+    "rounded table, shift 0 and a low bit": 400,
+    # Units that are not.
+    "unit that no modifier names": 2000, "line that doesn't fit, not named": 400,
+    # Refusals, by one question and by several.
+    **{f"refused by {number}": least for number, least in
+       ((1, 400), (2, 1000), (5, 200), (6, 200), (7, 150), (8, 80), (10, 1000), (11, 500),
+        (12, 600))},
+    "refused by 2 for a delay unit": 150, "10 by too few words": 200, "10 by too many words": 150,
+    "10 by a word too wide": 400, "11 by X and Z": 150, "11 by Y and Z": 150,
+    "12 of a line": 100, "12 of a table": 40, "12 of a rounded table": 40,
+    "12 of a unit that acts as inactive": 200,
+    "10 with 11": 40, "10 with 12": 100, "11 with 12": 40, "10 with 11 with 12": 50,
+    "10 after another": 100, "11 after another": 40, "12 after another": 60,
+}
+
+
+# Requests and answers as bytes
 
 def request_bytes(request):
     """A request as the program reads it."""
-    runs = request[1:5]
-    return HEAD.pack(request.operation, *map(len, runs)) + b"".join(map(packed, runs))
+    runs, (length, fill, others) = request[1:5], request.memory
+    slots = [word for pair in sorted(others.items()) for word in pair]
+    head = HEAD.pack(request.operation, *map(len, runs), length, fill, len(others))
+    return head + b"".join(map(packed, runs)) + packed(slots)
+
+
+def changed_bytes(changed):
+    """The changed words of delay memory: how many, then pairs of slot and word, filled up by 0."""
+    pairs = [word for pair in changed[:CHANGED] for word in pair]
+    return packed([len(changed), *pairs, *[0] * (2 * CHANGED - len(pairs))])
 
 
 def answer_bytes(answer):
     """An answer as the program writes it."""
-    return COUNTS.pack(*answer[:3]) + packed(answer.machine) + packed(answer.places)
+    return (COUNTS.pack(*answer[:3]) + packed(answer.machine) + packed(answer.places)
+            + changed_bytes(answer.changed))
 
 
 def answer_in(got, expected):
@@ -38,7 +80,18 @@ def answer_in(got, expected):
     if len(got) < COUNTS.size or len(got) != len(answer_bytes(expected)):
         return None
     words, length = unpacked(got[COUNTS.size:]), len(expected.machine)
-    return Answer(*COUNTS.unpack(got[:COUNTS.size]), words[:length], words[length:])
+    places_end = length + len(expected.places)
+    count, *pairs = words[places_end:]
+    changed = list(zip(pairs[0::2], pairs[1::2]))[:count]
+    return Answer(*COUNTS.unpack(got[:COUNTS.size]), words[:length], words[length:places_end],
+                  changed)
+
+
+def memory_differences(expected, got):
+    """The words of delay memory that differ, among those that either says have changed."""
+    one, other = dict(expected), dict(got)
+    return [(f"slot {slot} of delay memory, changed", one.get(slot, "not"), other.get(slot, "not"))
+            for slot in sorted({*one, *other}) if one.get(slot) != other.get(slot)]
 
 
 def show(request, expected, got):
@@ -46,48 +99,99 @@ def show(request, expected, got):
     machine = request.machine
     t = machine[layout.T] if len(machine) > layout.T else "none"
     print(f"  T {t}, order {request.order}\n  items {request.items}\n  places {request.places}")
+    print(f"  delay memory of {request.memory.length} words")
     answer = answer_in(got, expected)
     if answer is None:
         print("  the program gave no whole answer")
         return
     for title, given in (("reference", expected), ("program", answer)):
-        print(f"  {title}: number {given.number}, read {given.read}, written {given.written}")
+        print(f"  {title}: number {given.number}, read {given.read}, written {given.written}, "
+              f"{len(given.changed)} words of delay memory changed")
     show_words(machine_differences(machine, expected.machine, answer.machine)
                + [(f"written place {i}", a, b)
-                  for i, (a, b) in enumerate(zip(expected.places, answer.places)) if a != b])
+                  for i, (a, b) in enumerate(zip(expected.places, answer.places)) if a != b]
+               + memory_differences(expected.changed, answer.changed))
 
 
 PASSES = Test("passes", request_bytes, answer_bytes, show)
 
 
-def asked(count, seed):
-    """Asks everything; prints the outcome and gives the exit status."""
-    numbers, ticks = Counter(), Counter()
+# What the requests met
 
-    def counted(request, answer):
-        numbers[answer.number] += 1
-        if not answer.number and request.order:
-            ticks[request.machine[layout.T]] += 1
+def memory_fault(memory):
+    """What is wrong with a delay memory, if anything is."""
+    if memory.length != layout.MEMORY_WORDS:
+        return "too few words" if memory.length < layout.MEMORY_WORDS else "too many words"
+    wide = any(word >> layout.MEMORY_WIDTH for word in memory.others.values())
+    return "a word too wide" if wide else None
 
-    status = compared(PASSES, all_requests(count, seed), counted)
-    print(f"answers {counts(numbers)}; {len(ticks)} values of T from {min(ticks)} to {max(ticks)}")
-    return status
+
+def delay_questions(request):
+    """Which of 10, 11 and 12 would be answered no, each by itself."""
+    machine = request.machine
+    failed = [10] if memory_fault(request.memory) else []
+    if len(machine) == layout.MACHINE_WORDS and 1 <= machine[layout.T] <= layout.T_MOST:
+        events = list(question_events(machine))
+        failed += [number for number in (11, 12)
+                   if any(event.startswith(str(number)) for event in events)]
+    return failed
+
+
+class Met:
+    """Counts what the requests met."""
+
+    def __init__(self):
+        self.kinds, self.ticks = Counter(), Counter()
+        self.left, self.echoes = None, Echoes()
+
+    def count(self, request, answer):
+        """Counts a request with its answer."""
+        if request.operation != PASS:
+            self.kinds["fresh machines"] += 1
+            return
+        self.kinds["passes"] += 1
+        if answer.number:
+            self.count_refused(request, answer.number)
+            return
+        machine, after = request.machine, answer.machine
+        self.kinds["passes done"] += 1
+        self.kinds["delay memory changed"] += bool(answer.changed)
+        self.ticks[machine[layout.T]] += 1
+        self.kinds.update(delay_events(machine, after))
+        if machine is not self.left:
+            self.echoes = Echoes()
+        self.kinds["line, a word came back"] += self.echoes.came_back(machine, after)
+        self.left = after
+
+    def count_refused(self, request, number):
+        """Counts a refused pass: by which question, and which of 10, 11, 12 it fails as well."""
+        self.kinds[f"refused by {number}"] += 1
+        self.kinds["refused by 2 for a delay unit"] += number == 2 and "delay unit" in request.name
+        if number == 10:
+            self.kinds["10 by " + memory_fault(request.memory)] += 1
+        if number in (11, 12):
+            self.kinds.update(event for event in question_events(request.machine)
+                              if event.startswith(str(number)))
+        failed = delay_questions(request)
+        if len(failed) > 1 and number >= 10:
+            self.kinds[" with ".join(map(str, failed))] += 1
+        for later in failed:
+            self.kinds[f"{later} after another"] += number < 10
 
 
 def main(arguments):
     """Reads the arguments; see the head of this file."""
-    fault = None
-    if arguments[:1] == ["--fault"]:
-        fault, arguments = (arguments + [None])[1], arguments[2:]
-        if fault not in NAMES:
-            print(__doc__ + "\nFaults: " + ", ".join(NAMES))
-            return 2
-    count, seed = [int(text) for text in arguments[:2]] + [COUNT, SEED][len(arguments[:2]):]
-    build(PASSES)
-    if not fault:
-        return asked(count, seed)
-    with switched_on(fault):
-        return asked(count, seed)
+    options = read_arguments(arguments, COUNT, SEED)
+    pairs = all_requests(options.count, options.seed)
+
+    def asked():
+        met = Met()
+        status = compared(PASSES, pairs, met.count, options.dry)
+        met.kinds["values of T"] = len(met.ticks)
+        print(f"met: {counts(met.kinds)}\nT from {min(met.ticks)} to {max(met.ticks)}")
+        return met_seldom(met.kinds, PROMISED, options.count, COUNT) or status
+
+    return run(PASSES, options, asked, pairs, answered)
 
 
 if __name__ == "__main__":

@@ -7,31 +7,56 @@ would take the reference too long has it worked out here.
 
 import os
 import random
+from collections import Counter
 from typing import NamedTuple
 
 # First, since it makes the reference known.
 from library import ROOT
 
+from delay_requests import (Echoes, delay_events, put_invoking, put_stray, put_units,
+                            with_bad_line, with_unit_twice)
 from leaf_requests import biased
 from pass_requests import DAMAGES, put_controls, put_generators, put_modifiers
 from reference import layout
 from reference.cases.benches import NOT_FITTING, TONE
+from reference.delay import units_named
 from reference.machine import fresh_machine
 from reference.ring import FILE_MOST, PASSES_MOST, ring
 from update_requests import REFUSED, commands_of, put_lingering, put_stopped, put_ticks
 
 
 class File(NamedTuple):
-    """A bench file: its name for people, its bytes, and what it prints."""
+    """A bench file: its name for people, its bytes, what it prints, what its passes met."""
 
     name: str
     text: bytes
     printed: bytes
+    met: Counter
+    at_random: bool = False
 
 
-def file(name, text):
+def file(name, text, at_random=False):
     """A file that prints what the reference says."""
-    return File(name, text, ring(text))
+    met, echoes = Counter(), Echoes()
+
+    def seen(before, after):
+        met.update(delay_events(before, after))
+        met["line, a word came back"] += echoes.came_back(before, after)
+
+    return File(name, text, ring(text, seen), met, at_random)
+
+
+def known(name, text, printed):
+    """A file whose lines are known; the reference must give the same."""
+    made = file(name, text)
+    assert made.printed == printed, f"{name}: the reference prints something else"
+    return made
+
+
+def silence(passes, first=0):
+    """The lines of passes in which nothing is heard."""
+    return "".join(f"pass={(first + i) % (1 << 20)} left=0 right=0\n"
+                   for i in range(1, passes + 1)).encode()
 
 
 def bench(passes, words=(), commands=()):
@@ -49,28 +74,38 @@ EXAMPLE_PRINTED = b"pass=1 left=0 right=0\npass=2 left=131040 right=0\n"
 
 
 def shown():
-    """The example of the scope, printed as it stands there, and the bell."""
-    yield File("the example of the scope", EXAMPLE, EXAMPLE_PRINTED)
-    with open(os.path.join(ROOT, "examples", "bell.txt"), "rb") as bell:
-        yield file("the bell", bell.read())
+    """The example of the scope, printed as it stands there, the bell and the belfry."""
+    yield known("the example of the scope", EXAMPLE, EXAMPLE_PRINTED)
+    for name in ("bell", "belfry"):
+        with open(os.path.join(ROOT, "examples", name + ".txt"), "rb") as example:
+            made = file(f"the {name}", example.read())
+        assert name == "bell" or echo_lines(made.printed) > 200, "the belfry has no echo"
+        yield made
+
+
+def echo_lines(printed):
+    """In how many passes DAC 0 sounds after DAC 1, which has no echo, has died away."""
+    lines = printed.splitlines()
+    direct = max(at for at, line in enumerate(lines) if not line.endswith(b" right=0"))
+    return sum(b" left=0 " not in line for line in lines[direct + 1:])
 
 
 def written_out():
-    """The files of tests/files, each with the lines that it prints, written by hand: the reference must give the same."""
+    """The files of tests/files, each with the lines that it prints, written by hand."""
     folder = os.path.join(ROOT, "tests", "files")
-    for name in sorted(name[:-len(".bench")] for name in os.listdir(folder) if name.endswith(".bench")):
-        with open(os.path.join(folder, name + ".bench"), "rb") as text, open(os.path.join(folder, name + ".lines"), "rb") as lines:
-            tried = File(name, text.read(), lines.read())
-        assert ring(tried.text) == tried.printed, f"tests/files/{name}: the reference prints something else"
-        yield tried
+    ending = ".bench"
+    for name in sorted(name[:-len(ending)] for name in os.listdir(folder) if name.endswith(ending)):
+        path = os.path.join(folder, name)
+        with open(path + ".bench", "rb") as text, open(path + ".lines", "rb") as lines:
+            yield known(f"tests/files/{name}", text.read(), lines.read())
 
 
 # Files that fit, made by hand
 
-# Commands: the counter set to 16, Lingers at passes 3 and 4, one that is not built (DLY), TICKS of
-# 257, 256 and 2 processing ticks, GMODE of generator 0 to read data and to write data.
+# Commands: the counter set to 16, Lingers at passes 3 and 4, one that is not built (DLY with UU
+# 11), TICKS of 257, 256 and 2 processing ticks, GMODE of generator 0 to read and to write data.
 COUNTER_16, LINGER_3, LINGER_4 = 0x00010108, 0x00003110, 0x00004110
-NOT_BUILT, TICKS_257, TICKS_256, TICKS_2 = 0x00000080, 0x00100180, 0x000FF180, 0x00001180
+NOT_BUILT, TICKS_257, TICKS_256, TICKS_2 = 0x000000E0, 0x00100180, 0x000FF180, 0x00001180
 TO_READ, TO_WRITE = 0x0E000A00, 0x06000A00
 READ, WRITE = (10, 448), (10, 192)
 # N 10 leaves one update tick with T 1, N 9 none, N 8 a negative number.
@@ -80,7 +115,8 @@ ONE_TICK, NO_TICK, NEGATIVE_TICKS = (4114, 10), (4114, 9), (4114, 8)
 def ringing():
     """Files that ring to their end, or are refused in a pass or an update."""
     yield "no passes, nothing asked", bench(0, ((4113, 0), READ), (NOT_BUILT,))
-    yield "words on all sides", bench(3, ((0, 1), (4118, 1), (4096, 524288), (4097, 524287)))
+    yield "words on all sides", bench(3, ((0, 1), (4118, 1), (4119, 65535), (4342, 1048575),
+                                          (4096, 524288), (4097, 524287)))
     yield "both DACs at -1", bench(1, ((4096, 1048575), (4097, 1048575)))
     yield "the later word holds", bench(1, ((4113, 4294967295), (4113, 1), (4096, 5), (4096, 6)))
     yield "the later word is wide", bench(1, ((4113, 1), (4113, 4294967295)))
@@ -119,17 +155,112 @@ def ringing():
 
 def long_ringing():
     """As many passes as may be, and one sound for long: printed lines of every length."""
-    def silence(first):
-        return "".join(f"pass={(first + i) % (1 << 20)} left=0 right=0\n"
-                       for i in range(1, PASSES_MOST + 1)).encode()
-    yield File("65535 passes", bench(PASSES_MOST), silence(0))
-    yield File("65535 passes and a wrap", bench(PASSES_MOST, ((4115, 1000000),)), silence(1000000))
+    wrap = bench(PASSES_MOST, ((4115, 1000000),))
+    yield File("65535 passes", bench(PASSES_MOST), silence(PASSES_MOST), Counter())
+    yield File("65535 passes and a wrap", wrap, silence(PASSES_MOST, 1000000), Counter())
     yield file("a tone that turns", b"passes=400\nword=1:987654\nword=11:1\n" + TONE)
+
+
+# Echoes
+
+def click(unit=0, t=10, feedback=False):
+    """Words of a click of 1000 that modifier 0 sends to a delay unit in pass 1, and hears on DAC 0.
+
+    Generator 0 feeds DAC 0 from modifier-last word 0, where modifier 0 adds; the click is in
+    generator-last word 0. With feedback what comes back is sent again: M1 is one half, scale 1."""
+    words = [(9, 64), (10, 128), (2821, unit), (2823, 113 if feedback else 112), (3904, 1000)]
+    return words + [(2817, 1 << 28)] * feedback + [(layout.T, t)]
+
+
+def line(unit=0, x=0, y=0, z=0):
+    """Words of a delay line."""
+    at = layout.delay_unit_at(unit)
+    return [(at, x), (at + 1, y), (at + 2, z), (at + 3, layout.DELAY_LINE)]
+
+
+def clicks(passes, heard):
+    """The lines of passes with 1000 on DAC 0 in some."""
+    lines = silence(passes).splitlines(keepends=True)
+    for number in heard:
+        lines[number - 1] = b"pass=%d left=1000 right=0\n" % number
+    return b"".join(lines)
+
+
+def dly_x(unit, x):
+    """DLY: X, and Y cleared."""
+    return x << 16 | 0b00001 << 7 | 0b00 << 5 | unit
+
+
+def dly_y(unit, y):
+    """DLY: Y, by its one's complement."""
+    return 65535 - y << 16 | 0b00001 << 7 | 0b01 << 5 | unit
+
+
+def dly_z(unit, z, p=layout.DELAY_LINE):
+    """DLY: Z and P."""
+    return z << 16 | p << 12 | 0b00001 << 7 | 0b10 << 5 | unit
+
+
+def echoes():
+    """A click that comes back: sent in pass 1, given in pass Z+4, on DAC 0 in pass Z+6."""
+    for z, y, x in ((0, 0, 0), (0, 0, 65535), (1, 0, 5), (1, 1, 65534), (2, 1, 100), (5, 5, 65530),
+                    (30, 7, 40000), (200, 200, 0)):
+        passes = 3 * z + 14
+        words = line(0, x, y, z)
+        yield known(f"echo, Z {z} from Y {y} at {x}", bench(passes, click() + words),
+                    clicks(passes, [z + 6]))
+        again = [3 + (z + 3) * times for times in (1, 2, 3)]
+        yield known(f"echo again, Z {z} from Y {y} at {x}",
+                    bench(passes, click(feedback=True) + words), clicks(passes, again))
+    # Unit 31 acts from T 134 on, unit 1 from T 14 on.
+    for unit, t in ((31, 133), (31, 134), (1, 13), (1, 14), (0, 9), (0, 10)):
+        words = click(unit, t) + line(unit, z=2)
+        yield known(f"unit {unit} at T {t}", bench(12, words),
+                    clicks(12, [8] if t in (134, 14, 10) else []))
+    # By commands: the line is there from pass 2 on, so the click of pass 1 is lost.
+    setting = [dly_x(0, 9), dly_z(0, 3), dly_y(0, 2)]
+    yield known("echo by DLY, too late", bench(12, click(), setting), clicks(12, []))
+    # Generator 1, not modulated, adds 131040 from pass 1 on: sent in pass 2, given in 8, on DAC 0
+    # in 10.
+    tone = [(18, 4095), (20, 63), (21, 962)]
+    yield known("echo by DLY of a tone", bench(20, click() + tone, setting),
+                clicks(20, range(10, 21)).replace(b"left=1000", b"left=131040"))
+
+
+def delay_files():
+    """Delay units by words and by commands, and questions 11 and 12 at once and later."""
+    two = click() + [(2829, 0), (2831, 112)]
+    yield "11: past delay memory", bench(3, click() + line(x=65535, z=1))
+    yield "11: index past the line", bench(3, click() + line(y=1))
+    yield "11 not asked at T 9", bench(3, click(t=9) + line(y=1))
+    yield "11 not asked of a table", bench(3, click() + [(4119, 65535), (4121, 1), (4122, 10)])
+    yield "12: of an inactive unit", bench(3, two)
+    yield "12: of a line", bench(3, two + line())
+    yield "12: of a unit out of range", bench(3, click(31) + [(2829, 31), (2831, 112)])
+    yield "11 before 12", bench(3, two + line(y=1))
+    yield "7 before 11", bench(3, click() + line(y=1) + [(32, 448)])
+    yield "11 later", bench(9, click() + line(z=4), [LINGER_4, dly_z(0, 1), dly_y(0, 2)])
+    yield "11 later by X", bench(9, click() + line(z=4), [LINGER_3, dly_x(0, 65533)])
+    yield "12 later", bench(9, click() + line(z=4), [LINGER_3, 0x03800F01])
+    yield "3: DLY with UU 11", bench(9, click() + line(z=4), [LINGER_3, 0x000000E0])
+    for p in range(16):
+        yield f"DLY with P {p:04b}", bench(9, click() + line(z=1), [LINGER_3, dly_z(0, 1, p)])
+        yield f"P {p:04b}", bench(9, click() + line(z=1) + [(4122, p)])
+    yield "table by DLY", bench(20, click(feedback=True) + line(z=3), [
+        LINGER_4, dly_x(0, 65000), dly_z(0, 0, layout.TABLE)])
+    yield "all units", bench(9, [word for u in range(32) for word in line(u, 7 * u, 1, 2)]
+                             + [(2816 + 8 * u + 7, 112) for u in range(32)]
+                             + [(2816 + 8 * u + 5, u) for u in range(32)] + [(layout.T, 134)])
+    for place in range(4119, 4126):
+        for value in (15, 16, 65535, 65536, 1048575, 1048576, (1 << 32) - 1):
+            yield f"word {place} = {value}", bench(2, ((place, value),))
+            yield f"word {place + 217} = {value}", bench(2, ((place + 217, value),))
 
 
 # The limits of numbers and of the file
 
-NUMBERS = ((0, 1, 9, 10, 4118, 4119, 4120, 9999, 65535, 65536, 65537, 99999, 100000)
+NUMBERS = ((0, 1, 9, 10, 4118, 4119, 4120, 4341, 4342, 4343, 4344, 9999, 65535, 65536, 65537,
+            99999, 100000)
            + tuple(power + i for power in (1 << 31, 1 << 32, 1 << 33, 1 << 63, 1 << 64, 10 ** 10)
                    for i in (-1, 0, 1)) + (10 ** 20, 10 ** 40))
 
@@ -185,7 +316,7 @@ def not_fitting():
         yield f"after passes: {line!r}", b"passes=1\n" + line + b"\n"
         yield f"before passes: {line!r}", line + b"\n" + b"passes=1\n"
     yield "9 before 2", bench(1, ((4113, 0),)) + b"word=0:x\n"
-    yield "9 without passes to ring", bench(0, ((4119, 0),))
+    yield "9 without passes to ring", bench(0, ((4343, 0),))
     yield "a word after a command", bench(1, ((0, 0),), (COUNTER_16,)) + b"word=0:0\n"
     yield "passes last", SMALL.partition(b"\n")[2] + b"passes=1\n"
     yield "ends of line CR LF", SMALL.replace(b"\n", b"\r\n")
@@ -205,9 +336,10 @@ def not_fitting():
 def by_hand():
     """All files that are made by hand."""
     yield from shown()
-    for group in (ringing, numbers, sizes, not_fitting):
+    for group in (ringing, delay_files, numbers, sizes, not_fitting):
         for name, text in group():
             yield file(name, text)
+    yield from echoes()
     yield from long_ringing()
 
 
@@ -234,10 +366,37 @@ def without_data(machine):
             machine[place] = layout.with_run_mode(machine[place], layout.RUNNING_A)
 
 
+def put_heard(chance, machine, t):
+    """Some generators that feed a DAC take what a 00111 below T div 2 adds, if there are any."""
+    named = [layout.modifier_at(m) for m in range(t // 2)
+             if layout.function(machine[layout.modifier_at(m) + layout.MMODE])
+             == layout.INVOKE_DELAY_UNIT]
+    for g in range(t if named else 0):
+        at = layout.generator_at(g)
+        if layout.run_mode(machine[at + layout.GMODE]) == layout.WRITE_DAC and chance.randrange(2):
+            machine[at + layout.GFM] = 64 | machine[chance.choice(named) + layout.MSUM] & 63
+
+
+def put_delay_units(chance, machine, t):
+    """All delay units and what names them; now and then a pass is refused by 11 or 12."""
+    put_units(chance, machine)
+    if chance.randrange(2):
+        put_stray(chance, machine, t // 2)
+    put_invoking(chance, machine, t)
+    put_heard(chance, machine, t)
+    kind = chance.randrange(12)
+    if kind == 0:
+        return with_bad_line(chance, machine) or machine
+    if kind == 1:
+        return with_unit_twice(chance, machine) or machine
+    return machine
+
+
 def drawn_machine(chance):
     """A machine of few units, as many sums and any controls; mostly none reads or writes data."""
     machine = fresh_machine()
-    t = chance.choice((1, 2, 3, 4, 8, chance.randint(5, 16), chance.randint(8, 40)))
+    t = chance.choice((1, 2, 4, chance.randint(3, 9), chance.randint(5, 16), chance.randint(8, 40),
+                       chance.randint(10, 14), chance.randint(10, 20), chance.randint(14, 40)))
     if not chance.randrange(12):
         t = chance.randint(40, 180)
     put_generators(chance, machine, t)
@@ -256,6 +415,8 @@ def drawn_machine(chance):
         machine[layout.LINGER_PASS] = (machine[layout.COUNTER] + chance.randrange(4)) % (1 << 20)
     if chance.randrange(10):
         without_data(machine)
+    if chance.randrange(4):
+        machine = put_delay_units(chance, machine, t)
     return machine
 
 
@@ -270,11 +431,25 @@ def drawn_words(chance, machine):
     return words
 
 
+def drawn_dly(chance, machine):
+    """Some DLY for units that modifiers name: of these some lines then don't fit."""
+    named = units_named(machine) if machine[layout.T] <= layout.T_MOST else []
+    for _ in range(chance.choice((0, 0, 1, 3)) if named else 0):
+        u = chance.choice(named)
+        yield chance.choice((
+            dly_x(u, chance.choice((0, 65535, chance.randrange(1 << 16)))),
+            dly_y(u, chance.randrange(4)),
+            dly_z(u, chance.randrange(6), chance.choice(layout.DELAY_MODES)),
+            dly_z(u, chance.randrange(6))))
+
+
 def drawn_commands(chance, machine):
     """Commands about the counter; now and then one among them is refused."""
     count = chance.choice((0, 1, 3, chance.randrange(12), chance.randrange(60)))
     counter = (machine[layout.COUNTER] + 1) % (1 << 20)
     commands = commands_of(chance, count, counter, not chance.randrange(3))
+    for command in drawn_dly(chance, machine):
+        commands.insert(chance.randint(0, len(commands)), command)
     if not chance.randrange(5):
         commands.insert(chance.randint(0, len(commands)), chance.choice(REFUSED)(chance))
     return commands
@@ -287,7 +462,7 @@ def drawn_bench(chance):
     if not chance.randrange(10):
         _, place, keep, set_bits = chance.choice(DAMAGES)
         machine[place] = machine[place] & keep | set_bits
-    passes = chance.choice((0, 1, 2, 3, 5, 8, 8, 13, 21))
+    passes = chance.choice((0, 1, 2, 3, 5, 8, 13, 13, 21, 21))
     return bench(passes, drawn_words(chance, machine), commands)
 
 
@@ -344,4 +519,4 @@ def at_random(count, seed):
         if number % 3 == 2:
             damage = chance.choice(DAMAGE)
             text, name = damage(chance, text), damage.__name__
-        yield file(f"{name} {number} of seed {seed}", text)
+        yield file(f"{name} {number} of seed {seed}", text, at_random=True)

@@ -1,15 +1,19 @@
 """How tests/ring.py and tests/host.py compare a program with the reference on bench files."""
 
 import os
+import re
 import resource
 import subprocess
 from collections import Counter
 from concurrent.futures import ThreadPoolExecutor
 
-from library import counts
+# First, since it makes the reference known.
+from library import counts, met_seldom
+
+from reference.update import field
 
 SHOWN = 5
-STACK = 256 * 1024
+STACK = 512 * 1024
 TIME_MOST = 60
 
 
@@ -21,7 +25,7 @@ def small_stack():
 def printed_by(program, text, environment):
     """What a program prints for a file, what it says on the error output, and its exit status.
 
-    Without an environment of its own it runs in a stack of 256 kB."""
+    Without an environment of its own it runs in a stack of 512 kB."""
     prepare = None if environment else small_stack
     done = subprocess.run([program], input=text, stdout=subprocess.PIPE, stderr=subprocess.PIPE,
                           env={**os.environ, **environment}, timeout=TIME_MOST, preexec_fn=prepare)
@@ -59,22 +63,53 @@ def ending(tried):
     return last[0].decode() + (" later" if tried.printed.count(b"\n") > 1 else "")
 
 
-def compared(title, program, files, environment=None):
-    """Compares a program with the reference on files; prints the outcome, gives the exit status."""
-    endings, lines, differ = Counter(), 0, 0
+# What files at random meet at least, in so many of them: how they end, and how many have it.
+PROMISED_OF = 300
+PROMISED = {
+    "rung": 80, "refused=2": 8, "refused=3": 1, "refused=9": 35,
+    "refused=11": 1, "refused=11 later": 1, "refused=12": 1,
+    "DLY": 70, "line": 15, "table": 10, "rounded table": 10, "inactive unit": 10,
+    "unit out of range": 35, "unit that no modifier names": 8, "line, a word came back": 5,
+}
+COMMAND = re.compile(rb"^command=([0-9A-F]{8})$", re.M)
+
+
+def is_dly(command):
+    """Whether the digits of a command are a DLY."""
+    return field(int(command, 16), 24, 28) == 0b00001
+
+
+def met_by(files):
+    """What files met: how each ends, and each thing that passes did, once for a file."""
+    met = Counter()
+    for tried in files:
+        met[ending(tried)] += 1
+        met.update(kind for kind, times in tried.met.items() if times)
+        met["DLY"] += any(map(is_dly, COMMAND.findall(tried.text)))
+    return met
+
+
+def compared(title, program, files, options, environment=None):
+    """Compares a program with the reference on files; prints the outcome, gives the exit status.
+
+    A dry run makes the files and what they print, and runs nothing."""
+    differ = 0
     with ThreadPoolExecutor(2) as pool:
         # The program runs while the reference works on the next files.
-        runs = [(tried, pool.submit(printed_by, program, tried.text, environment or {}))
+        runs = [(tried, None if options.dry else
+                 pool.submit(printed_by, program, tried.text, environment or {}))
                 for tried in files]
     for number, (tried, run) in enumerate(runs):
-        endings[ending(tried)] += 1
-        lines += tried.printed.count(b"\n")
-        got = run.result()
+        got = run.result() if run else (tried.printed, b"", 0)
         if got == (tried.printed, b"", 0):
             continue
         if differ < SHOWN:
             show(kept(program, number, tried.text), tried, got)
         differ += 1
-    print(f"{title}: {len(runs)} files and {lines} lines compared, {differ} differ "
-          f"({counts(endings)})")
-    return 1 if differ else 0
+    tried = [tried for tried, _ in runs]
+    lines = sum(one.printed.count(b"\n") for one in tried)
+    did = "made" if options.dry else "compared"
+    print(f"{title}: {len(runs)} files and {lines} lines {did}, {differ} differ")
+    print(f"met: {counts(met_by(tried))}")
+    at_random = [one for one in tried if one.at_random]
+    return met_seldom(met_by(at_random), PROMISED, len(at_random), PROMISED_OF) or int(differ > 0)

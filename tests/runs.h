@@ -18,7 +18,7 @@ enum { BESIDE = 8 };
 typedef struct {
     uint32_t *block; /* BESIDE words, the run, BESIDE words */
     uint32_t *words; /* the run; NULL where it is empty */
-    uint32_t *copy;  /* the run as it was read */
+    uint32_t *copy;  /* the run as it was before the call */
     size_t length;
 } run;
 
@@ -35,16 +35,45 @@ static inline void put(const void *from, size_t size, size_t count) {
     if (fwrite(from, size, count, stdout) != count) stop(2, "cannot write");
 }
 
-static inline run read_run(uint32_t length) {
+static inline run new_run(uint32_t length) {
     run r;
     r.length = length;
     r.block = malloc((length + 2u * BESIDE) * sizeof *r.block);
     r.copy = malloc((length + 1u) * sizeof *r.copy);
     if (!r.block || !r.copy) stop(2, "out of memory");
     for (size_t i = 0; i < BESIDE; i++) r.block[i] = r.block[BESIDE + length + i] = UNTOUCHED;
-    get(r.block + BESIDE, sizeof *r.block, length);
-    memcpy(r.copy, r.block + BESIDE, length * sizeof *r.copy);
     r.words = length ? r.block + BESIDE : NULL;
+    return r;
+}
+
+/* Keeps the words of a run as they are now. */
+static inline void keep_copy(run *r) { memcpy(r->copy, r->block + BESIDE, r->length * sizeof *r->copy); }
+
+static inline run read_run(uint32_t length) {
+    run r = new_run(length);
+    get(r.block + BESIDE, sizeof *r.block, length);
+    keep_copy(&r);
+    return r;
+}
+
+/* A delay memory is sent by a number that its words are made from, so that no two neighbours are alike and each has
+ * 20 bits (0 makes it all 0), and by those words that are others. */
+static inline uint32_t made_word(uint32_t fill, uint32_t slot) { return fill ? (slot + fill) * 2654435761u >> 12 : 0; }
+
+static inline void fill_memory(uint32_t *memory, uint32_t length, uint32_t fill) {
+    for (uint32_t i = 0; i < length; i++) memory[i] = made_word(fill, i);
+}
+
+static inline run read_memory(uint32_t length, uint32_t fill, uint32_t others) {
+    run r = new_run(length);
+    if (length) fill_memory(r.words, length, fill);
+    for (uint32_t i = 0; i < others; i++) {
+        uint32_t other[2]; /* the slot and its word */
+        get(other, sizeof other[0], 2);
+        if (other[0] >= length) stop(2, "a slot is not in the delay memory");
+        r.words[other[0]] = other[1];
+    }
+    keep_copy(&r);
     return r;
 }
 

@@ -1,9 +1,10 @@
-"""Every sentence of the scope document stands in docs/ARCHITECTURE.md, in full; its named forms in docs/DECISIONS.md.
+"""Every sentence of the scope document, and of each request of document 02 that has landed, stands in
+docs/ARCHITECTURE.md, in full; the scope's named forms in docs/DECISIONS.md.
 
-    python3 tests/sentences.py [DOCUMENT]
+    python3 tests/sentences.py [SCOPE]
 
-The document is not part of the repository: without an argument it is looked for beside it, and where it is not at hand
-nothing is checked."""
+The documents are not part of the repository. Without an argument the scope is looked for beside it; document 02 is
+looked for beside the scope. What is not at hand is not checked."""
 
 import re
 import sys
@@ -12,11 +13,15 @@ from pathlib import Path
 ROOT = Path(__file__).resolve().parent.parent
 PAGES = (ROOT / "docs" / "ARCHITECTURE.md", ROOT / "docs" / "DECISIONS.md")
 BESIDE = ROOT.parent / "shared" / "docs" / "01-scope.md"
+REQUESTS = "02-change-requests.md"
+
+# The requests that have landed: each landing adds its name.
+LANDED = ("Q-1",)
 
 
 def plain(text):
-    """Text without marks of layout: backslashes, quotes of code, runs of blanks."""
-    return re.sub(r"\s+", " ", text.replace("\\", "").replace("`", "")).strip()
+    """Text without marks of layout: backslashes, quotes of code, bold, runs of blanks."""
+    return re.sub(r"\s+", " ", re.sub(r"\\|`|\*\*", "", text)).strip()
 
 
 def sentences(document):
@@ -33,16 +38,34 @@ def sentences(document):
                 yield part
 
 
+def request(document, name):
+    """The paragraph of a request, by its name in bold; nothing where there is none."""
+    found = re.search(rf"^\*\*{re.escape(name)}\. .*?(?=\n\s*\n|\Z)", document, flags=re.M | re.S)
+    return found.group(0) if found else ""
+
+
+def parts(scope):
+    """What has to stand in the map: the scope, then each request that has landed, each by its name with its text."""
+    if scope.exists():
+        yield "the scope", scope.read_text()
+    requests = scope.with_name(REQUESTS)
+    if requests.exists():
+        document = requests.read_text()
+        yield from ((name, request(document, name)) for name in LANDED)
+
+
 def main():
-    path = Path(sys.argv[1]) if len(sys.argv) > 1 else BESIDE
-    if not path.exists():
-        print("the scope document is not at hand: nothing checked")
-        return
     page = " ".join(plain(page.read_text()) for page in PAGES)
-    found = list(sentences(path.read_text()))
-    missing = [s for s in found if s not in page]
-    print("\n".join("missing: " + s for s in missing) if missing else f"{len(found)} sentences of the scope stand in the map")
-    sys.exit(1 if missing else 0)
+    faults, checked = [], []
+    for name, text in parts(Path(sys.argv[1]) if len(sys.argv) > 1 else BESIDE):
+        found = list(sentences(text))
+        faults += [f"missing of {name}: {s}" for s in found if s not in page] if found else [f"no text of {name}"]
+        checked.append(f"{len(found)} sentences of {name}")
+    if not checked:
+        print("the documents are not at hand: nothing checked")
+        return
+    print("\n".join(faults) if faults else f"{', '.join(checked)} stand in the map")
+    sys.exit(1 if faults else 0)
 
 
 if __name__ == "__main__":

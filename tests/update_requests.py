@@ -166,8 +166,30 @@ def good_addresses(chance):
     return addresses(*words, chance) | bits
 
 
-LOADS = (whole("001"), whole("010"), whole("0110"), gn_gm, gl_gsum, whole("1001"), good_gmode,
-         whole("1011"), mm, mm, ml, good_mmode, good_addresses)
+# Delay units
+
+BUILT_P, OTHER_P = layout.DELAY_MODES, tuple(set(range(16)) - set(layout.DELAY_MODES))
+
+
+def unit(chance):
+    """The number of a delay unit: the first and last ones are frequent."""
+    return put(31, 35, chance.choice((0, 1, 15, 16, 30, 31, chance.randrange(32))))
+
+
+def delay(chance, uu, p):
+    """DLY with 16 bits of data, and 4 that are P where UU is 10."""
+    return (code("00001") | put(4, 19, biased(chance, 16)) | put(20, 23, p) | put(29, 30, uu)
+            | unit(chance))
+
+
+def good_delay(chance):
+    """DLY of X or Y with any 4 bits, or of Z with a built P."""
+    uu = chance.randrange(3)
+    return delay(chance, uu, chance.choice(BUILT_P) if uu == 0b10 else chance.randrange(16))
+
+
+LOADS = (good_delay, good_delay, whole("001"), whole("010"), whole("0110"), gn_gm, gl_gsum,
+         whole("1001"), good_gmode, whole("1011"), mm, mm, ml, good_mmode, good_addresses)
 
 
 # Timers, by the counter as the commands before them leave it
@@ -206,9 +228,11 @@ def bad_misc(chance):
     return misc(chance) & ~put(29, 30, 0b11) | chance.choice(kinds)
 
 
-def delay(chance):
-    """DLY, of any UU."""
-    return code("00001") | data(chance.getrandbits(20)) | chance.getrandbits(7)
+def bad_delay(chance):
+    """DLY with UU 11, or of Z with a P that is not built."""
+    if chance.randrange(3):
+        return delay(chance, 0b10, chance.choice(OTHER_P))
+    return delay(chance, 0b11, chance.randrange(16))
 
 
 def bad_ticks(chance):
@@ -247,8 +271,8 @@ def bad_addresses(chance):
     return addresses(mrm, min_, chance) | bits
 
 
-REFUSED = (bad_misc, bad_misc, delay, bad_ticks, many_ticks, many_ticks, bad_gmode, bad_mmode,
-           bad_addresses)
+REFUSED = (bad_misc, bad_misc, bad_delay, bad_delay, bad_ticks, many_ticks, many_ticks, bad_gmode,
+           bad_mmode, bad_addresses)
 
 
 # Lists of commands

@@ -1,24 +1,43 @@
 """Compares updates, called from C, with the reference.
 
-    python3 tests/updates.py [COUNT] [SEED]
+    python3 tests/updates.py [--dry] [--fault NAME] [COUNT] [SEED]
 
 Run from the repository root. Builds tests/updates.c with include/karvelorn.h and
 target/staticlib/libhost.a (which it has rt make where it is missing or older than the
 code) and compares each answer, each count of commands taken and each word of the machine.
+Fails too where the requests met something too seldom. With --fault the reference has one
+fault of reference/faults.py on: the comparison must fail. With --dry nothing is built or
+asked: it says what the requests met, and with --fault in how many answers the fault shows.
 """
 
 import struct
 import sys
 from collections import Counter
 
-from library import (Test, build, compared, counts, machine_differences, packed, show_words,
-                     unpacked)
+from library import (Test, compared, counts, machine_differences, met_seldom, packed,
+                     read_arguments, run, show_words, unpacked)
 from reference import layout
+from reference.delay import units_refusal
 from reference.update import field, limit, still_lingering
-from update_requests import Answer, all_requests
+from update_requests import Answer, all_requests, answered
 
 COUNT, SEED = 20000, 1978
 HEAD, COUNTS = struct.Struct("<2I"), struct.Struct("<IQ")
+DLY, MMODE = 0b00001, 0b11110
+
+# How often each kind is met at least, in COUNT requests.
+PROMISED = {
+    **{f"refused by {number}": least for number, least in
+       ((1, 150), (2, 1200), (3, 2500), (4, 500))},
+    "lingering": 2000, "a Linger waits": 300, "the words end": 2500, "the ticks end": 1000,
+    "no ticks": 1500, "Linger ended": 700, "overrun set": 500,
+    **{f"code {code:05b} taken": 800 for code in range(32)},
+    "DLY X": 2000, "DLY Y": 2000, "DLY Z": 2000, "DLY X or Y, other 4 bits": 3000,
+    **{f"DLY P {p:04b}": 400 for p in layout.DELAY_MODES},
+    **{f"DLY P {p:04b} refused": 20 for p in range(16) if p not in layout.DELAY_MODES},
+    "DLY UU 11 refused": 150, "function 00111 loaded": 60,
+    "a pass would be refused by 11 or 12": 4000,
+}
 
 
 def request_bytes(request):
@@ -69,27 +88,59 @@ def ending(request, answer):
     return "the ticks end" if limit(request.machine) else "no ticks"
 
 
+def delay_event(command):
+    """What is counted of a DLY that was taken."""
+    uu, p = field(command, 29, 30), field(command, 20, 23)
+    yield "DLY " + "XYZ"[uu]
+    if uu == 0b10:
+        yield f"DLY P {p:04b}"
+    elif p:
+        yield "DLY X or Y, other 4 bits"
+
+
+def refused_delay_event(command):
+    """What is counted of a DLY that was refused."""
+    uu, p = field(command, 29, 30), field(command, 20, 23)
+    return "DLY UU 11 refused" if uu == 0b11 else f"DLY P {p:04b} refused"
+
+
+def events(request, answer):
+    """All that is counted of a request."""
+    yield ending(request, answer)
+    taken, before, after = request.commands[:answer.taken], request.machine, answer.machine
+    for command in taken:
+        code = field(command, 24, 28)
+        yield f"code {code:05b} taken"
+        if code == DLY:
+            yield from delay_event(command)
+        loads = code == MMODE and not field(command, 4, 4)
+        if loads and field(command, 8, 12) == layout.INVOKE_DELAY_UNIT:
+            yield "function 00111 loaded"
+    if answer.number in (3, 4):
+        yield "refused in its turn " + ("first" if not taken else "later")
+        refused = request.commands[answer.taken]
+        if field(refused, 24, 28) == DLY:
+            yield refused_delay_event(refused)
+    if answer.number in (0, 3, 4):
+        if before[layout.LINGERING] > after[layout.LINGERING]:
+            yield "Linger ended"
+        if before[layout.OVERRUN] < after[layout.OVERRUN]:
+            yield "overrun set"
+        if units_refusal(before):
+            yield "a pass would be refused by 11 or 12"
+
+
 def main(arguments):
     """Reads the arguments; see the head of this file."""
-    count, seed = [int(text) for text in arguments[:2]] + [COUNT, SEED][len(arguments[:2]):]
-    endings, codes, events = Counter(), Counter(), Counter()
+    options = read_arguments(arguments, COUNT, SEED)
+    pairs, met = all_requests(options.count, options.seed), Counter()
 
-    def counted(request, answer):
-        endings[ending(request, answer)] += 1
-        taken = request.commands[:answer.taken]
-        codes.update(field(command, 24, 28) for command in taken)
-        if answer.number in (3, 4):
-            events["refused in its turn " + ("first" if not taken else "later")] += 1
-        if answer.number in (0, 3, 4):
-            before, after = request.machine, answer.machine
-            events["Linger ended"] += before[layout.LINGERING] > after[layout.LINGERING]
-            events["overrun set"] += before[layout.OVERRUN] < after[layout.OVERRUN]
+    def asked():
+        status = compared(UPDATES, pairs, lambda *pair: met.update(events(*pair)), options.dry)
+        print(f"met: {counts(met)}")
+        return met_seldom(met, PROMISED, options.count, COUNT) or status
 
-    build(UPDATES)
-    status = compared(UPDATES, all_requests(count, seed), counted)
-    print(f"endings: {counts(endings)}\nevents: {counts(events)}")
-    print(f"commands taken: {sum(codes.values())}, by their five code bits: {counts(codes)}")
-    return status
+    return run(UPDATES, options, asked, pairs, lambda request: answered(request)[1])
 
 
 if __name__ == "__main__":

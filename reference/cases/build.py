@@ -1,8 +1,11 @@
-"""Short ways to write down generators, modifiers and machines; signed numbers are allowed."""
+"""Short ways to write down generators, modifiers, delay units, machines and delay memories.
+
+Signed numbers are allowed.
+"""
 
 from reference import layout
 from reference.layout import GENERATOR_NAMES, MODIFIER_NAMES
-from reference.machine import fresh_machine
+from reference.machine import fresh_machine, zero_memory
 from reference.words import low, signed
 
 # A coefficient whose high 20 bits are 262,144, one half: at scale 1 it multiplies
@@ -29,13 +32,29 @@ def modifier(mode, **registers):
             for name, width in zip(MODIFIER_NAMES, layout.MODIFIER_WIDTHS)]
 
 
-def machine(generators=(), modifiers=(), words=None):
-    """A fresh machine with its first generators and modifiers, then other words by place."""
+def delay_unit(mode, x=0, y=0, z=0, words=(0, 0, 0)):
+    """A delay unit's seven words from its mode bits, its registers and the words on their way."""
+    return [low(value, width)
+            for value, width in zip((x, y, z, bits(mode), *words), layout.DELAY_UNIT_WIDTHS)]
+
+
+def memory(words=None):
+    """A delay memory of zeros with some words by slot."""
+    made = zero_memory()
+    for slot, value in (words or {}).items():
+        made[slot] = low(value, layout.MEMORY_WIDTH)
+    return made
+
+
+def machine(generators=(), modifiers=(), words=None, units=()):
+    """A fresh machine with its first generators, modifiers and units, then other words by place."""
     made = fresh_machine()
     for g, eleven in enumerate(generators):
         made[layout.generator_at(g):layout.generator_at(g + 1)] = eleven
     for m, eight in enumerate(modifiers):
         made[layout.modifier_at(m):layout.modifier_at(m + 1)] = eight
+    for u, seven in enumerate(units):
+        made[layout.delay_unit_at(u):layout.delay_unit_at(u + 1)] = seven
     for place, value in (words or {}).items():
         made[place] = low(value, 20)
     return made

@@ -15,6 +15,7 @@ def taken_alone(command, **words):
     return refused, places_changed(made, left)
 
 
+# Delay unit 5 starts at 4154: X, Y 4155, Z 4156, P 4157, then three words; unit 31 at 4336.
 # Generator 3 starts at 33: GO 33, GJ 34, GK 35, GN 36, GM 37, GP 38, GQ 39, GL 40, GSUM 41,
 # GFM 42, GMODE 43. Modifier 5 starts at 2856: M0, M1, L0, L1, MIN, MRM, MSUM 2862, MMODE 2863.
 # A row is: name, command, words before, number, words changed.
@@ -77,12 +78,14 @@ LOADS = (
     ("all of MMODE", 0x0EC80F05, {"w2863": 326}, 0, {2863: 473}),
     ("S of MSUM", 0x4A345F05, {}, 0, {2863: 326}),
     # Function 00111: 0x70 * 2^19 = 0x03800000.
-    ("function not built", 0x03800F05, {}, 3, {}),
+    ("function 00111", 0x03800F05, {}, 0, {2863: 0x70}),
+    # 00101: 0x50 * 2^19 = 0x02800000.
+    ("function not built", 0x02800F05, {}, 3, {}),
     # 10010: 0x120 * 2^19 = 0x09000000; S (0x40000000) does not disable it.
     ("function 10010", 0x09000F05, {}, 3, {}),
-    ("function not disabled by S", 0x43800F05, {}, 3, {}),
-    ("function disabled", 0x83800F05, {"w2862": 1}, 0, {2862: 0}),
-    ("function not disabled by H", 0x13800F05, {}, 3, {}),
+    ("function not disabled by S", 0x42800F05, {}, 3, {}),
+    ("function disabled", 0x82800F05, {"w2862": 1}, 0, {2862: 0}),
+    ("function not disabled by H", 0x12800F05, {}, 3, {}),
     # MRM 0x85 in bits 8-15, MIN 0x46 in 16-23.
     ("MRM, MIN", 0x08546F85, {"w2859": 7}, 0, {2860: 0x46, 2861: 0x85}),
     # MRM 0x46, MIN 0x85, with the x bit (0x10000000) set: L1 is not cleared.
@@ -111,8 +114,6 @@ OTHERS = (
     ("P", 0x00000002, {"w10": 595, "w2815": 104}, 0, {2815: 1000}),
     ("all of MISC", 0xABCDE026, {"w10": 595, "w2815": 104}, 0,
      {4112: 0xABCDE, 10: 979, 2815: 1000}),
-    ("DLY", 0x00000080, {}, 3, {}),
-    ("DLY, UU 11", 0x000000E0, {}, 3, {}),
     # TIMER: TT in bits 31-32.
     ("TT 00", 0xFFFFF100, {"w4115": 5}, 0, {}),
     ("TT 01", 0x12345108, {"w4115": 5}, 0, {4115: 0x12345}),
@@ -128,6 +129,33 @@ OTHERS = (
     ("unused code", 0x00001190, {}, 3, {}),
     ("unused code, also beyond", 0x00100190, {}, 3, {}),
 )
+
+# DLY: 16 bits of data, 4 bits, code 00001, UU, five bits of unit: 0xDDDDM080 + UU * 0x20 + unit.
+DELAYS = (
+    # X 0x1234 of unit 5, whose Y is cleared; the 4 bits are not looked at.
+    ("X", 0x12340085, {"w4155": 7}, 0, {4154: 0x1234, 4155: 0}),
+    ("X, 4 bits", 0x1234F085, {"w4155": 7, "w4157": 8}, 0, {4154: 0x1234, 4155: 0}),
+    ("X 0", 0x00000085, {"w4154": 7}, 0, {4154: 0}),
+    # Y from its one's complement: 0xFFFF - 0x1234 = 0xEDCB; 0xFFFF stands for 0.
+    ("Y", 0x123400A5, {}, 0, {4155: 0xEDCB}),
+    ("Y, 4 bits", 0x1234F0A5, {"w4154": 7, "w4157": 8}, 0, {4155: 0xEDCB}),
+    ("Y 0", 0xFFFF00A5, {"w4155": 7}, 0, {4155: 0}),
+    ("Y 65535", 0x000000A5, {}, 0, {4155: 65535}),
+    ("Y 1", 0xFFFE00A5, {}, 0, {4155: 1}),
+    # Z 0x1234 with each built P; the words on their way stay.
+    ("Z, inactive", 0x123400C5, {"w4155": 7, "w4157": 8}, 0, {4156: 0x1234, 4157: 0}),
+    ("Z, line", 0x123480C5, {"w4158": 7}, 0, {4156: 0x1234, 4157: 8}),
+    ("Z, table", 0x1234A0C5, {}, 0, {4156: 0x1234, 4157: 10}),
+    ("Z, rounded table", 0x1234B0C5, {}, 0, {4156: 0x1234, 4157: 11}),
+    ("Z below Y", 0x000080C5, {"w4155": 7, "w4156": 9}, 0, {4156: 0, 4157: 8}),
+    # Units 0 and 31.
+    ("X of 0", 0xFFFF0080, {}, 0, {4119: 0xFFFF}),
+    ("Y of 31", 0xFFFE00BF, {}, 0, {4337: 1}),
+    ("Z of 31", 0xFFFF80DF, {}, 0, {4338: 0xFFFF, 4339: 8}),
+    ("UU 11", 0x000000E5, {}, 3, {}),
+    ("UU 11, line", 0x000080E5, {}, 3, {}),
+) + tuple((f"P {p:04b}", 0x123400C5 | p << 12, {}, 3, {})
+          for p in (1, 2, 3, 4, 5, 6, 7, 9, 12, 13, 14, 15))
 
 # Linger commands: 0xDDDDD110 to pass DDDDD, 0xDDDDD118 after clearing the counter.
 LINGERS = (
@@ -177,7 +205,13 @@ def limits():
     # 10 - 1 - 8 = 1; N becomes 1025, the limit stays.
     yield "not more", update([0x003FF188] + three, w4114=10), (0, 1, {4114: 1025})
     # A command past the limit is not asked about.
-    yield "past the limit", update([0x00001B00, 0x00000080], w4114=10), (0, 1, {0: 1})
+    yield "past the limit", update([0x00001B00, 0x000000E0], w4114=10), (0, 1, {0: 1})
+    # X, Z and P, then Y of unit 0: DLY uses ticks as others do.
+    line = [0x00050080, 0x000980C0, 0xFFFC00A0]
+    yield "DLY", update(line), (0, 3, {4119: 5, 4120: 3, 4121: 9, 4122: 8})
+    yield "DLY, two ticks", update(line, w4114=11), (0, 2, {4119: 5, 4121: 9, 4122: 8})
+    # X after Y: Y is cleared.
+    yield "X last", update(line[::-1]), (0, 3, {4119: 5, 4121: 9, 4122: 8})
 
 
 def lingering():
@@ -191,7 +225,7 @@ def lingering():
     yield "counter set", update([0x00009108] + two), (0, 3, {0: 2, 4115: 9})
     yield "no effect", update([0x00009100] + two), (0, 3, {0: 2})
     yield "goes on", update(two, w4115=6, w4116=1, w4117=7), (0, 0, {})
-    yield "goes on, nothing asked", update([0x80], w4115=6, w4116=1, w4117=7), (0, 0, {})
+    yield "goes on, nothing asked", update([0xE0], w4115=6, w4116=1, w4117=7), (0, 0, {})
     yield "goes on, pass behind", update(two, w4115=8, w4116=1, w4117=7), (0, 0, {})
     yield "ends", update(two, w4115=7, w4116=1, w4117=7), (0, 2, {0: 2, 4116: 0})
     yield "ends without commands", update([], w4115=7, w4116=1, w4117=7), (0, 0, {4116: 0})
@@ -199,17 +233,23 @@ def lingering():
     yield "a Linger pass alone", update(two, w4115=6, w4117=7), (0, 2, {0: 2})
     yield "overrun stays", update([0x00005110], w4115=5, w4118=1), (0, 1, {})
     # Commands before the refused one hold; an ended Linger stays ended.
-    yield "refused second", update([0x00001B00, 0x80, 0x00002B00]), (3, 1, {0: 1})
-    yield "refused after the end", update([0x80], w4115=7, w4116=1, w4117=7), (3, 0, {4116: 0})
+    yield "refused second", update([0x00001B00, 0xE0, 0x00002B00]), (3, 1, {0: 1})
+    yield "refused after the end", update([0xE0], w4115=7, w4116=1, w4117=7), (3, 0, {4116: 0})
     yield "refused 4", update([0x00001B00, 0x00100180]), (4, 1, {0: 1})
-    yield "after a waiting one", update([0x00007110, 0x80]), (0, 1, {4116: 1, 4117: 7})
+    yield "after a waiting one", update([0x00007110, 0xE0]), (0, 1, {4116: 1, 4117: 7})
+    # P 1001 of unit 0 is refused; X before it holds.
+    yield "refused P", update([0x00050080, 0x000090C0, 0x00060080]), (3, 1, {4119: 5})
+    # Two modifiers that name one line past delay memory: an update asks neither 11 nor 12.
+    bad = {"w2823": 0x70, "w2831": 0x70, "w4113": 16, "w4119": 65535, "w4121": 1, "w4122": 8}
+    yield "11 and 12 not asked", update(two, **bad), (0, 2, {0: 2})
     yield "question 2", update(two, w4112=1048576), (2, 0, {})
-    yield "question 1", run_update([0] * 4118, two), (1, 0, [0] * 4118)
+    yield "question 1", run_update([0] * 4119, two), (1, 0, [0] * 4119)
 
 
 GROUPS = (
     ("commands, loads", rows(LOADS)),
     ("commands, MISC, TIMER, TICKS", rows(OTHERS)),
+    ("commands, DLY", rows(DELAYS)),
     ("commands, Linger", rows(LINGERS)),
     ("update, limit", limits),
     ("update, lingering and refusals", lingering),

@@ -3,7 +3,7 @@
 import random
 
 from reference import layout
-from reference.cases.build import generator, machine
+from reference.cases.build import generator, machine, modifier
 from reference.machine import RANGES, run_pass
 from reference.modifier import FORMULAS
 from reference.orders import compare, parting
@@ -106,6 +106,10 @@ def refusals():
     yield "short second", compare(good, [0, 1], [0]), (5, False)
     yield "doubled second", compare(good, [0, 1], [1, 1]), (6, False)
     yield "second not below T", compare(good, [0, 1], [1, 2]), (6, False)
+    # Modifiers 0 and 1 name unit 0, a line with Y above Z: neither 11 nor 12 is asked.
+    twice = machine(modifiers=[modifier("00111 00 00")] * 2, words={4113: 16, 4120: 1, 4122: 8})
+    yield "11 and 12 not asked", compare(twice, range(16), range(16)), (0, True)
+    yield "4119 words", compare(good[:4119], [0, 1], [1, 0]), (1, False)
 
 
 # Trials: random settings with few sum words, so that the points matter.
@@ -144,21 +148,44 @@ def random_contents(chance, settings):
         made[at + layout.MMODE] = chance.choice(tuple(FORMULAS)) << 4 | chance.randrange(16)
         made[at + layout.MIN] = chance.randrange(192)
         made[at + layout.MRM] = chance.randrange(192)
+    put_delay_units(chance, made)
     return made
 
 
-def outcome(made, order, items):
-    """What two equal orders have in common: the machine and the written items."""
-    refused, _, written, left, places = run_pass(made, order, items, [0] * layout.GENERATORS)
+def put_delay_units(chance, made):
+    """Unit 0 a line, others in every mode; lines fit, and units are named once, 0 and 1 first."""
+    for u in range(layout.DELAY_UNITS):
+        at = layout.delay_unit_at(u)
+        x, z = chance.randrange(16), chance.randrange(4)
+        p = chance.choice(layout.DELAY_MODES) if u else layout.DELAY_LINE
+        made[at:at + 4] = x, chance.randint(0, z), z, p
+    units = chance.sample(range(2, layout.DELAY_UNITS), layout.DELAY_UNITS - 2) + [1, 0]
+    for m in range(layout.MODIFIERS):
+        at = layout.modifier_at(m)
+        invoking = layout.function(made[at + layout.MMODE]) == layout.INVOKE_DELAY_UNIT
+        if invoking or m < 4:
+            # Units run out: a modifier that would name one again is inactive.
+            mode = layout.INVOKE_DELAY_UNIT if units else layout.NO_FUNCTION
+            made[at + layout.MMODE] = mode << 4 | chance.randrange(16)
+            made[at + layout.MRM] = units.pop() if units else 0
+
+
+def outcome(made, order, items, slots):
+    """What two equal orders have in common: the machine, the written items and delay memory."""
+    refused, _, written, left, places, slots = run_pass(made, order, items,
+                                                        [0] * layout.GENERATORS, slots)
     assert refused == 0, refused
-    return left, places[:written]
+    return left, places[:written], slots
 
 
 def trials(count=150, contents=2):
     """Orders that agree have the same outcome; others are parted by constructed contents."""
     chance = random.Random(1978)
+    slots = [chance.getrandbits(layout.MEMORY_WIDTH) for _ in range(layout.MEMORY_WORDS)]
+    changed = 0
     for trial in range(count):
-        t = chance.randint(2, 6)
+        # From T 10 on delay units act.
+        t = chance.choice((2, 3, 4, 5, 6, 10, 14))
         made = random_settings(chance, t)
         first = chance.sample(range(t), t)
         second = list(first)
@@ -170,12 +197,15 @@ def trials(count=150, contents=2):
             for _ in range(contents):
                 filled = random_contents(chance, made)
                 items = [chance.randrange(1 << 32) for _ in range(t)]
-                yield (f"equal {trial}", outcome(filled, first, items) ==
-                       outcome(filled, second, items), True)
+                one, other = (outcome(filled, order, items, slots) for order in (first, second))
+                changed += one[2] != slots
+                yield f"equal {trial}", one == other, True
         else:
             filled, items = parting(made, first, second)
-            yield (f"parted {trial}", outcome(filled, first, items) ==
-                   outcome(filled, second, items), False)
+            one, other = (outcome(filled, order, items, slots) for order in (first, second))
+            yield f"parted {trial}", one[:2] == other[:2], False
+            yield f"parted {trial}, delay memory", one[2] == other[2], True
+    yield "delay memory changed in 20 trials", changed >= 20, True
 
 
 GROUPS = (

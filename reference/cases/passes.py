@@ -1,6 +1,7 @@
 """A pass: adding, replacing, written items, DACs, triggers, and what modifiers see."""
 
-from reference.cases.build import HALF, generator, machine, modifier, number, places_changed
+from reference.cases.build import (HALF, generator, machine, memory, modifier, number,
+                                   places_changed)
 from reference.machine import fresh, fresh_machine, run_pass
 
 # A square wave with V 4095 adds 131040; with V 1 it adds 32.
@@ -10,14 +11,14 @@ LOUD = dict(GL=4095)
 def after(made, order=None, items=(), places=()):
     """The machine after a pass that must be good."""
     order = range(made[4113]) if order is None else order
-    refused, _, _, left, _ = run_pass(made, order, items, places)
+    refused, _, _, left, _, _ = run_pass(made, order, items, places, memory())
     assert refused == 0, refused
     return left
 
 
 def answers(made, order, items, places):
     """The number, counts and places of a pass."""
-    refused, read, written, _, left = run_pass(made, order, items, places)
+    refused, read, written, _, left, _ = run_pass(made, order, items, places, memory())
     return refused, read, written, left
 
 
@@ -190,15 +191,16 @@ def refusals():
         ("no places", good, [0, 1], [5], [], 8),
     )
     for name, made, order, items, places, refused in rows:
-        got = run_pass(made, order, items, places)
+        got = run_pass(made, order, items, places, memory({5: 6}))
         yield name, got[0], refused
         if refused:
-            yield name + ", nothing changes", got[1:], (0, 0, made, places)
+            yield name + ", nothing changes", got[1:], (0, 0, made, places, memory({5: 6}))
     # A 0111 or 0011 that is not below T asks for nothing.
     idle = machine([generator("0000 00 0000"), reader, sender])
-    yield "idle ones", run_pass(idle, [0], [], [])[0], 0
+    yield "idle ones", run_pass(idle, [0], [], [], memory())[0], 0
     yield "fresh of a short run", fresh([5, 6]), (1, [5, 6])
-    yield "fresh of any words", fresh([9] * 4119), (0, fresh_machine())
+    yield "fresh of 4119 words", fresh([9] * 4119), (1, [9] * 4119)
+    yield "fresh of any words", fresh([9] * 4343), (0, fresh_machine())
 
 
 GROUPS = (

@@ -11,6 +11,10 @@ HIGHEST = (
     (3840, 1048575), (3904, 1048575), (3968, 1048575), (4095, 1048575),
     (4096, 1048575), (4111, 1048575), (4112, 1048575), (4113, 256), (4114, 1025),
     (4115, 1048575), (4116, 1), (4117, 1048575), (4118, 1),
+    # Delay unit 0 starts at 4,119, unit 31 at 4,336: X, Y, Z, P (1011), three words.
+    (4119, 65535), (4120, 65535), (4121, 65535), (4122, 11), (4123, 1048575), (4124, 1048575),
+    (4125, 1048575), (4336, 65535), (4337, 65535), (4338, 65535), (4339, 11), (4340, 1048575),
+    (4341, 1048575), (4342, 1048575),
     # Top bits 10 at most in MIN and MRM.
     (3836, 191), (3837, 191),
     # GMODE 1111 11 1000; MMODE 11101 11 11.
@@ -20,10 +24,11 @@ HIGHEST = (
 BUILT_RUN_MODES = (0b0000, 0b0001, 0b0010, 0b0011, 0b0111, 0b1001, 0b1101, 0b1110, 0b1111)
 BUILT_OSCILLATOR_MODES = (0b0000, 0b0001, 0b0010, 0b0011, 0b1000)
 BUILT_FUNCTIONS = (
-    0b00000, 0b00010, 0b00011, 0b00100, 0b00110, 0b01000, 0b01001, 0b01011, 0b01100, 0b01101,
-    0b01111, 0b10000, 0b10001, 0b10100, 0b10110, 0b11000, 0b11001, 0b11010, 0b11011, 0b11100,
-    0b11101,
+    0b00000, 0b00010, 0b00011, 0b00100, 0b00110, 0b00111, 0b01000, 0b01001, 0b01011, 0b01100,
+    0b01101, 0b01111, 0b10000, 0b10001, 0b10100, 0b10110, 0b11000, 0b11001, 0b11010, 0b11011,
+    0b11100, 0b11101,
 )
+BUILT_DELAY_MODES = (0b0000, 0b1000, 0b1010, 0b1011)
 
 
 def number_with(place, value):
@@ -42,6 +47,18 @@ def widths():
     yield "MIN top bits 11", number_with(2820, 192), 2
     yield "MRM top bits 11", number_with(2821, 255), 2
     yield "all bits", number_with(3904, 4294967295), 2
+    yield "X of all bits", number_with(4119, 4294967295), 2
+    # MRM of a 00111, function 0x70: the unit is in its low 5 bits, but top bits 11 are not good.
+    made = fresh_machine()
+    made[2823], made[2821] = 0x70, 191
+    yield "MRM of a 00111", refusal(made), 0
+    made[2821] = 192
+    yield "MRM of a 00111, top bits 11", refusal(made), 2
+    # A line that reaches past delay memory, with its index past its length, is a good machine.
+    made = fresh_machine()
+    made[4119:4123] = [65535, 65535, 1, 8]
+    yield "a line anywhere", refusal(made), 0
+    yield "lengths", [refusal([0] * n) for n in (0, 4119, 4342, 4344)], [1, 1, 1, 1]
     # A large T beside a small N is good: N-T-8 may be negative.
     made = fresh_machine()
     made[4113], made[4114] = 256, 2
@@ -60,6 +77,10 @@ def modes():
     yield "functions", tuple(good), BUILT_FUNCTIONS
     good = [scale for scale in range(16) if number_with(3839, scale) == 0]
     yield "scales", good, list(range(16))
+    for u in (0, 31):
+        good = [mode for mode in range(16) if number_with(4122 + 7 * u, mode) == 0]
+        yield f"modes of delay unit {u}", tuple(good), BUILT_DELAY_MODES
+    yield "P too wide", number_with(4122, 24), 2
 
 
 GROUPS = (("question 2, widths", widths), ("question 2, modes", modes))

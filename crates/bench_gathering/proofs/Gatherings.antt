@@ -27,8 +27,8 @@ pub step-lowers : (r : Ringing) {next : Ringing} → r .passes ≢ 0 → next �
 step-lowers r n e = rw e (step-falls r n .falls)
 
 -- What is known after a step of which question refuses the next pass, by the commands taken so far.
-pub known-after : (r : Ringing) (from : ℕ) {next : Ringing} {n taken : ℕ} → r .passes ≢ 0 → n ≡ passed (r .machine) .number → next ≡ stepOf r .next
-    → taken ≡ from + commandsTaken r (stepOf r) → Known (next .machine) n (not (eqb taken from))
+pub known-after : (r : Ringing) (from : ℕ) {next : Ringing} {n taken : ℕ} → r .passes ≢ 0 → n ≡ passed (r .machine) (r .memory) .number → next ≡ stepOf r .next
+    → taken ≡ from + commandsTaken r (stepOf r) → Known (next .machine) (next .memory) n (not (eqb taken from))
 known-after r from {next} {n} {taken} some en e et =
     rw e
     (step-known r some en (λ t. omega (arith, et, eqb-true taken from (not-false (eqb taken from) t)))

@@ -15,6 +15,7 @@ fn step_into(
     at: Progress,
     m: &mut [u32],
     commands: &[u32],
+    memory: &mut [u32],
     order: &[u32],
     number: u32,
     out: &mut [u8],
@@ -22,15 +23,15 @@ fn step_into(
     requires { ⌜ at .length + lineBytes ≤ length (now out) ⌝ }
     requires { ⌜ at .passes ≢ 0 ⌝ }
     requires { ⌜ now order ≡ byNumber 256 ⌝ }
-    requires { ⌜ number ≡ passed (now m) .number ⌝ }
-    ensures { λ r. ⌜ r .length ≡ at .length + length (stepOf (ringingAt at (now (m .entry)) (now (commands .entry))) .bytes) ⌝ }
-    ensures { λ _. ⌜ now (out .exit) ≡ sets (now (out .entry)) (at .length) (stepOf (ringingAt at (now (m .entry)) (now (commands .entry))) .bytes) ⌝ }
-    ensures { λ r. ⌜ ringingAt r (now (m .exit)) (now (commands .entry)) ≡ stepOf (ringingAt at (now (m .entry)) (now (commands .entry))) .next ⌝ }
-    ensures { λ r. ⌜ r .taken ≡ at .taken + commandsTaken (ringingAt at (now (m .entry)) (now (commands .entry))) (stepOf (ringingAt at (now (m .entry)) (now (commands .entry)))) ⌝ }
+    requires { ⌜ number ≡ passed (now m) (now memory) .number ⌝ }
+    ensures { λ r. ⌜ r .length ≡ at .length + length (stepOf (ringingAt at (now (m .entry)) (now (memory .entry)) (now (commands .entry))) .bytes) ⌝ }
+    ensures { λ _. ⌜ now (out .exit) ≡ sets (now (out .entry)) (at .length) (stepOf (ringingAt at (now (m .entry)) (now (memory .entry)) (now (commands .entry))) .bytes) ⌝ }
+    ensures { λ r. ⌜ ringingAt r (now (m .exit)) (now (memory .exit)) (now (commands .entry)) ≡ stepOf (ringingAt at (now (m .entry)) (now (memory .entry)) (now (commands .entry))) .next ⌝ }
+    ensures { λ r. ⌜ r .taken ≡ at .taken + commandsTaken (ringingAt at (now (m .entry)) (now (memory .entry)) (now (commands .entry))) (stepOf (ringingAt at (now (m .entry)) (now (memory .entry)) (now (commands .entry)))) ⌝ }
 {
     let start = at.length;
     let mut line = [0u8; bench_text::LINE_BYTES];
-    let next = bench_ringing::step(at, m, commands, order, number, &mut line);
+    let next = bench_ringing::step(at, m, commands, memory, order, number, &mut line);
     let passes = next.passes;
     let taken = next.taken;
     let size = next.length;
@@ -47,18 +48,19 @@ fn gather_by(
     at: Progress,
     m: &mut [u32],
     commands: &[u32],
+    memory: &mut [u32],
     order: &[u32],
     out: &mut [u8],
 ) -> Progress
     requires { ⌜ now order ≡ byNumber 256 ⌝ }
-    ensures { λ r. ⌜ r .length ≡ length (gathered (length (now (out .entry))) (ringingAt at (now (m .entry)) (now (commands .entry))) .bytes) ⌝ }
-    ensures { λ _. ⌜ now (out .exit) ≡ sets (now (out .entry)) 0 (gathered (length (now (out .entry))) (ringingAt at (now (m .entry)) (now (commands .entry))) .bytes) ⌝ }
-    ensures { λ r. ⌜ ringingAt r (now (m .exit)) (now (commands .entry)) ≡ gathered (length (now (out .entry))) (ringingAt at (now (m .entry)) (now (commands .entry))) .next ⌝ }
-    ensures { λ r. ⌜ r .taken ≡ at .taken + commandsTaken (ringingAt at (now (m .entry)) (now (commands .entry))) (gathered (length (now (out .entry))) (ringingAt at (now (m .entry)) (now (commands .entry)))) ⌝ }
+    ensures { λ r. ⌜ r .length ≡ length (gathered (length (now (out .entry))) (ringingAt at (now (m .entry)) (now (memory .entry)) (now (commands .entry))) .bytes) ⌝ }
+    ensures { λ _. ⌜ now (out .exit) ≡ sets (now (out .entry)) 0 (gathered (length (now (out .entry))) (ringingAt at (now (m .entry)) (now (memory .entry)) (now (commands .entry))) .bytes) ⌝ }
+    ensures { λ r. ⌜ ringingAt r (now (m .exit)) (now (memory .exit)) (now (commands .entry)) ≡ gathered (length (now (out .entry))) (ringingAt at (now (m .entry)) (now (memory .entry)) (now (commands .entry))) .next ⌝ }
+    ensures { λ r. ⌜ r .taken ≡ at .taken + commandsTaken (ringingAt at (now (m .entry)) (now (memory .entry)) (now (commands .entry))) (gathered (length (now (out .entry))) (ringingAt at (now (m .entry)) (now (memory .entry)) (now (commands .entry)))) ⌝ }
 {
     let passes = at.passes;
     let taken = at.taken;
-    let mut number = bench_pass::refusal(m);
+    let mut number = bench_pass::refusal(m, memory);
     let mut here = Progress {
         passes,
         taken,
@@ -68,22 +70,28 @@ fn gather_by(
         if out.len() < here.length + bench_text::LINE_BYTES {
             return here;
         }
-        let next = step_into(here, m, commands, order, number, out);
+        let next = step_into(here, m, commands, memory, order, number, out);
         let took = next.taken != here.taken;
-        number = bench_ringing::next_number(m, number, took);
+        number = bench_ringing::next_number(m, memory, number, took);
         here = next;
     }
     here
 }
 
 // Steps until no pass is left or the buffer may not hold another line; the length answered is that of all their lines.
-pub fn gather(at: Progress, m: &mut [u32], commands: &[u32], out: &mut [u8]) -> Progress
-    ensures { λ r. ⌜ r .length ≡ length (gathered (length (now (out .entry))) (ringingAt at (now (m .entry)) (now (commands .entry))) .bytes) ⌝ }
-    ensures { λ _. ⌜ now (out .exit) ≡ sets (now (out .entry)) 0 (gathered (length (now (out .entry))) (ringingAt at (now (m .entry)) (now (commands .entry))) .bytes) ⌝ }
-    ensures { λ r. ⌜ ringingAt r (now (m .exit)) (now (commands .entry)) ≡ gathered (length (now (out .entry))) (ringingAt at (now (m .entry)) (now (commands .entry))) .next ⌝ }
-    ensures { λ r. ⌜ r .taken ≡ at .taken + commandsTaken (ringingAt at (now (m .entry)) (now (commands .entry))) (gathered (length (now (out .entry))) (ringingAt at (now (m .entry)) (now (commands .entry)))) ⌝ }
+pub fn gather(
+    at: Progress,
+    m: &mut [u32],
+    commands: &[u32],
+    memory: &mut [u32],
+    out: &mut [u8],
+) -> Progress
+    ensures { λ r. ⌜ r .length ≡ length (gathered (length (now (out .entry))) (ringingAt at (now (m .entry)) (now (memory .entry)) (now (commands .entry))) .bytes) ⌝ }
+    ensures { λ _. ⌜ now (out .exit) ≡ sets (now (out .entry)) 0 (gathered (length (now (out .entry))) (ringingAt at (now (m .entry)) (now (memory .entry)) (now (commands .entry))) .bytes) ⌝ }
+    ensures { λ r. ⌜ ringingAt r (now (m .exit)) (now (memory .exit)) (now (commands .entry)) ≡ gathered (length (now (out .entry))) (ringingAt at (now (m .entry)) (now (memory .entry)) (now (commands .entry))) .next ⌝ }
+    ensures { λ r. ⌜ r .taken ≡ at .taken + commandsTaken (ringingAt at (now (m .entry)) (now (memory .entry)) (now (commands .entry))) (gathered (length (now (out .entry))) (ringingAt at (now (m .entry)) (now (memory .entry)) (now (commands .entry)))) ⌝ }
 {
     let mut order = [0u32; layout::GENERATORS];
     bench_pass::by_number(&mut order);
-    gather_by(at, m, commands, &order, out)
+    gather_by(at, m, commands, memory, &order, out)
 }

@@ -40,7 +40,7 @@ abbrev pub lineBy : Number → (ℕ → Line) → Line
 lineBy (Is n) f = f n
 lineBy No f = Other
 
--- PLACE:VALUE, places below 4,119 and values below 2^32.
+-- PLACE:VALUE, places that a file can name and values below 2^32.
 unfoldable pub wordLine : List ℕ → Line
 wordLine text =
     let colon = bytesBefore (code ":") text in

@@ -1,73 +1,127 @@
 -- The questions of a pass by number, and that pass where none refuses it.
 -- Assumes nothing.
 use mathlib.Core.Path.{_≡_, refl, sym, _∙_, ap}
-use mathlib.Core.Bool.{Bool, true, false}
 use mathlib.Core.Logic.{_≢_}
+use mathlib.Core.Bool.{Bool, true, false, cond}
 use mathlib.Core.List.{List, [], _∷_}
 use Prim.Native.Nat.{ℕ, _-_, _≤_, _<_}
 use native.Mathlib.Omega.{arith}
 use native.Mathlib.Nat.{sub-zero}
-use borrow.Author.Tests.{leb-true, leb-false}
+use borrow.Author.Tests.{le-leb, lt-leb, leb-true, leb-false}
 use lib.Dec.{leb}
 use lib.ListN.{length, take}
-use Rattle.layout.specs.Machine.{Machine, Order, ticksOf}
+use Rattle.layout.specs.Machine.{Machine, Memory, Order, ticksOf}
 use Rattle.questions.specs.Questions.{asked}
 use Rattle.modes.specs.Modes.{readData, writeData}
 use Rattle.machine.specs.Questions.{question1, question2}
-use Rattle.order.specs.Order.{inMode}
-use Rattle.pass_model.specs.Pass.{Call, Outcome, plainCall, ran, passRefusal, passOf}
-use Rattle.pass_model.proofs.Asked.{refused-first, refused-7, refused-8, not-refused, passes, few-ticks}
+use Rattle.order.specs.Order.{question7, question8, inMode}
+use Rattle.delay_questions.specs.Questions.{memoryGood, question11, question12}
+use Rattle.pass_model.specs.Pass.{Call, Outcome, ran, passRefusal, passOf}
+use Rattle.pass_model.proofs.Asked.{Answered, refused-first, refused-7, refused-8, refused-10, past-memory, passes, few-ticks}
 use Rattle.pass_laws.proofs.Passing.{let-through, pass-number}
 use Rattle.pass_generators.specs.Loops.{Ready, Numbers}
 use Rattle.pass.proofs.Readiness.{is-ready, are-numbers}
-use Rattle.bench_pass.specs.ByNumber.{byNumber, passed}
+use Rattle.bench_pass.specs.ByNumber.{byNumber, benchCall, passed, refusedAgain}
 use Rattle.bench_pass.proofs.ByNumber.{by-number-length, first-entries, by-number-passes}
 
+-- Questions 7 and 8 by the counts, with no items and no places.
 module _ (m : Machine) where
+  abbrev dataRefusal : ℕ
+  dataRefusal = asked (question7 m [] ∷ question8 m [] ∷ [])
+
+  pub data-reads : 0 < inMode m readData → 7 ≡ dataRefusal
+  unfolding asked
+  data-reads h = rw (lt-leb (inMode m readData) 0 h)
+
+  pub data-writes : inMode m readData ≤ 0 → 0 < inMode m writeData → 8 ≡ dataRefusal
+  unfolding asked
+  data-writes h k = rw (le-leb (inMode m readData) 0 h, lt-leb (inMode m writeData) 0 k)
+
+  pub data-none : inMode m readData ≤ 0 → inMode m writeData ≤ 0 → 0 ≡ dataRefusal
+  unfolding asked
+  data-none h k = rw (le-leb (inMode m readData) 0 h, le-leb (inMode m writeData) 0 k)
+
+  -- What they tell.
+  pub data-tells : dataRefusal ≡ 0 → (inMode m readData ≤ 0) × (inMode m writeData ≤ 0)
+  unfolding asked
+  data-tells e = go (leb (inMode m readData) 0) (leb (inMode m writeData) 0) refl refl e
+    where
+      go : (a b : Bool) → leb (inMode m readData) 0 ≡ a → leb (inMode m writeData) 0 ≡ b → _≡_ {A = ℕ} (cond a (cond b 0 8) 7) 0
+          → (inMode m readData ≤ 0) × (inMode m writeData ≤ 0)
+      go true true ea eb q = (leb-true (inMode m readData) 0 ea, leb-true (inMode m writeData) 0 eb)
+      go true false ea eb q = absurd (omega arith)
+      go false b ea eb q = absurd (omega arith)
+
+  -- 11 and 12 after them.
+  pub again-data : {n : ℕ} → n ≡ dataRefusal → n ≢ 0 → n ≡ refusedAgain m
+  unfolding refusedAgain asked
+  again-data {n} e h = e ∙ go (leb (inMode m readData) 0) (leb (inMode m writeData) 0) (asked (question11 m ∷ question12 m ∷ [])) (λ z. h (e ∙ z))
+    where
+      go : (a b : Bool) (rest : ℕ) → _≢_ {A = ℕ} (cond a (cond b 0 8) 7) 0 → _≡_ {A = ℕ} (cond a (cond b 0 8) 7) (cond a (cond b rest 8) 7)
+      go true true rest q = absurd (q refl)
+      go true false rest q = refl
+      go false b rest q = refl
+
+  pub again-units : dataRefusal ≡ 0 → {n : ℕ} → n ≡ asked (question11 m ∷ question12 m ∷ []) → n ≡ refusedAgain m
+  unfolding refusedAgain asked
+  again-units z e = let d = data-tells z in e ∙ rw (le-leb (inMode m readData) 0 (d .0), le-leb (inMode m writeData) 0 (d .1))
+
+module _ (m : Machine) (memory : Memory) where
   abbrev call : Call
-  call = plainCall (byNumber (ticksOf m)) [] []
+  call = benchCall m memory
 
-  pub refused-machine : {n : ℕ} → n ≡ asked (question1 m ∷ question2 m ∷ []) → n ≢ 0 → n ≡ passed m .number
-  refused-machine e h = refused-first m call e h ∙ sym (pass-number m call)
+  number-is : {n : ℕ} → n ≡ passRefusal m call → n ≡ passed m memory .number
+  number-is e = e ∙ sym (pass-number m call)
 
-  -- A machine that passes questions 1 and 2 is asked 7 and 8.
+  pub refused-machine : {n : ℕ} → n ≡ asked (question1 m ∷ question2 m ∷ []) → n ≢ 0 → n ≡ passed m memory .number
+  refused-machine e h = number-is (refused-first m call e h)
+
+  -- A machine that passes questions 1 and 2.
   module _ (whole : asked (question1 m ∷ question2 m ∷ []) ≡ 0) where
-    pub refused-reads : 0 < inMode m readData → 7 ≡ passed m .number
-    refused-reads h = refused-7 m call whole (by-number-passes (ticksOf m)) h ∙ sym (pass-number m call)
+    pub refused-data : {n : ℕ} → n ≡ dataRefusal m → n ≢ 0 → n ≡ passed m memory .number
+    unfolding asked
+    refused-data {n} e h = number-is (e ∙ go (leb (inMode m readData) 0) (leb (inMode m writeData) 0) refl refl (λ z. h (e ∙ z)))
+      where
+        go : (a b : Bool) → leb (inMode m readData) 0 ≡ a → leb (inMode m writeData) 0 ≡ b → _≢_ {A = ℕ} (cond a (cond b 0 8) 7) 0 → cond a (cond b 0 8) 7 ≡ passRefusal m call
+        go true true ea eb q = absurd (q refl)
+        go true false ea eb q =
+            refused-8 m call whole (by-number-passes (ticksOf m)) (leb-true (inMode m readData) 0 ea) (leb-false (inMode m writeData) 0 eb)
+        go false b ea eb q = refused-7 m call whole (by-number-passes (ticksOf m)) (leb-false (inMode m readData) 0 ea)
 
-    pub refused-writes : inMode m readData ≤ 0 → 0 < inMode m writeData → 8 ≡ passed m .number
-    refused-writes h k = refused-8 m call whole (by-number-passes (ticksOf m)) h k ∙ sym (pass-number m call)
+    module _ (z : dataRefusal m ≡ 0) where
+      pub refused-memory : memoryGood memory ≡ false → 10 ≡ passed m memory .number
+      refused-memory e = number-is (refused-10 m call whole (by-number-passes (ticksOf m)) (data-tells m z .0) (data-tells m z .1) e)
 
-    pub goes : inMode m readData ≤ 0 → inMode m writeData ≤ 0 → 0 ≡ passed m .number
-    goes h k = not-refused m call whole (by-number-passes (ticksOf m)) h k ∙ sym (pass-number m call)
+      pub units-decide : memoryGood memory ≡ true → {n : ℕ} → n ≡ asked (question11 m ∷ question12 m ∷ []) → n ≡ passed m memory .number
+      units-decide e q =
+          number-is (q ∙ sym (past-memory m call whole (by-number-passes (ticksOf m)) (data-tells m z .0) (data-tells m z .1) e))
+
+    -- With a good memory the questions that commands can change decide.
+    pub again-decides : memoryGood memory ≡ true → {n : ℕ} → n ≡ refusedAgain m → n ≡ passed m memory .number
+    unfolding refusedAgain asked
+    again-decides good {n} e = e ∙ go (leb (inMode m readData) 0) (leb (inMode m writeData) 0) refl refl
+      where
+        units : ℕ
+        units = asked (question11 m ∷ question12 m ∷ [])
+
+        go : (a b : Bool) → leb (inMode m readData) 0 ≡ a → leb (inMode m writeData) 0 ≡ b → cond a (cond b units 8) 7 ≡ passed m memory .number
+        go true true ea eb = units-decide (sym (data-none m (leb-true (inMode m readData) 0 ea) (leb-true (inMode m writeData) 0 eb))) good refl
+        go true false ea eb = number-is (refused-8 m call whole (by-number-passes (ticksOf m)) (leb-true (inMode m readData) 0 ea) (leb-false (inMode m writeData) 0 eb))
+        go false b ea eb = number-is (refused-7 m call whole (by-number-passes (ticksOf m)) (leb-false (inMode m readData) 0 ea))
 
   -- A pass that none refuses.
-  module _ (n : passed m .number ≡ 0) where
+  module _ (n : passed m memory .number ≡ 0) where
     let-by : passRefusal m call ≡ 0
     let-by = sym (pass-number m call) ∙ n
 
-    pub whole-machine : asked (question1 m ∷ question2 m ∷ []) ≡ 0
-    whole-machine = passes m call let-by .0
+    pub answered : Answered m call
+    answered = passes m call let-by
 
     pub ready : Ready m
-    ready = is-ready m whole-machine
+    ready = is-ready m (answered .whole)
 
     pub ticks-most : ticksOf m ≤ 256
-    ticks-most = few-ticks m [] whole-machine
-
-    pub none-read : inMode m readData ≤ 0
-    none-read = go (leb (inMode m readData) 0) refl
-      where
-        go : (b : Bool) → leb (inMode m readData) 0 ≡ b → inMode m readData ≤ 0
-        go true e = leb-true (inMode m readData) 0 e
-        go false e = absurd (omega (arith, n, refused-reads whole-machine (leb-false (inMode m readData) 0 e)))
-
-    pub none-written : inMode m writeData ≤ 0
-    none-written = go (leb (inMode m writeData) 0) refl
-      where
-        go : (b : Bool) → leb (inMode m writeData) 0 ≡ b → inMode m writeData ≤ 0
-        go true e = leb-true (inMode m writeData) 0 e
-        go false e = absurd (omega (arith, n, refused-writes whole-machine none-read (leb-false (inMode m writeData) 0 e)))
+    ticks-most = few-ticks m [] (answered .whole)
 
     module _ {order : Order} {t : ℕ} (eo : order ≡ byNumber 256) (et : t ≡ ticksOf m) where
       entries : take (t - 0) order ≡ byNumber (ticksOf m)
@@ -77,12 +131,13 @@ module _ (m : Machine) where
       entries-there = omega (arith, et, ticks-most, by-number-length 256, ap length eo)
 
       pub numbers : Numbers (take (t - 0) order)
-      numbers = rw entries (are-numbers m (byNumber (ticksOf m)) whole-machine (by-number-passes (ticksOf m)))
+      numbers = rw entries (are-numbers m (byNumber (ticksOf m)) (answered .whole) (by-number-passes (ticksOf m)))
 
-      pub passed-machine : {read written : ℕ} {after places : List ℕ}
-          → record { number = 0; read = read; written = written; machine = after; places = places } ≡ ran m (plainCall (take (t - 0) order) [] [])
-          → after ≡ passed m .machine
-      passed-machine e =
-          ap (λ (o : Outcome). o .machine) e
-          ∙ ap (λ (o : Order). ran m (plainCall o [] []) .machine) entries
-          ∙ ap (λ (o : Outcome). o .machine) (sym (let-through m call let-by))
+      pub passed-so : {read written : ℕ} {after places memory' : List ℕ}
+          → record { number = 0; read = read; written = written; machine = after; places = places; memory = memory' }
+          ≡ ran m (record { order = take (t - 0) order; items = []; places = []; memory = memory })
+          → (after ≡ passed m memory .machine) × (memory' ≡ passed m memory .memory)
+      passed-so {read} {written} {after} {places} {memory'} e =
+          let whole : record { number = 0; read = read; written = written; machine = after; places = places; memory = memory' } ≡ passed m memory =
+          e ∙ ap (λ (o : Order). ran m (record { order = o; items = []; places = []; memory = memory })) entries ∙ sym (let-through m call let-by) in
+          (ap (λ (o : Outcome). o .machine) whole, ap (λ (o : Outcome). o .memory) whole)

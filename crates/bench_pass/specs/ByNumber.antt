@@ -1,15 +1,25 @@
--- The pass of the bench (document 01, "Bench file").
+-- The pass of the bench (document 01, "Bench file"; document 02, Q-1).
 -- Assumes nothing.
 use Prim.Native.Nat.{ℕ}
-use mathlib.Core.List.{[]}
+use mathlib.Core.List.{[], _∷_}
 use Rattle.lists.specs.Lists.{tabulate}
-use Rattle.layout.specs.Machine.{Machine, Order, ticksOf}
-use Rattle.pass_model.specs.Pass.{plainCall, Outcome, passOf}
+use Rattle.layout.specs.Machine.{Machine, Order, Memory, ticksOf}
+use Rattle.questions.specs.Questions.{asked}
+use Rattle.order.specs.Order.{question7, question8}
+use Rattle.delay_questions.specs.Questions.{question11, question12}
+use Rattle.pass_model.specs.Pass.{Call, Outcome, passOf}
 
 -- The order by number: 0 to t-1.
 unfoldable pub byNumber : ℕ → Order
 byNumber t = tabulate (λ g. g) 0 t
 
--- A pass by number with no read items and no written places.
-abbrev pub passed : Machine → Outcome
-passed m = passOf m (plainCall (byNumber (ticksOf m)) [] [])
+-- A call by number, with no read items and no written places, over a delay memory.
+abbrev pub benchCall : Machine → Memory → Call
+benchCall m memory = record { order = byNumber (ticksOf m); items = []; places = []; memory = memory }
+
+abbrev pub passed : Machine → Memory → Outcome
+passed m memory = passOf m (benchCall m memory)
+
+-- The questions that commands can bring to another answer, where questions 1, 2 and 10 stay answered yes: 7, 8, 11 and 12.
+unfoldable pub refusedAgain : Machine → ℕ
+refusedAgain m = asked (question7 m [] ∷ question8 m [] ∷ question11 m ∷ question12 m ∷ [])

@@ -1,10 +1,11 @@
-// A pass of the bench: by number, with no read items and no written places. Its questions are asked apart from it, since a pass that is let through keeps its machine good.
+// A pass of the bench: by number, with no read items and no written places. Its questions are asked apart from it, since a pass that is let through keeps its machine and delay memory good.
 ghost use mathlib.Core.Path.{_≡_};
 ghost use mathlib.Core.List.{[], _∷_};
 ghost use lib.ListN.{length};
 ghost use Rattle.questions.specs.Questions.{asked};
 ghost use Rattle.machine.specs.Questions.{question1, question2};
-ghost use Rattle.bench_pass.specs.ByNumber.{byNumber, passed};
+ghost use Rattle.order.specs.Order.{question7, question8};
+ghost use Rattle.bench_pass.specs.ByNumber.{byNumber, passed, refusedAgain};
 
 // Fills the order by number of 256 generators.
 pub fn by_number(order: &mut [u32; layout::GENERATORS])
@@ -18,10 +19,10 @@ pub fn by_number(order: &mut [u32; layout::GENERATORS])
     }
 }
 
-// The number of the question that refuses a pass of a machine that passes questions 1 and 2, or 0. The order by number passes 5 and 6.
-pub fn data_refusal(m: &[u32]) -> u32
+// Of a machine that passes questions 1 and 2: 7 or 8 where a generator reads or writes data, else 0.
+fn data_refusal(m: &[u32]) -> u32
     requires { ⌜ asked (question1 (now m) ∷ question2 (now m) ∷ []) ≡ 0 ⌝ }
-    ensures { λ r. ⌜ r ≡ passed (now (m .entry)) .number ⌝ }
+    ensures { λ r. ⌜ r ≡ asked (question7 (now (m .entry)) [] ∷ question8 (now (m .entry)) [] ∷ []) ⌝ }
 {
     let needed = order::in_modes(m);
     if 0 < needed.reads {
@@ -33,24 +34,43 @@ pub fn data_refusal(m: &[u32]) -> u32
     0
 }
 
-// The number of the question that refuses a pass, or 0.
-pub fn refusal(m: &[u32]) -> u32
-    ensures { λ r. ⌜ r ≡ passed (now (m .entry)) .number ⌝ }
+// The number of the first of questions 7, 8, 11 and 12 that is answered no, or 0, of a machine that passes questions 1 and 2.
+pub fn refusal_again(m: &[u32]) -> u32
+    requires { ⌜ asked (question1 (now m) ∷ question2 (now m) ∷ []) ≡ 0 ⌝ }
+    ensures { λ r. ⌜ r ≡ refusedAgain (now (m .entry)) ⌝ }
 {
-    let number = machine::refusal(m);
+    let number = data_refusal(m);
     if number != 0 {
         return number;
     }
-    data_refusal(m)
+    delay_questions::delay_refusal(m)
+}
+
+// The number of the question that refuses a pass, or 0. The order by number passes 5 and 6.
+pub fn refusal(m: &[u32], memory: &[u32]) -> u32
+    ensures { λ r. ⌜ r ≡ passed (now (m .entry)) (now (memory .entry)) .number ⌝ }
+{
+    let first = machine::refusal(m);
+    if first != 0 {
+        return first;
+    }
+    let number = data_refusal(m);
+    if number != 0 {
+        return number;
+    }
+    if !delay_questions::memory_good(memory) {
+        return 10;
+    }
+    delay_questions::delay_refusal(m)
 }
 
 // A pass that no question refuses, by the first entries of the order by number.
-pub fn run(m: &mut [u32], order: &[u32])
-    requires { ⌜ passed (now m) .number ≡ 0 ⌝ }
+pub fn run(m: &mut [u32], memory: &mut [u32], order: &[u32])
+    requires { ⌜ passed (now m) (now memory) .number ≡ 0 ⌝ }
     requires { ⌜ now order ≡ byNumber 256 ⌝ }
-    ensures { λ _. ⌜ now (m .exit) ≡ passed (now (m .entry)) .machine ⌝ }
+    ensures { λ _. ⌜ (now (m .exit) ≡ passed (now (m .entry)) (now (memory .entry)) .machine) × (now (memory .exit) ≡ passed (now (m .entry)) (now (memory .entry)) .memory) ⌝ }
 {
     let t = layout::ticks(m);
     let mut places = [0u32; 1];
-    pass::run(m, &order[0..t], &order[0..0], &mut places[0..0]);
+    pass::run(m, &order[0..t], &order[0..0], &mut places[0..0], memory);
 }

@@ -16,7 +16,7 @@ use Rattle.bench_ringing.specs.Steps.{Ringing, Step, stepOf, untilDone}
 
 -- What is printed from a ringing under way.
 abbrev pub onward : Ringing → List ℕ
-onward r = printed (r .passes) (r .machine) (r .commands)
+onward r = printed (r .passes) (r .machine) (r .memory) (r .commands)
 
 -- With no pass left it is nothing.
 pub none-left : (r : Ringing) → r .passes ≡ 0 → [] ≡ onward r
@@ -28,28 +28,28 @@ pub record Falls (r : Ringing) (all : List ℕ) (s : Step) : Type 0 where
   pub falls : s .next .passes < r .passes
   pub prints : all ≡ s .bytes ++ onward (s .next)
 
-of-choice : (r : Ringing) → r .passes ≢ 0 → (a b : Bool) (n : ℕ) (m : List ℕ) (u : Outcome)
-    → Falls r (cond a (cond b (lineAfter (u .machine) ++ printed (r .passes - 1) (u .machine) (u .rest)) (refusalLine (u .number))) (refusalLine n))
+of-choice : (r : Ringing) → r .passes ≢ 0 → (a b : Bool) (n : ℕ) (m memory : List ℕ) (u : Outcome)
+    → Falls r (cond a (cond b (lineAfter (u .machine) ++ printed (r .passes - 1) (u .machine) memory (u .rest)) (refusalLine (u .number))) (refusalLine n))
     (cond a
     (cond b
-    (record { bytes = lineAfter (u .machine); next = record { passes = r .passes - 1; machine = u .machine; commands = u .rest } })
-    (record { bytes = refusalLine (u .number); next = record { passes = 0; machine = u .machine; commands = u .rest } }))
-    (record { bytes = refusalLine n; next = record { passes = 0; machine = m; commands = r .commands } }))
+    (record { bytes = lineAfter (u .machine); next = record { passes = r .passes - 1; machine = u .machine; memory = memory; commands = u .rest } })
+    (record { bytes = refusalLine (u .number); next = record { passes = 0; machine = u .machine; memory = memory; commands = u .rest } }))
+    (record { bytes = refusalLine n; next = record { passes = 0; machine = m; memory = memory; commands = r .commands } }))
 unfolding printed
-of-choice r some true true n m u = record { falls = omega arith; prints = refl }
-of-choice r some true false n m u = record { falls = omega arith; prints = sym (append-nil (refusalLine (u .number))) }
-of-choice r some false b n m u = record { falls = omega arith; prints = sym (append-nil (refusalLine n)) }
+of-choice r some true true n m memory u = record { falls = omega arith; prints = refl }
+of-choice r some true false n m memory u = record { falls = omega arith; prints = sym (append-nil (refusalLine (u .number))) }
+of-choice r some false b n m memory u = record { falls = omega arith; prints = sym (append-nil (refusalLine n)) }
 
 pub step-falls : (r : Ringing) → r .passes ≢ 0 → Falls r (onward r) (stepOf r)
 unfolding printed stepOf
 step-falls r some =
-    let p = passed (r .machine) in
+    let p = passed (r .machine) (r .memory) in
     let u = updateOf (p .machine) (r .commands) in
     let k : r .passes ≡ suc (r .passes - 1) = omega arith in
-    let f = of-choice r some (eqb (p .number) 0) (eqb (u .number) 0) (p .number) (p .machine) u in
+    let f = of-choice r some (eqb (p .number) 0) (eqb (u .number) 0) (p .number) (p .machine) (p .memory) u in
     record {
       falls = rw (ne-eqb (r .passes) 0 some) (f .falls);
-      prints = ap (λ (i : ℕ). printed i (r .machine) (r .commands)) k ∙ rw (ne-eqb (r .passes) 0 some) (f .prints);
+      prints = ap (λ (i : ℕ). printed i (r .machine) (r .memory) (r .commands)) k ∙ rw (ne-eqb (r .passes) 0 some) (f .prints);
     }
 
 -- So the steps until done are the defined output.

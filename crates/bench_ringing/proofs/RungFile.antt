@@ -18,7 +18,7 @@ use Rattle.bench_lines.specs.declared.Line.the-variants.{Passes, Word, Command,
 use Rattle.bench_phases.specs.Phases.{phaseAfter, isFit}
 use Rattle.bench_file.specs.BenchFile.{withWord, Reading, unread, withLine, withLines, fileOf, isBenchFile, commandPlaces, Answer, readOf}
 use Rattle.bench_file.proofs.FewCommands.{few-commands}
-use Rattle.bench_ringing.specs.Ringing.{printed, outputOf}
+use Rattle.bench_ringing.specs.Ringing.{printed, memoryAtFirst, outputOf}
 use Rattle.bench_ringing.specs.Steps.{Ringing, untilDone, rungFrom}
 use Rattle.bench_ringing.proofs.Printing.{steps-are-output}
 
@@ -36,11 +36,11 @@ module _ (text m room : List ℕ) where
   unfolding rungFrom readOf outputOf
   rung-file h = go (isBenchFile text) refl
     where
-      go : (b : Bool) → isBenchFile text ≡ b → rungFrom (told b) ≡ cond b (printed (fileOf text .passes) (fileOf text .machine) (fileOf text .commands)) (refusalLine 9)
+      go : (b : Bool) → isBenchFile text ≡ b → rungFrom (told b) ≡ cond b (printed (fileOf text .passes) (fileOf text .machine) memoryAtFirst (fileOf text .commands)) (refusalLine 9)
       go true e =
           let file = fileOf text in
-          let r : Ringing = record { passes = file .passes; machine = file .machine; commands = file .commands } in
-          ap (λ (l : List ℕ). untilDone (file .passes) (record { passes = file .passes; machine = file .machine; commands = l }))
+          let r : Ringing = record { passes = file .passes; machine = file .machine; memory = memoryAtFirst; commands = file .commands } in
+          ap (λ (l : List ℕ). untilDone (file .passes) (record { passes = file .passes; machine = file .machine; memory = memoryAtFirst; commands = l }))
           (first-part (file .commands) room (omega (arith, few-commands text e)))
           ∙ steps-are-output (file .passes) r (omega arith)
       go false e = refl

@@ -65,24 +65,24 @@ lined m cs q e =
 -- A step by its passes and by the two numbers.
 module _ (r : Ringing) where
   abbrev pass : Passed
-  pass = passed (r .machine)
+  pass = passed (r .machine) (r .memory)
 
   abbrev update : Outcome
   update = updateOf (pass .machine) (r .commands)
 
   module _ (some : r .passes ≢ 0) where
-    pub by-pass : pass .number ≢ 0 → stepOf r ≡ record { bytes = refusalLine (pass .number); next = record { passes = 0; machine = pass .machine; commands = r .commands } }
+    pub by-pass : pass .number ≢ 0 → stepOf r ≡ record { bytes = refusalLine (pass .number); next = record { passes = 0; machine = pass .machine; memory = pass .memory; commands = r .commands } }
     unfolding stepOf
     by-pass h = rw (ne-eqb (r .passes) 0 some, ne-eqb (pass .number) 0 h)
 
     module _ (z : pass .number ≡ 0) where
       pub by-update : update .number ≢ 0
-          → stepOf r ≡ record { bytes = refusalLine (update .number); next = record { passes = 0; machine = update .machine; commands = update .rest } }
+          → stepOf r ≡ record { bytes = refusalLine (update .number); next = record { passes = 0; machine = update .machine; memory = pass .memory; commands = update .rest } }
       unfolding stepOf
       by-update h = rw (ne-eqb (r .passes) 0 some, eq-eqb (pass .number) 0 z, ne-eqb (update .number) 0 h)
 
       pub by-both : update .number ≡ 0
-          → stepOf r ≡ record { bytes = lineAfter (update .machine); next = record { passes = r .passes - 1; machine = update .machine; commands = update .rest } }
+          → stepOf r ≡ record { bytes = lineAfter (update .machine); next = record { passes = r .passes - 1; machine = update .machine; memory = pass .memory; commands = update .rest } }
       unfolding stepOf
       by-both h = rw (ne-eqb (r .passes) 0 some, eq-eqb (pass .number) 0 z, eq-eqb (update .number) 0 h)
 
@@ -97,18 +97,19 @@ module _ (r : Ringing) (line : List ℕ) (from : ℕ) where
       → (size ≡ length bytes) × (line' ≡ sets line 0 bytes) → taken ≡ from + (length (r .commands) - length (next .commands)) → Stepped line' size next taken
   stepped bytes e (es, el) et = rw e (es, (el, (refl, et)))
 
-  module _ (some : r .passes ≢ 0) {n : ℕ} {after : List ℕ} (en : n ≡ passed (r .machine) .number) (ea : after ≡ passed (r .machine) .machine) where
+  module _ (some : r .passes ≢ 0) {n : ℕ} {after memory : List ℕ} (en : n ≡ passed (r .machine) (r .memory) .number) (ea : after ≡ passed (r .machine) (r .memory) .machine)
+      (ey : memory ≡ passed (r .machine) (r .memory) .memory) where
     -- The pass is refused.
     pub step-refused : n ≢ 0 → {line' : List ℕ} {size : ℕ} → (size ≡ length (refusalLine n)) × (line' ≡ sets line 0 (refusalLine n))
-        → Stepped line' size (record { passes = 0; machine = after; commands = r .commands }) from
-    step-refused h puts = stepped (refusalLine n) (by-pass r some (λ e. h (en ∙ e)) ∙ rw (← en, ea)) puts (omega arith)
+        → Stepped line' size (record { passes = 0; machine = after; memory = memory; commands = r .commands }) from
+    step-refused h puts = stepped (refusalLine n) (by-pass r some (λ e. h (en ∙ e)) ∙ rw (← en, ea, ey)) puts (omega arith)
 
     module _ (z : n ≡ 0) {k count : ℕ} {last left : List ℕ} (eu : record { number = k; machine = last; rest = left } ≡ updateOf after (r .commands))
         (ec : count ≡ takenCount after (r .commands)) where
-      updated : record { number = k; machine = last; rest = left } ≡ updateOf (passed (r .machine) .machine) (r .commands)
+      updated : record { number = k; machine = last; rest = left } ≡ updateOf (passed (r .machine) (r .memory) .machine) (r .commands)
       updated = eu ∙ ap (λ (l : List ℕ). updateOf l (r .commands)) ea
 
-      number-is : k ≡ updateOf (passed (r .machine) .machine) (r .commands) .number
+      number-is : k ≡ updateOf (passed (r .machine) (r .memory) .machine) (r .commands) .number
       number-is = ap (λ (o : Outcome). o .number) updated
 
       taken-is : from + count ≡ from + (length (r .commands) - length left)
@@ -116,20 +117,18 @@ module _ (r : Ringing) (line : List ℕ) (from : ℕ) where
 
       -- The update is refused.
       pub step-update-refused : k ≢ 0 → {line' : List ℕ} {size : ℕ} → (size ≡ length (refusalLine k)) × (line' ≡ sets line 0 (refusalLine k))
-          → Stepped line' size (record { passes = 0; machine = last; commands = left }) (from + count)
+          → Stepped line' size (record { passes = 0; machine = last; memory = memory; commands = left }) (from + count)
       step-update-refused h puts =
           stepped (refusalLine k)
-          (by-update r some (sym en ∙ z) (λ e. h (number-is ∙ e))
-          ∙ ap (λ (o : Outcome). record { bytes = refusalLine (o .number); next = record { passes = 0; machine = o .machine; commands = o .rest } }) (sym updated))
+          (by-update r some (sym en ∙ z) (λ e. h (number-is ∙ e)) ∙ rw (← updated, ← ey))
           puts taken-is
 
       -- Neither is.
       pub step-goes : k ≡ 0 → {line' : List ℕ} {size : ℕ} → (size ≡ length (lineAfter last)) × (line' ≡ sets line 0 (lineAfter last))
-          → Stepped line' size (record { passes = r .passes - 1; machine = last; commands = left }) (from + count)
+          → Stepped line' size (record { passes = r .passes - 1; machine = last; memory = memory; commands = left }) (from + count)
       step-goes h puts =
           stepped (lineAfter last)
-          (by-both r some (sym en ∙ z) (sym number-is ∙ h)
-          ∙ ap (λ (o : Outcome). record { bytes = lineAfter (o .machine); next = record { passes = r .passes - 1; machine = o .machine; commands = o .rest } }) (sym updated))
+          (by-both r some (sym en ∙ z) (sym number-is ∙ h) ∙ rw (← updated, ← ey))
           puts taken-is
 
 -- A step's line has at most 51 bytes.
@@ -147,8 +146,8 @@ pub step-length : (r : Ringing) → length (stepOf r .bytes) ≤ 51
 unfolding stepOf Short
 step-length r =
     of-cond Short (eqb (r .passes) 0) (omega arith)
-    (of-cond Short (eqb (passed (r .machine) .number) 0)
-    (of-cond Short (eqb (updateOf (passed (r .machine) .machine) (r .commands) .number) 0) (line-length _) (refusal-length _))
+    (of-cond Short (eqb (passed (r .machine) (r .memory) .number) 0)
+    (of-cond Short (eqb (updateOf (passed (r .machine) (r .memory) .machine) (r .commands) .number) 0) (line-length _) (refusal-length _))
     (refusal-length _))
 
 -- A step takes commands from the front: no more are left than before.
@@ -158,8 +157,8 @@ Fewer r s = length (s .next .commands) ≤ length (r .commands)
 pub step-takes : (r : Ringing) → length (stepOf r .next .commands) ≤ length (r .commands)
 unfolding stepOf Fewer
 step-takes r =
-    let l = left-within (passed (r .machine) .machine) (r .commands) refl in
+    let l = left-within (passed (r .machine) (r .memory) .machine) (r .commands) refl in
     of-cond (Fewer r) (eqb (r .passes) 0) (omega arith)
-    (of-cond (Fewer r) (eqb (passed (r .machine) .number) 0)
-    (of-cond (Fewer r) (eqb (updateOf (passed (r .machine) .machine) (r .commands) .number) 0) l l)
+    (of-cond (Fewer r) (eqb (passed (r .machine) (r .memory) .number) 0)
+    (of-cond (Fewer r) (eqb (updateOf (passed (r .machine) (r .memory) .machine) (r .commands) .number) 0) l l)
     (omega arith))

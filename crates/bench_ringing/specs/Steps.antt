@@ -7,14 +7,15 @@ use mathlib.Core.Path.{_≡_}
 use lib.Dec.{eqb}
 use lib.ListN.{length, getD, take, drop}
 use Rattle.layout.specs.Layout.{dacAt}
-use Rattle.layout.specs.Machine.{Machine, Commands, Reaches}
+use Rattle.layout.specs.Machine.{Machine, Memory, Commands, Reaches}
 use Rattle.questions.specs.Questions.{asked}
 use Rattle.machine.specs.Questions.{question1, question2}
+use Rattle.delay_questions.specs.Questions.{memoryGood}
 use Rattle.update.specs.Update.{updateOf}
 use Rattle.bench_text.specs.Text.{refusalLine}
 use Rattle.bench_file.specs.BenchFile.{Answer}
 use Rattle.bench_pass.specs.ByNumber.{passed}
-use Rattle.bench_ringing.specs.Ringing.{lineAfter}
+use Rattle.bench_ringing.specs.Ringing.{lineAfter, memoryAtFirst}
 use Rattle.bench_ringing.specs.declared.Progress.{Progress}
 
 -- What the line asks of a machine: it reaches so far, and the two words have 20 bits.
@@ -23,15 +24,16 @@ pub record Lined (m : Machine) : Type 0 where
   pub left : getD m (dacAt 0) 0 < 2 ^ 20
   pub right : getD m (dacAt 1) 0 < 2 ^ 20
 
--- A ringing under way: how many passes are left, the machine, and the commands still left.
+-- A ringing under way: how many passes are left, the machine, delay memory, and the commands still left.
 pub record Ringing : Type 0 where
   pub passes : ℕ
   pub machine : Machine
+  pub memory : Memory
   pub commands : Commands
 
--- A progress with its machine and all its commands as a ringing under way.
-abbrev pub ringingAt : Progress → Machine → Commands → Ringing
-ringingAt at m commands = record { passes = at .passes; machine = m; commands = drop (at .taken) commands }
+-- A progress with its machine, delay memory and all its commands as a ringing under way.
+abbrev pub ringingAt : Progress → Machine → Memory → Commands → Ringing
+ringingAt at m memory commands = record { passes = at .passes; machine = m; memory = memory; commands = drop (at .taken) commands }
 
 -- A step: the bytes that it prints, and what is left to ring.
 pub record Step : Type 0 where
@@ -41,32 +43,33 @@ pub record Step : Type 0 where
 -- One pass and one update; after a refusal no pass is left. With no pass left nothing is printed.
 unfoldable pub stepOf : Ringing → Step
 stepOf r =
-    let p = passed (r .machine) in
+    let p = passed (r .machine) (r .memory) in
     let u = updateOf (p .machine) (r .commands) in
     cond (eqb (r .passes) 0) (record { bytes = []; next = r })
     (cond (eqb (p .number) 0)
     (cond (eqb (u .number) 0)
-    (record { bytes = lineAfter (u .machine); next = record { passes = r .passes - 1; machine = u .machine; commands = u .rest } })
-    (record { bytes = refusalLine (u .number); next = record { passes = 0; machine = u .machine; commands = u .rest } }))
-    (record { bytes = refusalLine (p .number); next = record { passes = 0; machine = p .machine; commands = r .commands } }))
+    (record { bytes = lineAfter (u .machine); next = record { passes = r .passes - 1; machine = u .machine; memory = p .memory; commands = u .rest } })
+    (record { bytes = refusalLine (u .number); next = record { passes = 0; machine = u .machine; memory = p .memory; commands = u .rest } }))
+    (record { bytes = refusalLine (p .number); next = record { passes = 0; machine = p .machine; memory = p .memory; commands = r .commands } }))
 
 -- How many commands a step takes.
 abbrev pub commandsTaken : Ringing → Step → ℕ
 commandsTaken r s = length (r .commands) - length (s .next .commands)
 
--- What is known after a step of which question refuses the next pass: where it took no command the number is as it was, and where it took one the machine passes questions 1 and 2.
-pub record Known (m : Machine) (number : ℕ) (took : Bool) : Type 0 where
-  pub as-before : took ≡ false → number ≡ passed m .number
+-- What is known after a step of which question refuses the next pass: where it took no command the number is as it was, and where it took one the machine passes questions 1 and 2 and delay memory 10.
+pub record Known (m : Machine) (memory : Memory) (number : ℕ) (took : Bool) : Type 0 where
+  pub as-before : took ≡ false → number ≡ passed m memory .number
   pub good : took ≡ true → asked (question1 m ∷ question2 m ∷ []) ≡ 0
+  pub memory-good : took ≡ true → memoryGood memory ≡ true
 
 -- The steps one after another until no pass is left, at most k of them.
 unfoldable pub untilDone : ℕ → Ringing → List ℕ
 untilDone zero r = []
 untilDone (suc k) r = let s = stepOf r in cond (eqb (r .passes) 0) [] (s .bytes ++ untilDone k (s .next))
 
--- The ringing that begins with what reading a text answers and leaves.
+-- The ringing that begins with what reading a text answers and leaves, over a delay memory of zeros.
 abbrev pub begun : Answer → Ringing
-begun a = record { passes = a .passes; machine = a .machine; commands = take (a .count) (a .room) }
+begun a = record { passes = a .passes; machine = a .machine; memory = memoryAtFirst; commands = take (a .count) (a .room) }
 
 -- What the steps print from there; a refused text has the line of its refusal.
 unfoldable pub rungFrom : Answer → List ℕ

@@ -56,17 +56,18 @@ pub fn step(
     at: Progress,
     m: &mut [u32],
     commands: &[u32],
+    memory: &mut [u32],
     order: &[u32],
     number: u32,
     line: &mut [u8; bench_text::LINE_BYTES],
 ) -> Progress
     requires { ⌜ at .passes ≢ 0 ⌝ }
     requires { ⌜ now order ≡ byNumber 256 ⌝ }
-    requires { ⌜ number ≡ passed (now m) .number ⌝ }
-    ensures { λ r. ⌜ r .length ≡ length (stepOf (ringingAt at (now (m .entry)) (now (commands .entry))) .bytes) ⌝ }
-    ensures { λ _. ⌜ now (line .exit) ≡ sets (now (line .entry)) 0 (stepOf (ringingAt at (now (m .entry)) (now (commands .entry))) .bytes) ⌝ }
-    ensures { λ r. ⌜ ringingAt r (now (m .exit)) (now (commands .entry)) ≡ stepOf (ringingAt at (now (m .entry)) (now (commands .entry))) .next ⌝ }
-    ensures { λ r. ⌜ r .taken ≡ at .taken + commandsTaken (ringingAt at (now (m .entry)) (now (commands .entry))) (stepOf (ringingAt at (now (m .entry)) (now (commands .entry)))) ⌝ }
+    requires { ⌜ number ≡ passed (now m) (now memory) .number ⌝ }
+    ensures { λ r. ⌜ r .length ≡ length (stepOf (ringingAt at (now (m .entry)) (now (memory .entry)) (now (commands .entry))) .bytes) ⌝ }
+    ensures { λ _. ⌜ now (line .exit) ≡ sets (now (line .entry)) 0 (stepOf (ringingAt at (now (m .entry)) (now (memory .entry)) (now (commands .entry))) .bytes) ⌝ }
+    ensures { λ r. ⌜ ringingAt r (now (m .exit)) (now (memory .exit)) (now (commands .entry)) ≡ stepOf (ringingAt at (now (m .entry)) (now (memory .entry)) (now (commands .entry))) .next ⌝ }
+    ensures { λ r. ⌜ r .taken ≡ at .taken + commandsTaken (ringingAt at (now (m .entry)) (now (memory .entry)) (now (commands .entry))) (stepOf (ringingAt at (now (m .entry)) (now (memory .entry)) (now (commands .entry)))) ⌝ }
 {
     // After a refusal no pass is left.
     let ended: u32 = 0;
@@ -79,7 +80,7 @@ pub fn step(
             length,
         };
     }
-    bench_pass::run(m, order);
+    bench_pass::run(m, memory, order);
     let mut refused: u32 = 0;
     let count = ring_update(m, commands, from, &mut refused);
     let taken = at.taken + count;
@@ -100,13 +101,13 @@ pub fn step(
     }
 }
 
-// Which question refuses the next pass, or 0: it is asked again only where the step took commands, since a pass and an update without commands keep the answers.
-pub fn next_number(m: &[u32], number: u32, took: bool) -> u32
-    requires { ⌜ Known (now m) number took ⌝ }
-    ensures { λ r. ⌜ r ≡ passed (now (m .entry)) .number ⌝ }
+// Which question refuses the next pass, or 0: it is asked again only where the step took commands, since a pass and an update without commands keep the answers. Delay memory is not looked at.
+pub fn next_number(m: &[u32], memory: &[u32], number: u32, took: bool) -> u32
+    requires { ⌜ Known (now m) (now memory) number took ⌝ }
+    ensures { λ r. ⌜ r ≡ passed (now (m .entry)) (now (memory .entry)) .number ⌝ }
 {
     if took {
-        return bench_pass::data_refusal(m);
+        return bench_pass::refusal_again(m);
     }
     number
 }

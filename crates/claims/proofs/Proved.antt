@@ -3,10 +3,13 @@
 use mathlib.Core.Path.{_≡_, sym, _∙_}
 use Rattle.layout.specs.Machine.{Machine}
 use Rattle.machine.proofs.FreshMachine.{fresh-length, fresh-sound}
+use Rattle.machine.proofs.SoundMachine.{sound-controls}
+use Rattle.delay.proofs.Returns.{line-returns, table-returns}
 use Rattle.pass_model.specs.Pass.{Call, passOf, passRefusal}
 use Rattle.pass_model.proofs.Asked.{refusal-leaves}
 use Rattle.pass_laws.proofs.Passing.{pass-number}
 use Rattle.pass_laws.proofs.PassSound.{pass-sound}
+use Rattle.pass_laws.proofs.PassDelays.{pass-memory, pass-units}
 use Rattle.pass_laws.proofs.PassSettings.{pass-settings}
 use Rattle.pass_laws.proofs.PassCounts.{pass-counts, pass-counter}
 use Rattle.update_laws.proofs.SoundCommands.{command-sound}
@@ -33,11 +36,15 @@ claims =
       pass-keeps = pass-sound;
       command-keeps = λ m c good. record { whole = command-length m c ∙ good .whole; is-sound = command-sound m c (good .is-sound) };
       update-keeps = λ m cs good. record { whole = update-length m cs ∙ good .whole; is-sound = update-sound m cs (good .is-sound) };
+      pass-keeps-memory = pass-memory;
+      pass-keeps-units = λ m call good. pass-units m call (sound-controls m (good .is-sound) .tHigh);
       pass-settings = pass-settings;
       items-read = λ m call n. pass-counts m call (not-refused m call n) .0;
       items-written = λ m call n. pass-counts m call (not-refused m call n) .1;
       pass-counted = λ m call n. pass-counter m call (not-refused m call n);
       refused-leaves = λ m call n. refusal-leaves m call (λ e. n (pass-number m call ∙ e));
+      line-returns = line-returns;
+      table-returns = table-returns;
       steps-are-output = rung-file;
       gathered-are-output = gathered-file;
     }

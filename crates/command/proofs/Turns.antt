@@ -11,6 +11,7 @@ use Rattle.command_generator.specs.GeneratorLoads.{afterGeneratorLoad}
 use Rattle.command_modifier.specs.ModifierLoads.{afterModifierLoad}
 use Rattle.command_misc.specs.Misc.{miscellany}
 use Rattle.command_timer.specs.Timer.{timed, timerWaits, ticksSet}
+use Rattle.command_delay.specs.DelayLoads.{loadedDLY}
 use Rattle.command_built.specs.Built.{commandRefusal}
 use Rattle.command.specs.Command.{done, waits, afterCommand, takenWaiting}
 
@@ -18,6 +19,10 @@ module _ (m : List ℕ) (c : ℕ) {l : List ℕ} {code : ℕ} (ec : code ≡ cod
   pub does-misc : code ≡ 0b00000 → l ≡ miscellany m c → (false ≡ waits m c) × (l ≡ done m c)
   unfolding done waits
   does-misc e q = rw (← ec, e) (refl, q)
+
+  pub does-delay : code ≡ 0b00001 → l ≡ loadedDLY m c → (false ≡ waits m c) × (l ≡ done m c)
+  unfolding done waits
+  does-delay e q = rw (← ec, e) (refl, q)
 
   pub does-timer : {r : Bool} → code ≡ 0b00010 → (r ≡ timerWaits m c) × (l ≡ timed m c) → (r ≡ waits m c) × (l ≡ done m c)
   unfolding done waits
@@ -27,14 +32,14 @@ module _ (m : List ℕ) (c : ℕ) {l : List ℕ} {code : ℕ} (ec : code ≡ cod
   unfolding done waits
   does-ticks e q = rw (← ec, e) (refl, q)
 
-  module _ (misc : code ≢ 0b00000) (timer : code ≢ 0b00010) (ticks : code ≢ 0b00011) where
+  module _ (misc : code ≢ 0b00000) (delay : code ≢ 0b00001) (timer : code ≢ 0b00010) (ticks : code ≢ 0b00011) where
     pub does-generator-load : code < 0b11000 → l ≡ afterGeneratorLoad m c → (false ≡ waits m c) × (l ≡ done m c)
     unfolding done waits
-    does-generator-load h q = rw (← ec, ne-eqb code 0b00000 misc, ne-eqb code 0b00010 timer, ne-eqb code 0b00011 ticks, lt-ltb code 0b11000 h) (refl, q)
+    does-generator-load h q = rw (← ec, ne-eqb code 0b00000 misc, ne-eqb code 0b00001 delay, ne-eqb code 0b00010 timer, ne-eqb code 0b00011 ticks, lt-ltb code 0b11000 h) (refl, q)
 
     pub does-modifier-load : 0b11000 ≤ code → l ≡ afterModifierLoad m c → (false ≡ waits m c) × (l ≡ done m c)
     unfolding done waits
-    does-modifier-load h q = rw (← ec, ne-eqb code 0b00000 misc, ne-eqb code 0b00010 timer, ne-eqb code 0b00011 ticks, le-ltb code 0b11000 h) (refl, q)
+    does-modifier-load h q = rw (← ec, ne-eqb code 0b00000 misc, ne-eqb code 0b00001 delay, ne-eqb code 0b00010 timer, ne-eqb code 0b00011 ticks, le-ltb code 0b11000 h) (refl, q)
 
 module _ (m : List ℕ) (c : ℕ) where
   -- A refused command leaves the machine and doesn't wait.

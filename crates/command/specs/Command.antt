@@ -9,16 +9,18 @@ use Rattle.command_generator.specs.GeneratorLoads.{afterGeneratorLoad}
 use Rattle.command_modifier.specs.ModifierLoads.{afterModifierLoad}
 use Rattle.command_misc.specs.Misc.{miscellany}
 use Rattle.command_timer.specs.Timer.{timed, timerWaits, ticksSet}
+use Rattle.command_delay.specs.DelayLoads.{loadedDLY}
 use Rattle.command_built.specs.Built.{commandRefusal}
 
--- What a command that passes its questions does, by its code: MISC, TIMER, TICKS, and the loads, of a generator's registers below 11000 and else of a modifier's.
+-- What a command that passes its questions does, by its code: MISC, DLY, TIMER, TICKS, and the loads, of a generator's registers below 11000 and else of a modifier's.
 unfoldable pub done : Machine → ℕ → Machine
 done m c =
     cond (eqb (code5 c) 0b00000) (miscellany m c)
+    (cond (eqb (code5 c) 0b00001) (loadedDLY m c)
     (cond (eqb (code5 c) 0b00010) (timed m c)
     (cond (eqb (code5 c) 0b00011) (ticksSet m c)
     (cond (ltb (code5 c) 0b11000) (afterGeneratorLoad m c)
-    (afterModifierLoad m c))))
+    (afterModifierLoad m c)))))
 
 -- Whether it is a Linger that waits.
 unfoldable pub waits : Machine → ℕ → Bool

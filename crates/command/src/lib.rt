@@ -10,7 +10,7 @@ pub struct CommandTurn {
     pub waits: bool,
 }
 
-// What a command that passes its questions does, by its code: MISC, TIMER, TICKS, and the loads. Whether it waits.
+// What a command that passes its questions does, by its code: MISC, DLY, TIMER, TICKS, and the loads. Whether it waits.
 fn perform(m: &mut [u32], c: u32) -> bool
     requires { ⌜ Reaches (now m) ⌝ }
     ensures { λ r. ⌜ (r ≡ waits (now (m .entry)) c) × (now (m .exit) ≡ done (now (m .entry)) c) ⌝ }
@@ -18,6 +18,10 @@ fn perform(m: &mut [u32], c: u32) -> bool
     let code = command_fields::field(c, 24, 28);
     if code == 0b00000 {
         command_misc::miscellany(m, c);
+        return false;
+    }
+    if code == 0b00001 {
+        command_delay::load(m, c);
         return false;
     }
     if code == 0b00010 {

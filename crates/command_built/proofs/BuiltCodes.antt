@@ -2,12 +2,13 @@
 -- Assumes nothing.
 use mathlib.Core.Path.{_≡_, refl}
 use mathlib.Core.Logic.{_≢_}
-use mathlib.Core.Bool.{Bool, true, false, not, _&&_}
+use mathlib.Core.Bool.{Bool, true, not, _&&_}
 use Prim.Native.Nat.{ℕ}
 use native.Mathlib.Omega.{arith}
 use lib.Dec.{ltb}
 use borrow.Author.Tests.{ne-eqb, eq-eqb}
 use Rattle.command_fields.specs.Fields.{field, flag, code4, code5}
+use Rattle.command_delay.specs.DelayLoads.{builtDLY}
 use Rattle.command_built.specs.Built.{builtGMODE, builtMMODE, builtMRM, built}
 
 module _ (c : ℕ) {code : ℕ} (ec : code ≡ code5 c) where
@@ -15,9 +16,9 @@ module _ (c : ℕ) {code : ℕ} (ec : code ≡ code5 c) where
   unfolding built
   asks-misc e r s = rw (← ec, e, r, s) refl
 
-  pub asks-delay : code ≡ 0b00001 → false ≡ built c
+  pub asks-delay : {b : Bool} → code ≡ 0b00001 → b ≡ builtDLY c → b ≡ built c
   unfolding built
-  asks-delay e = rw (← ec, e) refl
+  asks-delay e b = rw (b, ← ec, e)
 
   pub asks-ticks : {fixed : Bool} → code ≡ 0b00011 → fixed ≡ flag 31 c → not fixed ≡ built c
   unfolding built

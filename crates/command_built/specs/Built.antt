@@ -1,13 +1,14 @@
 -- Questions 3 and 4, which a command is asked (document 01, "Questions at the door").
 -- Assumes nothing.
 use Prim.Native.Nat.{ℕ}
-use mathlib.Core.Bool.{Bool, true, false, cond, not, _&&_, _||_}
+use mathlib.Core.Bool.{Bool, true, cond, not, _&&_, _||_}
 use mathlib.Core.List.{[], _∷_}
 use lib.Dec.{eqb, leb, ltb}
 use Rattle.questions.specs.Questions.{Question, asked}
 use Rattle.machine.specs.Questions.{goodGmode, goodMmode, goodAddress}
 use Rattle.command_fields.specs.Fields.{field, flag, code4, code5}
 use Rattle.command_timer.specs.Timer.{ticksData}
+use Rattle.command_delay.specs.DelayLoads.{builtDLY}
 
 -- MISC with RR 10 or 11 or with S is not built.
 abbrev pub builtMISC : ℕ → Bool
@@ -29,11 +30,11 @@ builtMMODE c = flag 4 c || goodMmode (field 8 16 c)
 abbrev pub builtMRM : ℕ → Bool
 builtMRM c = (flag 4 c || goodAddress (field 8 15 c)) && (flag 5 c || goodAddress (field 16 23 c))
 
--- Whether a command is built, its modes and addresses too, disabled fields aside. DLY (00001) is not; nothing more is asked of the other codes.
+-- Whether a command is built, its modes and addresses too, disabled fields aside. Nothing more is asked of the other codes.
 unfoldable pub built : ℕ → Bool
 built c =
     cond (eqb (code5 c) 0b00000) (builtMISC c)
-    (cond (eqb (code5 c) 0b00001) false
+    (cond (eqb (code5 c) 0b00001) (builtDLY c)
     (cond (eqb (code5 c) 0b00011) (builtTICKS c)
     (cond (eqb (code4 c) 0b1010) (builtGMODE c)
     (cond (eqb (code5 c) 0b11110) (builtMMODE c)

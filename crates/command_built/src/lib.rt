@@ -34,7 +34,7 @@ pub fn built(c: u32) -> bool
 {
     match field(c, 24, 28) {
         0b00000 => (field(c, 29, 30) < 0b10) & !flag(c, 35),
-        0b00001 => false,
+        0b00001 => command_delay::built_dly(c),
         0b00011 => !flag(c, 31),
         0b10100 | 0b10101 => built_gmode(c),
         0b11110 => built_mmode(c),

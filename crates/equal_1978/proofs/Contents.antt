@@ -8,18 +8,32 @@ use native.Mathlib.Nat.{add-zero}
 use borrow.Author.Tests.{eqb-true, ltb-true, ltb-false, lt-ltb, le-ltb}
 use lib.Dec.{eqb, ltb, lit<, lit≤}
 use lib.ListN.{length, getD}
+use Rattle.lists.specs.Lists.{isOneOf}
+use Rattle.modifier_turn.specs.Turn.{builtFunctions, builtFunction}
 use Rattle.lists.proofs.Tables.{tabulate-length, tabulate-at}
-use Rattle.layout.specs.Layout.{machineLength, generatorAt, quadrantAt, tAt, GO, GSUM, GFM, GMODE}
+use Rattle.layout.specs.Layout.{machineLength, generatorAt, modifierAt, quadrantAt, tAt, MMODE, GO, GSUM, GFM, GMODE}
 use Rattle.layout.specs.Machine.{Machine, ticksOf, gmodeAt, gsumAt, gfmAt}
 use Rattle.machine.specs.Questions.{regions, testAt, sound}
 use Rattle.machine.proofs.Regions.{region, start, unit-test}
 use Rattle.machine.proofs.SoundMachine.{sound-at, sound-from}
 use Rattle.pass_laws.specs.Good.{Good}
-use Rattle.equal_1978.specs.Witnesses.{withWords, byPlace}
+use Rattle.equal_1978.specs.Witnesses.{withWords, inactiveModifier, byPlace}
 
 -- The test of register j of a generator.
 unfoldable pub registerTest : ℕ → ℕ → Bool
 registerTest j x = getD (region regions 0 .tests) j (λ y. false) x
+
+-- The test of register j of a modifier, and that an inactive modifier's words pass it.
+unfoldable pub modifierTest : ℕ → ℕ → Bool
+modifierTest j x = getD (region regions 1 .tests) j (λ y. false) x
+
+inactive-fits : (j x : ℕ) → modifierTest j x ≡ true → modifierTest j (inactiveModifier j x) ≡ true
+unfolding modifierTest inactiveModifier regions builtFunction builtFunctions isOneOf
+inactive-fits j x old = go (eqb j MMODE) refl
+  where
+    go : (b : Bool) → eqb j MMODE ≡ b → modifierTest j (cond b 0 x) ≡ true
+    go true q = rw (eqb-true j MMODE q)
+    go false q = old
 
 -- A value that fits register k is put there, and any other register keeps its own.
 pub fits-put : (j k v x : ℕ) → registerTest k v ≡ true → registerTest j x ≡ true → registerTest j (cond (eqb j k) v x) ≡ true
@@ -50,7 +64,7 @@ module _ (register word : ℕ → ℕ → ℕ → ℕ) (m : Machine) where
   unfolding byPlace
   changed-generators i h = changed-at i (omega arith) ∙ rw (lt-ltb i 2816 h)
 
-  changed-modifiers : (i : ℕ) → 2816 ≤ i → i < 3840 → getD changed i 0 ≡ getD m i 0
+  changed-modifiers : (i : ℕ) → 2816 ≤ i → i < 3840 → getD changed i 0 ≡ inactiveModifier ((i - 2816) % 8) (getD m i 0)
   unfolding byPlace
   changed-modifiers i l h = changed-at i (omega arith) ∙ rw (le-ltb i 2816 l, lt-ltb i 3840 h)
 
@@ -62,6 +76,14 @@ module _ (register word : ℕ → ℕ → ℕ → ℕ) (m : Machine) where
   pub changed-rest : (i : ℕ) → 4096 ≤ i → i < machineLength → getD changed i 0 ≡ getD m i 0
   unfolding byPlace
   changed-rest i l h = changed-at i h ∙ rw (le-ltb i 2816 (omega arith), le-ltb i 3840 (omega arith), le-ltb i 4096 l)
+
+  -- Every modifier is inactive.
+  pub changed-inactive : (k : ℕ) → k < 128 → getD changed (modifierAt k + MMODE) 0 ≡ 0
+  unfolding inactiveModifier
+  changed-inactive k h =
+      let i = modifierAt k + MMODE in
+      let r : (i - 2816) % 8 ≡ MMODE = omega arith in
+      changed-modifiers i (omega arith) (omega arith) ∙ rw r
 
   -- Register j of generator g, and word w of quadrant q.
   pub changed-register : (g j : ℕ) → g < 256 → j < 11 → getD changed (generatorAt g + j) 0 ≡ register g j (getD m (generatorAt g + j) 0)
@@ -86,6 +108,12 @@ module _ (register word : ℕ → ℕ → ℕ → ℕ) (m : Machine) where
         let q : i ≡ start regions 0 + (11 * (i / 11) + i % 11) = omega arith in
         ap (λ (at : ℕ). testAt regions at x) q ∙ unit-test regions 0 (i / 11) (i % 11) x (omega arith) (omega arith)
 
+    in-modifiers : (i : ℕ) → 2816 ≤ i → i < 3840 → (x : ℕ) → testAt regions i x ≡ modifierTest ((i - 2816) % 8) x
+    unfolding modifierTest regions
+    in-modifiers i l h x =
+        let q : i ≡ start regions 1 + (8 * ((i - 2816) / 8) + (i - 2816) % 8) = omega arith in
+        ap (λ (at : ℕ). testAt regions at x) q ∙ unit-test regions 1 ((i - 2816) / 8) ((i - 2816) % 8) x (omega arith) (omega arith)
+
     in-sums : (i : ℕ) → 3840 ≤ i → i < 4096 → (x : ℕ) → testAt regions i x ≡ ltb x (2 ^ 20)
     unfolding regions
     in-sums i l h x =
@@ -98,7 +126,12 @@ module _ (register word : ℕ → ℕ → ℕ → ℕ) (m : Machine) where
         in-generators i l (getD changed i 0)
         ∙ ap (registerTest (i % 11)) (changed-generators i l)
         ∙ fits .registers (i / 11) (i % 11) (getD m i 0) (sym (in-generators i l (getD m i 0)) ∙ sound-at m e i h)
-    passes i h false true c ea eb ec = rw (changed-modifiers i (ltb-false i 2816 ea) (ltb-true i 3840 eb)) (sound-at m e i h)
+    passes i h false true c ea eb ec =
+        let l = ltb-false i 2816 ea in
+        let k = ltb-true i 3840 eb in
+        in-modifiers i l k (getD changed i 0)
+        ∙ ap (modifierTest ((i - 2816) % 8)) (changed-modifiers i l k)
+        ∙ inactive-fits ((i - 2816) % 8) (getD m i 0) (sym (in-modifiers i l k (getD m i 0)) ∙ sound-at m e i h)
     passes i h false false true ea eb ec =
         let l = ltb-false i 3840 eb in
         let k = ltb-true i 4096 ec in
@@ -119,9 +152,10 @@ pub record Keeping (register : ℕ → ℕ → ℕ → ℕ) : Type 0 where
   pub gfm : (g x : ℕ) → register g GFM x ≡ x
   pub gmode : (g x : ℕ) → register g GMODE x ≡ x
 
--- A good machine n has T, GO, GSUM, GFM and GMODE of the machine m.
+-- A good machine n has T, GO, GSUM, GFM and GMODE of the machine m, and every modifier inactive.
 pub record SameRegisters (m n : Machine) : Type 0 where
   pub good : Good n
+  pub inactive : (k : ℕ) → k < 128 → getD n (modifierAt k + MMODE) 0 ≡ 0
   pub ticks : ticksOf n ≡ ticksOf m
   pub go : (g : ℕ) → g < 256 → getD n (generatorAt g) 0 ≡ getD m (generatorAt g) 0
   pub gsum : (g : ℕ) → g < 256 → gsumAt n g ≡ gsumAt m g
@@ -133,6 +167,7 @@ pub changed-same : (register word : ℕ → ℕ → ℕ → ℕ) (m : Machine) �
 changed-same register word m fits keeps e =
     record {
       good = record { whole = changed-length register word m; is-sound = changed-sound register word m fits e };
+      inactive = changed-inactive register word m;
       ticks = changed-rest register word m tAt (lit≤ tt) (lit< tt);
       go = λ g h. rw (← (add-zero (generatorAt g))) (changed-register register word m g 0 h (lit< tt) ∙ keeps .go g _);
       gsum = λ g h. changed-register register word m g GSUM h (lit< tt) ∙ keeps .gsum g _;

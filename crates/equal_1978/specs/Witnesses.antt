@@ -6,7 +6,7 @@ use mathlib.Core.List.{[], _∷_}
 use lib.Dec.{eqb, ltb}
 use lib.ListN.{getD}
 use Rattle.lists.specs.Lists.{tabulate}
-use Rattle.layout.specs.Layout.{machineLength, generatorWords, modifierAt, quadrantAt, dacAt, GJ, GK, GM, GP, GQ, GL}
+use Rattle.layout.specs.Layout.{machineLength, generatorWords, modifierAt, modifierWords, quadrantAt, dacAt, GJ, GK, GM, GP, GQ, GL, MMODE}
 use Rattle.layout.specs.Machine.{Machine, gmodeAt}
 use Rattle.layout.specs.Widths.{glBits}
 use Rattle.sums.specs.Sums.{generatorLast, modifierLast}
@@ -15,11 +15,15 @@ use Rattle.sums.specs.Sums.{generatorLast, modifierLast}
 unfoldable pub withWords : (ℕ → ℕ → ℕ) → Machine → Machine
 withWords rule m = tabulate (λ i. rule i (getD m i 0)) 0 machineLength
 
--- Such a rule: a generator's words by generator and register, the words of sum memory by quadrant and word; every other word stays.
+-- A modifier's word by its register: every modifier is inactive, so that no delay unit and no delay memory has a say.
+unfoldable pub inactiveModifier : ℕ → ℕ → ℕ
+inactiveModifier j x = cond (eqb j MMODE) 0 x
+
+-- Such a rule: a generator's words by generator and register, modifiers inactive, the words of sum memory by quadrant and word; every other word stays.
 unfoldable pub byPlace : (ℕ → ℕ → ℕ → ℕ) → (ℕ → ℕ → ℕ → ℕ) → ℕ → ℕ → ℕ
 byPlace register word i x =
     cond (ltb i (modifierAt 0)) (register (i / generatorWords) (i % generatorWords) x)
-    (cond (ltb i (quadrantAt 0)) x
+    (cond (ltb i (quadrantAt 0)) (inactiveModifier ((i - modifierAt 0) % modifierWords) x)
     (cond (ltb i (dacAt 0)) (word ((i - quadrantAt 0) / 64) ((i - quadrantAt 0) % 64) x)
     x))
 

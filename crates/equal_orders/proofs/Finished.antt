@@ -1,13 +1,22 @@
 -- A pass that is let through is what its generators leave and what follows on that: so its end tells what they left, and is told by it.
 -- Assumes nothing.
-use mathlib.Core.Path.{_≡_, sym, ap, _∙_}
+use mathlib.Core.Path.{_≡_, refl, sym, ap, _∙_}
+use mathlib.Core.Logic.{_≢_}
+use mathlib.Core.Bool.{true, false}
 use mathlib.Core.List.{[], _∷_}
 use Prim.Native.Nat.{ℕ, _+_, _/_, _≤_, _<_}
 use native.Mathlib.Omega.{arith}
-use borrow.Author.Tests.{eq-eqb}
+use borrow.Author.Tests.{ne-eqb}
+use lib.Dec.{lit<}
 use lib.ListN.{length, getD}
-use Rattle.layout.specs.Layout.{machineLength, generatorAt, dacAt, quadrantAt, GMODE}
+use Rattle.layout.specs.Layout.{machineLength, memoryWords, generatorAt, modifierAt, dacAt, quadrantAt, GMODE, MMODE}
 use Rattle.layout.specs.Machine.{Machine, Order, Items, Places, Reaches, ticksOf}
+use Rattle.lists.specs.Lists.{allBelow, zeros}
+use Rattle.lists.proofs.Below.{below-from}
+use Rattle.lists.proofs.Zeros.{zeros-length, zeros-at}
+use Rattle.delay_questions.specs.Questions.{memoryGood, invokes, goodLine, linesGood, apart, namedOnce, question11, question12}
+use Rattle.delay_questions.proofs.Memory.{good-from}
+use Rattle.delay_questions.proofs.Lines.{none-invoked}
 use Rattle.questions.specs.Questions.{asked}
 use Rattle.machine.specs.Questions.{question1, question2}
 use Rattle.machine.proofs.SoundMachine.{reaches}
@@ -16,8 +25,10 @@ use Rattle.sums.specs.Sums.{generatorLast, sumsOf}
 use Rattle.sums.proofs.Blocks.{outside-before, outside-after}
 use Rattle.sums.proofs.Memory.{Quadrants, sums-quadrants}
 use Rattle.pass_model.specs.Generators.{Generators, of1978, Taken, begun, takenBy}
-use Rattle.pass_model.specs.Pass.{Call, by, generatorsTaken, finished, ran, passOf}
-use Rattle.pass_model.proofs.Asked.{not-refused}
+use Rattle.pass_model.specs.Pass.{Call, by, plainCall, generatorsTaken, finished, ran, refused, passRefusal, passOf}
+use Rattle.pass_model.specs.Modifiers.{Held}
+use Rattle.pass_model.proofs.Asked.{past-memory}
+use Rattle.pass_model.proofs.Delays.{off-below}
 use Rattle.pass_laws.specs.Good.{Good}
 use Rattle.pass_laws.proofs.Completing.{completed-word, completed-last}
 use Rattle.pass_laws.proofs.Frames.{steps-length, steps-quadrants}
@@ -30,17 +41,51 @@ use Rattle.equal_orders.specs.Equal.{Enough, SameEnd}
 abbrev pub OrderPasses : ℕ → Order → Type 0
 OrderPasses t order = asked (question5 t order ∷ question6 t order ∷ []) ≡ 0
 
--- A pass by an order from a good machine, with a call that brings enough.
-pub pass-runs : (n : Machine) → Good n → (order : Order) → OrderPasses (ticksOf n) order → (call : Call) → Enough n call
+-- A pass that is let through.
+pub pass-let : (n : Machine) (order : Order) (call : Call) → passRefusal n (by order call) ≡ 0
     → passOf n (by order call) ≡ finished n (by order call) (takenIn of1978 n (call .items) (call .places) order)
 unfolding ran generatorsTaken
-pass-runs n good order p call e = let-through n (by order call) (sym (not-refused n (by order call) (good-passes n good) p (e .reads) (e .writes)))
+pass-let n order call e = let-through n (by order call) e
+
+-- Delay memory of zeros passes question 10.
+zeros-good : memoryGood (zeros memoryWords) ≡ true
+zeros-good = good-from (zeros memoryWords) (zeros-length memoryWords) (λ i h. rw (zeros-at memoryWords i (rw (zeros-length memoryWords) at h)) (lit< tt))
+
+-- Where every modifier is inactive, no delay unit is invoked: questions 11 and 12 are answered yes.
+units-pass : (n : Machine) → ticksOf n ≤ 256 → ((k : ℕ) → k < 128 → getD n (modifierAt k + MMODE) 0 ≡ 0) → asked (question11 n ∷ question12 n ∷ []) ≡ 0
+unfolding asked linesGood namedOnce apart
+units-pass n few inactive = rw (lines, named)
+  where
+    none : (k : ℕ) → k < ticksOf n / 2 → invokes n k ≡ false
+    none k h = rw (inactive k (omega arith))
+
+    lines : allBelow (goodLine n) (ticksOf n / 2) ≡ true
+    lines = below-from (goodLine n) (ticksOf n / 2) (λ k h. none-invoked n k (none k h))
+
+    named : allBelow (λ k. allBelow (λ j. apart n j k) k) (ticksOf n / 2) ≡ true
+    named =
+        below-from (λ k. allBelow (λ j. apart n j k) k) (ticksOf n / 2)
+        (λ k h. below-from (λ j. apart n j k) k (λ j l. rw (none j (omega arith))))
+
+-- A pass by an order from a good machine with every modifier inactive, with a call that brings enough and delay memory of zeros.
+pub plain-let : (n : Machine) → Good n → ticksOf n ≤ 256 → ((k : ℕ) → k < 128 → getD n (modifierAt k + MMODE) 0 ≡ 0)
+    → (first order : Order) (items : Items) (places : Places) → OrderPasses (ticksOf n) order → let call = plainCall first items places in
+    Enough n call → passRefusal n (by order call) ≡ 0
+plain-let n good few inactive first order items places p e =
+    let call = plainCall first items places in
+    past-memory n (by order call) (good-passes n good) p (e .reads) (e .writes) zeros-good ∙ units-pass n few inactive
+
+-- Two passes that are refused alike end the same.
+pub refused-end : (n : Machine) (call : Call) (o₁ o₂ : Order) (k : ℕ) → passRefusal n (by o₁ call) ≡ k → passRefusal n (by o₂ call) ≡ k → k ≢ 0
+    → SameEnd (passOf n (by o₁ call)) (passOf n (by o₂ call))
+unfolding passOf refused
+refused-end n call o₁ o₂ k e₁ e₂ h = rw (e₁, e₂, ne-eqb k 0 h) (record { machine = refl; memory = refl; written = refl })
 
 module _ (n : Machine) (call : Call) (o₁ o₂ : Order) (t u : Taken) where
   -- Passes whose generators leave the same end the same.
   pub same-end : SameTaken t u → SameEnd (finished n (by o₁ call) t) (finished n (by o₂ call) u)
   unfolding finished
-  same-end s = record { machine = rw (s .words, s .sums); written = rw (s .writes, s .places) }
+  same-end s = record { machine = rw (s .words, s .sums); memory = rw (s .words, s .sums); written = rw (s .writes, s .places) }
 
 -- What the generators leave has a machine's words and four quadrants.
 record Whole (t : Taken) : Type 0 where
@@ -57,23 +102,27 @@ taken-whole of n whole items places order =
       quadrants = steps-quadrants of items order s (rw (begun-sums n (sumsOf n) places) (sums-quadrants n (reaches n whole)));
     }
 
+-- The words that they leave with the call's delay memory.
+abbrev heldAfter : Call → Taken → Held
+heldAfter call t = record { words = t .words; memory = call .memory }
+
 -- The end of a pass shows each GMODE, the DAC words, and generator-this as the generators left them.
 module _ (n : Machine) (call : Call) (few : ticksOf n ≤ 256) (t : Taken) (w : Whole t) where
   shown-mode : (g : ℕ) → g < 256 → getD (finished n call t .machine) (generatorAt g + GMODE) 0 ≡ getD (t .words) (generatorAt g + GMODE) 0
   unfolding finished
   shown-mode g h =
-      completed-word (t .words) (t .sums) (ticksOf n / 2) (w .quadrants) (generatorAt g + GMODE) (record { not-at = λ a j b c z. omega arith })
+      completed-word (ticksOf n) (heldAfter call t) (t .sums) (w .quadrants) (generatorAt g + GMODE) (record { not-at = λ a j b c z. omega arith; units = off-below (generatorAt g + GMODE) (omega arith) })
       (outside-before (generatorAt g + GMODE) 3840 256 (omega arith)) (λ z. omega arith)
 
   shown-dac : (d : ℕ) → d < 16 → getD (finished n call t .machine) (dacAt d) 0 ≡ getD (t .words) (dacAt d) 0
   unfolding finished
   shown-dac d h =
-      completed-word (t .words) (t .sums) (ticksOf n / 2) (w .quadrants) (dacAt d) (record { not-at = λ a j b c z. omega (arith, few) })
+      completed-word (ticksOf n) (heldAfter call t) (t .sums) (w .quadrants) (dacAt d) (record { not-at = λ a j b c z. omega (arith, few); units = off-below (dacAt d) (omega arith) })
       (outside-after (dacAt d) 3840 256 (omega arith)) (λ z. omega arith)
 
   shown-sum : (i : ℕ) → i < 64 → getD (finished n call t .machine) (quadrantAt generatorLast + i) 0 ≡ getD (getD (t .sums) 0 []) i 0
   unfolding finished
-  shown-sum i h = completed-last (t .words) (t .sums) (ticksOf n / 2) (w .quadrants) (w .words) i h
+  shown-sum i h = completed-last (ticksOf n) (heldAfter call t) (t .sums) (w .quadrants) (w .words) i h
 
 -- So passes that end the same are the same as far as orders can be told apart.
 pub same-heard : (of : Generators) (n : Machine) → length n ≡ machineLength → ticksOf n ≤ 256 → (call : Call) (o₁ o₂ : Order)

@@ -23,7 +23,7 @@ use Rattle.equal_witnesses.proofs.Points.{heard-agree}
 use Rattle.equal_1978.proofs.Contents.{SameRegisters}
 use Rattle.equal_1978.proofs.Telling.{contents-1978}
 use Rattle.equal_orders.specs.Equal.{Words, Enough, Equal}
-use Rattle.equal_orders.proofs.Finished.{OrderPasses, pass-runs, same-heard}
+use Rattle.equal_orders.proofs.Finished.{OrderPasses, pass-let, plain-let, same-heard}
 use Rattle.equal_orders.proofs.Settings.{follows, content-settings}
 
 -- A good machine has at most 256 generators in a run mode, so that 256 items and places are enough.
@@ -54,7 +54,10 @@ module _ (m : Machine) (good : Good m) (o₁ o₂ : Order) (p₁ : OrderPasses (
       let call = plainCall o₁ items (zeros 256) in
       let e = brings-enough n (r .good) o₁ items long words in
       same-heard of1978 n (r .good .whole) (few-ticks n (r .good)) call o₁ o₂
-      (rw (pass-runs n (r .good) o₁ (rw (r .ticks) p₁) call e, pass-runs n (r .good) o₂ (rw (r .ticks) p₂) call e)
+      (rw (
+        pass-let n o₁ call (plain-let n (r .good) (few-ticks n (r .good)) (r .inactive) o₁ o₁ items (zeros 256) (rw (r .ticks) p₁) e),
+        pass-let n o₂ call (plain-let n (r .good) (few-ticks n (r .good)) (r .inactive) o₁ o₂ items (zeros 256) (rw (r .ticks) p₂) e),
+      )
       at (equal n (r .good) (content-settings m n r) call e))
 
   pub equal-agreed : Agree m o₁ o₂

@@ -1,4 +1,4 @@
--- When two orders of the generators are equal (document 01, "A pass, and two orders of it").
+-- When two orders of the generators are equal (document 01, "A pass, and two orders of it"; document 02, Q-1).
 -- Assumes nothing.
 use Prim.Native.Nat.{ℕ, _^_, _≤_, _<_}
 use mathlib.Core.List.{List}
@@ -33,12 +33,14 @@ pub record Enough (m : Machine) (call : Call) : Type 0 where
 abbrev pub writtenData : Outcome → List ℕ
 writtenData r = take (r .written) (r .places)
 
--- Two passes leave the same value in each word of the machine and write the same items in the same sequence.
+-- Two passes leave the same value in each word of the machine and of delay memory, and write the same items in the same sequence.
 pub record SameEnd (r s : Outcome) : Type 0 where
   pub machine : r .machine ≡ s .machine
+  pub memory : r .memory ≡ s .memory
   pub written : writtenData r ≡ writtenData s
 
 -- Two orders are equal: for every machine with these settings that passes questions 1 and 2, its other words being free,
--- and for every call that brings enough for it, passes by the two orders leave the same machine and write the same data.
+-- and for every call that brings enough for it, over whatever delay memory, passes by the two orders leave the same machine and delay memory and write the same data.
+-- Where the delay units or their memory refuse the pass, both orders are refused alike.
 abbrev pub Equal : Machine → Order → Order → Type 0
 Equal m o₁ o₂ = (n : Machine) → Good n → SameSettings m n → (call : Call) → Enough n call → SameEnd (passOf n (by o₁ call)) (passOf n (by o₂ call))

@@ -23,12 +23,13 @@ pub extern "C" fn karvelorn_pass(
     order: &[u32],
     items: &[u32],
     places: &mut [u32],
+    memory: &mut [u32],
     read: &mut usize,
     written: &mut usize,
 ) -> u32
-    ensures { λ r. ⌜ record { number = r; read = now (read .exit); written = now (written .exit); machine = now (m .exit); places = now (places .exit) } ≡ passOf (now (m .entry)) (record { order = now (order .entry); items = now (items .entry); places = now (places .entry) }) ⌝ }
+    ensures { λ r. ⌜ record { number = r; read = now (read .exit); written = now (written .exit); machine = now (m .exit); places = now (places .exit); memory = now (memory .exit) } ≡ passOf (now (m .entry)) (record { order = now (order .entry); items = now (items .entry); places = now (places .entry); memory = now (memory .entry) }) ⌝ }
 {
-    let done = pass::pass(m, order, items, places);
+    let done = pass::pass(m, order, items, places, memory);
     *read = done.read;
     *written = done.written;
     done.number

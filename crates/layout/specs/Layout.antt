@@ -6,10 +6,10 @@ use lib.ListN.{length}
 
 -- The length of the machine's run of words, and the number of its places that a bench file can name.
 abbrev pub machineLength : ℕ
-machineLength = 4119
+machineLength = 4343
 
 abbrev pub filePlaces : ℕ
-filePlaces = 4119
+filePlaces = 4343
 
 -- How many generators there are, words of each quadrant of sum memory, and DACs.
 abbrev pub generators : ℕ
@@ -126,3 +126,39 @@ lingerPassAt = 4117
 -- Overrun, 0 or 1.
 abbrev pub overrunAt : ℕ
 overrunAt = 4118
+
+-- Delay unit u has the seven words from 4,119+7u (u 0..31): register r is at delayAt u + r.
+abbrev pub delays : ℕ
+delays = 32
+
+abbrev pub delayWords : ℕ
+delayWords = 7
+
+abbrev pub delayAt : ℕ → ℕ
+delayAt u = 4119 + 7 * u
+
+abbrev pub delayX : ℕ
+delayX = 0
+
+abbrev pub delayY : ℕ
+delayY = 1
+
+abbrev pub delayZ : ℕ
+delayZ = 2
+
+abbrev pub delayP : ℕ
+delayP = 3
+
+-- The three words on their way to the modifier, next due first.
+abbrev pub delayFirst : ℕ
+delayFirst = 4
+
+abbrev pub delaySecond : ℕ
+delaySecond = 5
+
+abbrev pub delayThird : ℕ
+delayThird = 6
+
+-- The words of delay memory.
+abbrev pub memoryWords : ℕ
+memoryWords = 65536

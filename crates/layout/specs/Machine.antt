@@ -21,6 +21,10 @@ Places = List ℕ
 abbrev pub Commands : Type 0
 Commands = List ℕ
 
+-- Delay memory.
+abbrev pub Memory : Type 0
+Memory = List ℕ
+
 -- Sum memory: four quadrants of words.
 abbrev pub Sums : Type 0
 Sums = List (List ℕ)

@@ -62,3 +62,10 @@ counterBits = 20
 
 abbrev pub lingerBits : ℕ
 lingerBits = 20
+
+-- A delay unit's X, Y and Z, and its mode P.
+abbrev pub delayBits : ℕ
+delayBits = 16
+
+abbrev pub delayModeBits : ℕ
+delayModeBits = 4

@@ -4,10 +4,10 @@ ghost use Prim.Native.Nat.{_<_};
 ghost use Rattle.layout.specs.Machine.{Reaches, ticksOf, gsumAt, gfmAt, runModeAt, dacNumberAt};
 
 // The length of the machine's run of words.
-pub const MACHINE_LENGTH: usize = 4119;
+pub const MACHINE_LENGTH: usize = 4343;
 
 // The number of its places that a bench file can name.
-pub const FILE_PLACES: usize = 4119;
+pub const FILE_PLACES: usize = 4343;
 
 // Generator g, below GENERATORS, has the GENERATOR_WORDS words from GENERATOR_WORDS * g, in this sequence.
 pub const GENERATORS: usize = 256;
@@ -136,6 +136,35 @@ pub const LINGERING_AT: usize = 4116;
 pub const LINGER_PASS_AT: usize = 4117;
 
 pub const OVERRUN_AT: usize = 4118;
+
+// Delay unit u, below DELAYS, has the DELAY_WORDS words from DELAYS_AT + DELAY_WORDS * u, in this sequence: X, Y, Z, P, and three words on their way to the modifier, next due first.
+pub const DELAYS_AT: usize = 4119;
+
+pub const DELAYS: usize = 32;
+
+pub const DELAY_WORDS: usize = 7;
+
+pub const DELAY_X: usize = 0;
+
+pub const DELAY_Y: usize = 1;
+
+pub const DELAY_Z: usize = 2;
+
+pub const DELAY_P: usize = 3;
+
+pub const DELAY_FIRST: usize = 4;
+
+pub const DELAY_SECOND: usize = 5;
+
+pub const DELAY_THIRD: usize = 6;
+
+// One more than the largest value of X, Y and Z, and of P.
+pub const DELAY_LIMIT: u32 = 1 << 16;
+
+pub const DELAY_MODE_LIMIT: u32 = 1 << 4;
+
+// The words of delay memory.
+pub const MEMORY_WORDS: usize = 65536;
 
 // A word as an index.
 pub fn wide(x: u32) -> usize

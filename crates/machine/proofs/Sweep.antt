@@ -12,9 +12,9 @@ use Rattle.layout.specs.Layout.{machineLength}
 use Rattle.machine_sweep.specs.Columns.{everyWord}
 use Rattle.machine_sweep.proofs.Words.{word-from}
 use Rattle.machine_sweep.proofs.EveryColumn.{everyColumn, limitTests, word-and}
-use Rattle.machine.specs.Questions.{bits, goodGmode, goodAddress, goodMmode, generatorRegisters, modifierRegisters, regions, testAt, sound}
-use Rattle.machine.specs.Loops.{limitsOf, runField, oscillatorField, functionField, generatorsWithin, modifiersWithin, controlsWithin}
-use Rattle.machine.proofs.Words.{gmode-is, address-and, mmode-is}
+use Rattle.machine.specs.Questions.{bits, goodGmode, goodAddress, goodMmode, test, delayMode, generatorRegisters, modifierRegisters, delayRegisters, regions, testAt, sound}
+use Rattle.machine.specs.Loops.{limitsOf, runField, oscillatorField, functionField, delayField, generatorsWithin, modifiersWithin, controlsWithin, delaysWithin}
+use Rattle.machine.proofs.Words.{gmode-is, address-and, mmode-is, delay-mode-is}
 use Rattle.machine.proofs.Limits.{region-swept}
 use Rattle.machine.proofs.Regions.{wordsOf, region, everyRegion, regions-columns}
 
@@ -63,6 +63,21 @@ modifiers-are m n =
     w : ℕ → ℕ → Bool
     w j k = everyWord (bits k) m 2816 8 j n
 
+-- A further test is asked after the widths and stands beside its own.
+beside : (a b c d e f g x : Bool) → (a && (b && (c && (d && (e && (f && (g && x))))))) ≡ (a && (b && (c && (d && (x && (e && (f && g)))))))
+beside a b c d e f g true = simp and-true
+beside a b c d e f g false = simp and-false
+
+delays-are : (m : List ℕ) (n : ℕ)
+    → (everyColumn (limitTests (limitsOf delayRegisters)) m 4119 7 0 n && everyWord delayField m 4119 7 3 n) ≡ everyColumn (region regions 5 .tests) m 4119 7 0 n
+unfolding regions limitTests
+delays-are m n =
+    simp (word-and (bits 4) delayField (test delayMode) delay-mode-is, and-assoc, and-true)
+    (beside (w 0 16) (w 1 16) (w 2 16) (w 3 4) (w 4 20) (w 5 20) (w 6 20) (everyWord delayField m 4119 7 3 n))
+  where
+    w : ℕ → ℕ → Bool
+    w j k = everyWord (bits k) m 4119 7 j n
+
 generators-swept : (m : List ℕ) → generatorsWithin m ≡ everyColumn (region regions 0 .tests) m 0 11 0 256
 unfolding generatorsWithin
 generators-swept m =
@@ -84,19 +99,26 @@ modifiers-swept m =
     )
     (modifiers-are m 128)
 
+delays-swept : (m : List ℕ) → delaysWithin m ≡ everyColumn (region regions 5 .tests) m 4119 7 0 32
+unfolding delaysWithin
+delays-swept m =
+    rw (region-swept delayRegisters m 4119 28 1 32 (lit< tt) (lit< tt) (λ i. omega arith) refl, word-from delayField m 4119 7 3 32)
+    (delays-are m 32)
+
 controls-are : (m : List ℕ) → controlsWithin m ≡ everyColumn (region regions 4 .tests) m 4112 7 0 1
 unfolding regions everyWord
 controls-are m = simp (leb·zero, and-assoc, and-true)
 
-five : (a b c d e : Bool) → (a && (b && (c && true && (d && true && (e && true))))) ≡ (a && b && c && d && e)
-five a b c d e = simp (and-assoc, and-true)
+six : (a b c d e f : Bool) → (a && (b && (c && true && (d && true && (e && (f && true)))))) ≡ (a && b && c && d && e && f)
+six a b c d e f = simp (and-assoc, and-true)
 
 -- The sweep's answer.
 pub sound-swept : (m : List ℕ)
-    → sound m ≡ (generatorsWithin m && modifiersWithin m && everyWord (bits 20) m 3840 1 0 256 && everyWord (bits 20) m 4096 1 0 16 && controlsWithin m)
+    → sound m ≡ (generatorsWithin m && modifiersWithin m && everyWord (bits 20) m 3840 1 0 256 && everyWord (bits 20) m 4096 1 0 16 && controlsWithin m && delaysWithin m)
 unfolding regions
 sound-swept m =
     sound-columns m
-    ∙ five (everyColumn (region regions 0 .tests) m 0 11 0 256) (everyColumn (region regions 1 .tests) m 2816 8 0 128)
+    ∙ six (everyColumn (region regions 0 .tests) m 0 11 0 256) (everyColumn (region regions 1 .tests) m 2816 8 0 128)
     (everyWord (bits 20) m 3840 1 0 256) (everyWord (bits 20) m 4096 1 0 16) (everyColumn (region regions 4 .tests) m 4112 7 0 1)
-    ∙ rw (generators-swept m, modifiers-swept m, controls-are m)
+    (everyColumn (region regions 5 .tests) m 4119 7 0 32)
+    ∙ rw (generators-swept m, modifiers-swept m, controls-are m, delays-swept m)

@@ -9,8 +9,9 @@ use borrow.Author.Tests.{ltb-true, ltb-false, lt-ltb, eq-eqb, ne-eqb}
 use lib.Dec.{eqb, ltb}
 use Rattle.lists.proofs.Below.{and-second, and-both}
 use Rattle.modes.specs.Modes.{builtRun, builtOscillator}
-use Rattle.machine.specs.Questions.{bits, builtModes, goodGmode, builtSource, goodAddress, builtMmode, goodMmode}
-use Rattle.machine.specs.Loops.{runField, oscillatorField, functionField}
+use Rattle.delay.specs.Delay.{builtMode}
+use Rattle.machine.specs.Questions.{bits, builtModes, goodGmode, builtSource, goodAddress, builtMmode, goodMmode, test, delayMode}
+use Rattle.machine.specs.Loops.{runField, oscillatorField, functionField, delayField}
 
 -- Eight bits of which the top two are not 11 are the numbers below 192.
 pub address-is : (x : ℕ) → ltb x 192 ≡ goodAddress x
@@ -61,3 +62,13 @@ mmode-is x = by-width (bits 9 x) refl where
   by-width true e =
       let h : x < 512 = ltb-true x 512 e in
       rw (mod-eq-of-lt {n = x / 16} {m = 32} (omega arith))
+
+-- A word of 4 bits is a delay unit's mode.
+pub delay-mode-is : (x : ℕ) → test delayMode x ≡ (bits 4 x && delayField x)
+delay-mode-is x = by-width (bits 4 x) refl where
+  by-width : (b : Bool) → bits 4 x ≡ b → (b && builtMode x) ≡ (b && delayField x)
+  by-width false e = refl
+  by-width true e =
+      let h : x < 16 = ltb-true x 16 e in
+      let low : x / 2 ^ 0 % 32 % 16 ≡ x = omega arith in
+      rw low

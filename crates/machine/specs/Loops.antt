@@ -8,10 +8,11 @@ use lib.ListN.{length, getD}
 use Rattle.lists.specs.Lists.{tabulate}
 use Rattle.modes.specs.Modes.{builtRun, builtOscillator}
 use Rattle.modifier_turn.specs.Turn.{builtFunction}
-use Rattle.layout.specs.Layout.{generatorWords, GMODE, modifierAt, modifierWords, MIN, MRM, MMODE, dxAt, tAt, nAt, counterAt, lingeringAt, lingerPassAt, overrunAt}
+use Rattle.delay.specs.Delay.{builtMode}
+use Rattle.layout.specs.Layout.{generatorWords, GMODE, modifierAt, modifierWords, MIN, MRM, MMODE, dxAt, tAt, nAt, counterAt, lingeringAt, lingerPassAt, overrunAt, delayAt, delayWords, delayP}
 use Rattle.layout.specs.Widths.{wordBits, counterBits, lingerBits}
 use Rattle.machine_sweep.specs.Columns.{everyWord, swept}
-use Rattle.machine.specs.Questions.{Register, width, bits, between, generatorRegisters, modifierRegisters}
+use Rattle.machine.specs.Questions.{Register, width, bits, between, generatorRegisters, modifierRegisters, delayRegisters}
 
 -- What the words of registers are below.
 abbrev pub limitsOf : List Register → List ℕ
@@ -22,7 +23,7 @@ limitsOf (r ∷ rs) = 2 ^ width r ∷ limitsOf rs
 unfoldable pub repeated : List ℕ → ℕ → List ℕ
 repeated ls n = tabulate (λ i. getD ls (i % length ls) 0) 0 n
 
--- The run mode, the oscillator mode and the function by five bits of a word: all that its width leaves.
+-- The run mode, the oscillator mode, the function and a delay unit's mode by five bits of a word: all that its width leaves.
 abbrev pub runField : ℕ → Bool
 runField x = builtRun (x / 2 ^ 6 % 32)
 
@@ -31,6 +32,9 @@ oscillatorField x = builtOscillator (x / 2 ^ 0 % 32 % 16)
 
 abbrev pub functionField : ℕ → Bool
 functionField x = builtFunction (x / 2 ^ 4 % 32)
+
+abbrev pub delayField : ℕ → Bool
+delayField x = builtMode (x / 2 ^ 0 % 32 % 16)
 
 -- The words of all generators, in rows of four generators.
 unfoldable pub generatorsWithin : List ℕ → Bool
@@ -49,3 +53,8 @@ abbrev pub controlsWithin : List ℕ → Bool
 controlsWithin m =
     bits wordBits (getD m dxAt 0) && between 1 256 (getD m tAt 0) && between 2 1025 (getD m nAt 0) && bits counterBits (getD m counterAt 0)
     && leb (getD m lingeringAt 0) 1 && bits lingerBits (getD m lingerPassAt 0) && leb (getD m overrunAt 0) 1
+
+-- The words of all delay units, in rows of four units.
+unfoldable pub delaysWithin : List ℕ → Bool
+delaysWithin m =
+    swept (repeated (limitsOf delayRegisters) 28) m (delayAt 0) 1 && everyWord delayField m (delayAt 0 + delayP) delayWords 0 32

@@ -3,8 +3,8 @@ ghost use mathlib.Core.Path.{_≡_};
 ghost use mathlib.Core.List.{[], _∷_};
 ghost use lib.ListN.{length};
 ghost use Rattle.layout.specs.Machine.{Reaches};
-ghost use Rattle.machine.specs.Questions.{question1, question2, sound, goodAddress, generatorRegisters, modifierRegisters, freshAnswer, freshRun};
-ghost use Rattle.machine.specs.Loops.{limitsOf, repeated, generatorsWithin, modifiersWithin, controlsWithin};
+ghost use Rattle.machine.specs.Questions.{question1, question2, sound, goodAddress, generatorRegisters, modifierRegisters, delayRegisters, freshAnswer, freshRun};
+ghost use Rattle.machine.specs.Loops.{limitsOf, repeated, generatorsWithin, modifiersWithin, controlsWithin, delaysWithin};
 ghost use Rattle.questions.specs.Questions.{asked};
 ghost use Rattle.lists.specs.Lists.{zeros};
 
@@ -76,6 +76,38 @@ const MODIFIER_LIMITS: [u32; 16] = [
     1 << 9,
 ];
 
+// What the registers of a delay unit are below, for the four units of a row.
+const DELAY_LIMITS: [u32; 28] = [
+    1 << 16, // X
+    1 << 16, // Y
+    1 << 16, // Z
+    1 << 4, // P
+    1 << 20, // the word next due
+    1 << 20, // the second
+    1 << 20, // the third
+    1 << 16,
+    1 << 16,
+    1 << 16,
+    1 << 4,
+    1 << 20,
+    1 << 20,
+    1 << 20,
+    1 << 16,
+    1 << 16,
+    1 << 16,
+    1 << 4,
+    1 << 20,
+    1 << 20,
+    1 << 20,
+    1 << 16,
+    1 << 16,
+    1 << 16,
+    1 << 4,
+    1 << 20,
+    1 << 20,
+    1 << 20,
+];
+
 // Eight bits, the top two not 11.
 pub fn built_address(address: u32) -> bool
     ensures { λ r. ⌜ r ≡ goodAddress address ⌝ }
@@ -94,6 +126,12 @@ fn modifier_limits() -> [u32; 16]
     ensures { λ r. ⌜ r ≡ repeated (limitsOf modifierRegisters) 16 ⌝ }
 {
     MODIFIER_LIMITS
+}
+
+fn delay_limits() -> [u32; 28]
+    ensures { λ r. ⌜ r ≡ repeated (limitsOf delayRegisters) 28 ⌝ }
+{
+    DELAY_LIMITS
 }
 
 // All generators' words within their widths, with built run modes and oscillator modes.
@@ -149,6 +187,20 @@ fn controls_within(m: &[u32]) -> bool
         & (overrun <= 1)
 }
 
+// All delay units' words within their widths, with built modes, whose flags stand twice.
+fn delays_within(m: &[u32]) -> bool
+    requires { ⌜ Reaches (now m) ⌝ }
+    ensures { λ r. ⌜ r ≡ delaysWithin (now (m .entry)) ⌝ }
+{
+    let limits = delay_limits();
+    let built = machine_sweep::flags(65537 * delay::BUILT_MODE);
+    let at = layout::DELAYS_AT;
+    let n = layout::DELAYS;
+    let step = layout::DELAY_WORDS;
+    machine_sweep::swept(&limits, m, at, 1)
+        & machine_sweep::fields_flagged(&built, m, at + layout::DELAY_P, step, n, 0)
+}
+
 // Question 2: all words within their width and range, with built modes and no MIN or MRM top bits 11.
 pub fn sound(m: &[u32]) -> bool
     requires { ⌜ Reaches (now m) ⌝ }
@@ -162,7 +214,7 @@ pub fn sound(m: &[u32]) -> bool
         layout::WORD_LIMIT,
     );
     let dacs = machine_sweep::words_below(m, layout::DACS_AT, 1, layout::DACS, layout::WORD_LIMIT);
-    generators_within(m) & modifiers_within(m) & sums & dacs & controls_within(m)
+    generators_within(m) & modifiers_within(m) & sums & dacs & controls_within(m) & delays_within(m)
 }
 
 // The number of the first of questions 1 and 2 that is answered no, or 0.

@@ -37,7 +37,7 @@ or-below k a b h = (
   lt-of-le-of-lt (omega (arith, or-add-and a b, and-le-l a b)) h,
 )
 
-or-bits : (w a b : ℕ) → ltb (bitOr a b) (2 ^ w) ≡ (ltb b (2 ^ w) && ltb a (2 ^ w))
+pub or-bits : (w a b : ℕ) → ltb (bitOr a b) (2 ^ w) ≡ (ltb b (2 ^ w) && ltb a (2 ^ w))
 or-bits w a b =
     both-ways (ltb (bitOr a b) (2 ^ w)) (ltb b (2 ^ w) && ltb a (2 ^ w))
     (λ e. and-both (ltb b (2 ^ w)) (ltb a (2 ^ w)) (lt-ltb b (2 ^ w) (both e .1)) (lt-ltb a (2 ^ w) (both e .0)))

@@ -7,12 +7,12 @@ use modifier::Modifier;
 use modifier::Turned;
 
 // Bit f is 1 where function f reads A late.
-const LATE: u32 = 0b0000_0000_0100_0000_1011_1011_0001_0000;
+const LATE: u32 = 0b0000_0000_0100_0000_1011_1011_1001_0000;
 
 // Bit f is 1 where function f is built.
-pub const BUILT_FUNCTION: u32 = 0b0011_1111_0101_0011_1011_1011_0101_1101;
+pub const BUILT_FUNCTION: u32 = 0b0011_1111_0101_0011_1011_1011_1101_1101;
 
-// The turn by the function's code: the registers afterwards, and S.
+// The turn by the function's code: the registers afterwards, and S. b is B, or DM in 00111, where B is not read.
 pub fn turn(u: Modifier, a: u32, b: u32) -> Turned
     requires { ⌜ Ranged u ⌝ }
     requires { ⌜ (a < 2 ^ 20) × (b < 2 ^ 20) ⌝ }
@@ -24,6 +24,7 @@ pub fn turn(u: Modifier, a: u32, b: u32) -> Turned
         0b00011 => modifier_modulators::triggered_noise(u, b),
         0b00100 => modifier_modulators::latch(u, a, b),
         0b00110 => modifier_mixers::threshold(u, a, b),
+        0b00111 => modifier_delay::invoke_delay(u, a, b),
         0b01000 => modifier_filters::two_poles(u, a),
         0b01001 => modifier_filters::two_poles_m0_variable(u, a, b),
         0b01011 => modifier_filters::two_poles_m1_variable(u, a, b),

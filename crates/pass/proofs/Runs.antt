@@ -9,16 +9,19 @@ use Rattle.layout.specs.Widths.{counterBits}
 use Rattle.layout.specs.Machine.{Machine, Sums, ticksOf}
 use Rattle.sums.specs.Sums.{modifierThis, sumsOf, closed}
 use Rattle.pass_model.specs.Generators.{of1978, begun, Taken, takenBy}
-use Rattle.pass_model.specs.Modifiers.{modifiedBy}
+use Rattle.pass_model.specs.Modifiers.{Held, modifiedBy}
 use Rattle.pass_model.specs.Pass.{Call, counted, completed, generatorsTaken, finished, ran}
 
--- What the generators leave is t; after them come the modifiers, the end of sum memory and the counter.
+-- What the generators leave is t; after them come the modifiers, which leave h, the end of sum memory and the counter.
 module _ (m : Machine) (call : Call) (t : Taken) (n : ℕ) (s₀ : Sums) where
-  pub ran-by : {modified last done : Machine} {s : Sums} →
+  abbrev before : Held
+  before = record { words = t .words; memory = call .memory }
+
+  pub ran-by : {h : Held} {last done : Machine} {s : Sums} →
       n ≡ ticksOf m → s₀ ≡ sumsOf m → t ≡ takenBy of1978 (call .items) (begun m s₀ (call .places)) (call .order) →
-      (modified ≡ modifiedBy (t .words) (t .sums) (n / 2) .words) × (s ≡ set (t .sums) modifierThis (modifiedBy (t .words) (t .sums) (n / 2) .this)) →
-      last ≡ closed modified s → done ≡ counted last →
-      record { number = 0; read = t .reads; written = t .writes; machine = done; places = t .places } ≡ ran m call
+      (h ≡ modifiedBy n before (t .sums) (n / 2) .held) × (s ≡ set (t .sums) modifierThis (modifiedBy n before (t .sums) (n / 2) .this)) →
+      last ≡ closed (h .words) s → done ≡ counted last →
+      record { number = 0; read = t .reads; written = t .writes; machine = done; places = t .places; memory = h .memory } ≡ ran m call
   unfolding ran generatorsTaken finished completed
   ran-by en es et (em, eq) el ed = rw (← taken, ed, el, em, eq, en)
     where

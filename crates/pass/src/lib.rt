@@ -22,25 +22,31 @@ fn count(m: &mut [u32])
     m[at] = std::num::wrapping_add_u32(m[at], 1) % layout::COUNTER_LIMIT;
 }
 
-// The pass itself: generators in the order, modifiers by number, the end of sum memory, the counter.
-pub fn run(m: &mut [u32], order: &[u32], items: &[u32], places: &mut [u32]) -> Items
+// The pass itself: generators in the order, modifiers by number with their delay units, the end of sum memory, the counter.
+pub fn run(
+    m: &mut [u32],
+    order: &[u32],
+    items: &[u32],
+    places: &mut [u32],
+    memory: &mut [u32],
+) -> Items
     requires { ⌜ Ready (now m) ⌝ }
     requires { ⌜ Numbers (now order) ⌝ }
     requires { ⌜ ticksOf (now m) ≤ 256 ⌝ }
-    ensures { λ r. ⌜ record { number = 0; read = r .reads; written = r .writes; machine = now (m .exit); places = now (places .exit) } ≡ ran (now (m .entry)) (record { order = now (order .entry); items = now (items .entry); places = now (places .entry) }) ⌝ }
+    ensures { λ r. ⌜ record { number = 0; read = r .reads; written = r .writes; machine = now (m .exit); places = now (places .exit); memory = now (memory .exit) } ≡ ran (now (m .entry)) (record { order = now (order .entry); items = now (items .entry); places = now (places .entry); memory = now (memory .entry) }) ⌝ }
 {
     let t = layout::ticks(m);
     let mut s = sums::load(m);
     let done = pass_generators::generators(m, &mut s, order, items, places);
-    pass_modifiers::modifiers(m, &mut s, t / 2);
+    pass_modifiers::modifiers(m, &mut s, memory, t, t / 2);
     sums::close(m, &s);
     count(m);
     done
 }
 
 // The first question of a pass that is answered no, or 0.
-fn refusal(m: &[u32], order: &[u32], items: &[u32], places: &[u32]) -> u32
-    ensures { λ r. ⌜ r ≡ passRefusal (now (m .entry)) (record { order = now (order .entry); items = now (items .entry); places = now (places .entry) }) ⌝ }
+fn refusal(m: &[u32], order: &[u32], items: &[u32], places: &[u32], memory: &[u32]) -> u32
+    ensures { λ r. ⌜ r ≡ passRefusal (now (m .entry)) (record { order = now (order .entry); items = now (items .entry); places = now (places .entry); memory = now (memory .entry) }) ⌝ }
 {
     let first = machine::refusal(m);
     if first != 0 {
@@ -57,14 +63,23 @@ fn refusal(m: &[u32], order: &[u32], items: &[u32], places: &[u32]) -> u32
     if places.len() < needed.writes {
         return 8;
     }
-    0
+    if !delay_questions::memory_good(memory) {
+        return 10;
+    }
+    delay_questions::delay_refusal(m)
 }
 
-// A pass. A refusal leaves the machine and the written places as they were.
-pub fn pass(m: &mut [u32], order: &[u32], items: &[u32], places: &mut [u32]) -> Passed
-    ensures { λ r. ⌜ record { number = r .number; read = r .read; written = r .written; machine = now (m .exit); places = now (places .exit) } ≡ passOf (now (m .entry)) (record { order = now (order .entry); items = now (items .entry); places = now (places .entry) }) ⌝ }
+// A pass. A refusal leaves the machine, the written places and delay memory as they were.
+pub fn pass(
+    m: &mut [u32],
+    order: &[u32],
+    items: &[u32],
+    places: &mut [u32],
+    memory: &mut [u32],
+) -> Passed
+    ensures { λ r. ⌜ record { number = r .number; read = r .read; written = r .written; machine = now (m .exit); places = now (places .exit); memory = now (memory .exit) } ≡ passOf (now (m .entry)) (record { order = now (order .entry); items = now (items .entry); places = now (places .entry); memory = now (memory .entry) }) ⌝ }
 {
-    let number = refusal(m, order, items, places);
+    let number = refusal(m, order, items, places, memory);
     if number != 0 {
         return Passed {
             number,
@@ -72,7 +87,7 @@ pub fn pass(m: &mut [u32], order: &[u32], items: &[u32], places: &mut [u32]) -> 
             written: 0,
         };
     }
-    let done = run(m, order, items, places);
+    let done = run(m, order, items, places, memory);
     Passed {
         number: 0,
         read: done.reads,

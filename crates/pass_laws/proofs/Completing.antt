@@ -1,109 +1,143 @@
--- What the modifiers and the end of a pass leave as it was, and that they keep a machine sound.
+-- What the modifiers, their delay units and the end of a pass leave as it was, and that they keep a machine sound.
 -- Assumes nothing.
 use mathlib.Core.Path.{_≡_, refl, _∙_, ap}
 use mathlib.Core.Logic.{_≢_}
 use mathlib.Core.Bool.{Bool, true, false}
 use mathlib.Core.List.{List, []}
-use Prim.Native.Nat.{ℕ, zero, suc, _+_, _%_, _^_, _≤_, _<_}
+use Prim.Native.Nat.{ℕ, zero, suc, _+_, _/_, _%_, _^_, _≤_, _<_}
 use native.Mathlib.Omega.{arith}
+use native.Mathlib.Nat.{mod-lt}
 use borrow.Author.Tests.{eqb-true, eqb-false}
-use lib.Dec.{eqb, lit≤}
-use lib.ListN.{length, getD, set, length-set}
+use lib.Dec.{eqb, lit≤, lit<}
+use lib.ListN.{length, getD, set, drop, length-set}
+use lib.Pow.{pow-pos}
 use lib.Seq.{getD-set-same, getD-set-other}
-use Rattle.layout.specs.Layout.{quadrantAt, counterAt}
+use Rattle.layout.specs.Layout.{modifierAt, quadrantAt, counterAt, delayAt, delayY}
+use Rattle.layout.specs.Machine.{Machine, Sums, Reaches}
+use Rattle.layout.specs.Widths.{counterBits}
+use Rattle.layout.proofs.Reach.{same-reach}
 use Rattle.machine.specs.Questions.{sound}
 use Rattle.sums.specs.Sums.{generatorThis, generatorLast, modifierThis, closed}
 use Rattle.sums.proofs.Blocks.{Outside, outside-after}
 use Rattle.sums.proofs.Memory.{Quadrants}
 use Rattle.sums.proofs.Closing.{closed-length, closed-outside, closed-generator-last}
-use Rattle.pass_model.specs.Modifiers.{earlyView, lateView, turnSeen, modifierOf, modify, modified, modifiedBy}
+use Rattle.modifier.specs.declared.Modifier.{Modifier}
+use Rattle.modifier.specs.Modifier.{stored}
+use Rattle.modifier_delay.specs.Invoke.{unitOf}
+use Rattle.delay.specs.Delay.{turnOf}
+use Rattle.delay.proofs.Low.{WordsLow, loaded-ranged, turn-ranged}
+use Rattle.delay_questions.specs.Questions.{delayOf}
+use Rattle.pass_model.specs.Modifiers.{earlyView, lateView, turnSeen, modifierOf, Held, delayed, modify, modified, modifiedBy}
 use Rattle.pass_model.specs.Pass.{counted, completed}
-use Rattle.pass_model.proofs.Modifiers.{Elsewhere, turn-seen-low, words-length, words-kept, words-above, this-length, this-low}
-use Rattle.pass_laws.proofs.SoundPuts.{sound-modifier-put, sound-counted, sound-closed}
-use Rattle.layout.proofs.Reach.{same-reach}
-use Rattle.layout.specs.Machine.{Machine, Sums, Reaches}
-use Rattle.layout.specs.Widths.{counterBits}
+use Rattle.pass_model.proofs.Delays.{words-by, yOf, zOf}
+use Rattle.pass_model.proofs.Modifiers.{Elsewhere, turn-seen-low, words-length, memory-length, memory-low, words-kept, words-between, units-within, this-length, this-low}
+use Rattle.pass_laws.proofs.SoundPuts.{sound-modifier-put, sound-delay-put, sound-counted, sound-closed}
+
+-- A delay unit's turn keeps a machine sound.
+delayed-sound : (t : ℕ) (h : Held) (u : Modifier) (w : ℕ) → WordsLow (h .memory) → sound (h .words) ≡ true → sound (delayed t h u w .words) ≡ true
+delayed-sound t h u w low e =
+    let d = delayOf (h .words) (unitOf u) in
+    words-by t h u w (λ m. sound m ≡ true) e
+    (sound-delay-put (h .words) e (unitOf u) (mod-lt (u .mrm) (pow-pos 5)) (turnOf d (h .memory) w .unit)
+    (turn-ranged d (h .memory) w (loaded-ranged (drop (delayAt (unitOf u)) (h .words))) low))
 
 -- The modifiers keep a machine sound.
-modified-sound : (words : Machine) (s : Sums) (n : ℕ) → n ≤ 128 → sound words ≡ true → sound (modifiedBy words s n .words) ≡ true
+modified-sound : (t : ℕ) (h : Held) (s : Sums) (n : ℕ) → n ≤ 128 → WordsLow (h .memory) → sound (h .words) ≡ true → sound (modifiedBy t h s n .held .words) ≡ true
 unfolding modifiedBy modified modify
-modified-sound words s zero h e = e
-modified-sound words s (suc n) h e =
-    let v = modified words s n in
+modified-sound t h s zero b low e = e
+modified-sound t h s (suc n) b low e =
+    let v = modified t h s n in
     let early = earlyView (getD s modifierThis []) n (v .writes) in
     let late = lateView (getD s modifierThis []) n (v .writes) in
-    sound-modifier-put (v .words) (modified-sound words s n (omega arith) e) n (omega arith) (turnSeen s early late (modifierOf (v .words) n) .unit)
-    (turn-seen-low s early late (v .words) n .ranged)
+    let u = modifierOf (v .held .words) n in
+    let turn = turnSeen t (v .held .words) s early late u in
+    delayed-sound t (record { words = stored (v .held .words) (modifierAt n) (turn .unit); memory = v .held .memory }) u (turn .unit .l1) (memory-low t h s n low)
+    (sound-modifier-put (v .held .words) (modified-sound t h s n (omega arith) low e) n (omega arith) (turn .unit) (turn-seen-low t s early late (v .held .words) n .ranged))
 
--- The machine's words and sum memory after them.
-abbrev wordsAfter : Machine → Sums → ℕ → Machine
-wordsAfter words s n = modifiedBy words s n .words
+module _ (t : ℕ) (h : Held) (s : Sums) where
+  -- The machine's words and sum memory after them.
+  abbrev wordsAfter : Machine
+  wordsAfter = modifiedBy t h s (t / 2) .held .words
 
-abbrev sumsAfter : Machine → Sums → ℕ → Sums
-sumsAfter words s n = set s modifierThis (modifiedBy words s n .this)
+  abbrev sumsAfter : Sums
+  sumsAfter = set s modifierThis (modifiedBy t h s (t / 2) .this)
 
-module _ (words : Machine) (s : Sums) (n : ℕ) (k : Quadrants s) where
-  this-after : getD (sumsAfter words s n) modifierThis [] ≡ modifiedBy words s n .this
-  this-after = getD-set-same s 2 (modifiedBy words s n .this) [] (omega (arith, k .four))
-
-  other-after : (q : ℕ) → q ≢ 2 → getD (sumsAfter words s n) q [] ≡ getD s q []
-  other-after q h = getD-set-other s 2 q (modifiedBy words s n .this) [] h
-
-  after-quadrants : Quadrants (sumsAfter words s n)
-  after-quadrants =
-      record {
-        four = length-set s 2 (modifiedBy words s n .this) ∙ k .four;
-        each = λ q h. by-number q h (eqb q 2) refl;
-      }
-    where
-      by-number : (q : ℕ) → q < 4 → (b : Bool) → eqb q 2 ≡ b → length (getD (sumsAfter words s n) q []) ≡ 64
-      by-number q h true e = rw (eqb-true q 2 e) (ap length this-after ∙ this-length words s n ∙ k .each 2 (omega arith))
-      by-number q h false e = ap length (other-after q (eqb-false q 2 e)) ∙ k .each q h
-
-  -- A word that is no M0, M1, L0 or L1 of a modifier that is taken, not in sum memory and not the counter.
-  pub completed-word : (i : ℕ) → Elsewhere i n → Outside i 3840 256 → i ≢ counterAt → getD (completed words s n) i 0 ≡ getD words i 0
+  pub completed-length : length (completed t h s .words) ≡ length (h .words)
   unfolding completed counted
-  completed-word i a o c =
-      getD-set-other (closed (wordsAfter words s n) (sumsAfter words s n)) counterAt i
-      ((getD (closed (wordsAfter words s n) (sumsAfter words s n)) counterAt 0 + 1) % 2 ^ counterBits) 0 c
-      ∙ closed-outside (wordsAfter words s n) (sumsAfter words s n) after-quadrants i o
-      ∙ words-kept words s n i a
+  completed-length =
+      length-set (closed wordsAfter sumsAfter) counterAt ((getD (closed wordsAfter sumsAfter) counterAt 0 + 1) % 2 ^ counterBits)
+      ∙ closed-length wordsAfter sumsAfter
+      ∙ words-length t h s (t / 2)
 
-  -- The counter.
-  pub completed-counter : n ≤ 128 → counterAt < length words → getD (completed words s n) counterAt 0 ≡ (getD words counterAt 0 + 1) % 2 ^ counterBits
-  unfolding completed counted
-  completed-counter h l =
-      getD-set-same (closed (wordsAfter words s n) (sumsAfter words s n)) counterAt
-      ((getD (closed (wordsAfter words s n) (sumsAfter words s n)) counterAt 0 + 1) % 2 ^ counterBits) 0
-      (rw (closed-length (wordsAfter words s n) (sumsAfter words s n), words-length words s n) l)
-      ∙ ap (λ (x : ℕ). (x + 1) % 2 ^ counterBits)
-      (closed-outside (wordsAfter words s n) (sumsAfter words s n) after-quadrants counterAt (outside-after counterAt 3840 256 (lit≤ tt))
-      ∙ words-above words s n counterAt h (lit≤ tt))
-
-  -- A word of generator-last is what stood in generator-this.
-  pub completed-last : Reaches words → (w : ℕ) → w < 64 → getD (completed words s n) (quadrantAt generatorLast + w) 0 ≡ getD (getD s generatorThis []) w 0
-  unfolding completed counted
-  completed-last r w h =
-      getD-set-other (closed (wordsAfter words s n) (sumsAfter words s n)) counterAt (quadrantAt generatorLast + w)
-      ((getD (closed (wordsAfter words s n) (sumsAfter words s n)) counterAt 0 + 1) % 2 ^ counterBits) 0 (λ z. omega arith)
-      ∙ closed-generator-last (wordsAfter words s n) (sumsAfter words s n) after-quadrants (same-reach (words-length words s n) r) w h
-      ∙ ap (λ (l : List ℕ). getD l w 0) (other-after generatorThis (λ z. omega arith))
-
-  -- They keep a machine sound.
-  pub completed-sound : n ≤ 128 → sound words ≡ true → Reaches words
-      → ((i : ℕ) → i < 64 → getD (getD s generatorThis []) i 0 < 2 ^ 20) → ((i : ℕ) → i < 64 → getD (getD s modifierThis []) i 0 < 2 ^ 20)
-      → sound (completed words s n) ≡ true
+  -- Delay memory keeps its length and its width.
+  pub completed-memory-length : length (completed t h s .memory) ≡ length (h .memory)
   unfolding completed
-  completed-sound h e r low₀ low₂ =
-      sound-counted (closed (wordsAfter words s n) (sumsAfter words s n))
-      (sound-closed (wordsAfter words s n) (sumsAfter words s n) (modified-sound words s n h e) (same-reach (words-length words s n) r) after-quadrants
-      (λ i l. rw (other-after 0 (λ q. omega arith)) (low₀ i l))
-      (λ i l. rw this-after (this-low words s n i (low₂ i l))))
+  completed-memory-length = memory-length t h s (t / 2)
 
-pub completed-length : (words : Machine) (s : Sums) (n : ℕ) → length (completed words s n) ≡ length words
-unfolding completed counted
-completed-length words s n =
-    length-set (closed (wordsAfter words s n) (sumsAfter words s n)) counterAt
-    ((getD (closed (wordsAfter words s n) (sumsAfter words s n)) counterAt 0 + 1) % 2 ^ counterBits)
-    ∙ closed-length (wordsAfter words s n) (sumsAfter words s n)
-    ∙ words-length words s n
+  pub completed-memory-low : WordsLow (h .memory) → WordsLow (completed t h s .memory)
+  unfolding completed
+  completed-memory-low low = memory-low t h s (t / 2) low
+
+  module _ (k : Quadrants s) where
+    this-after : getD sumsAfter modifierThis [] ≡ modifiedBy t h s (t / 2) .this
+    this-after = getD-set-same s 2 (modifiedBy t h s (t / 2) .this) [] (omega (arith, k .four))
+
+    other-after : (q : ℕ) → q ≢ 2 → getD sumsAfter q [] ≡ getD s q []
+    other-after q b = getD-set-other s 2 q (modifiedBy t h s (t / 2) .this) [] b
+
+    after-quadrants : Quadrants sumsAfter
+    after-quadrants =
+        record {
+          four = length-set s 2 (modifiedBy t h s (t / 2) .this) ∙ k .four;
+          each = λ q b. by-number q b (eqb q 2) refl;
+        }
+      where
+        by-number : (q : ℕ) → q < 4 → (b : Bool) → eqb q 2 ≡ b → length (getD sumsAfter q []) ≡ 64
+        by-number q b true e = rw (eqb-true q 2 e) (ap length this-after ∙ this-length t h s (t / 2) ∙ k .each 2 (omega arith))
+        by-number q b false e = ap length (other-after q (eqb-false q 2 e)) ∙ k .each q b
+
+    -- A word that is neither in sum memory nor the counter is as the modifiers leave it.
+    completed-by : (i : ℕ) → Outside i 3840 256 → i ≢ counterAt → getD (completed t h s .words) i 0 ≡ getD wordsAfter i 0
+    unfolding completed counted
+    completed-by i o c =
+        getD-set-other (closed wordsAfter sumsAfter) counterAt i ((getD (closed wordsAfter sumsAfter) counterAt 0 + 1) % 2 ^ counterBits) 0 c
+        ∙ closed-outside wordsAfter sumsAfter after-quadrants i o
+
+    -- A word that is no M0, M1, L0 or L1 of a modifier that is taken and that no delay unit's turn changes, not in sum memory and not the counter.
+    pub completed-word : (i : ℕ) → Elsewhere i (t / 2) → Outside i 3840 256 → i ≢ counterAt → getD (completed t h s .words) i 0 ≡ getD (h .words) i 0
+    completed-word i a o c = completed-by i o c ∙ words-kept t h s (t / 2) i a
+
+    -- Y of a delay unit stays at most Z.
+    pub completed-within : t ≤ 256 → (u : ℕ) → u < 32 → delayAt 32 ≤ length (h .words) → yOf (h .words) u ≤ zOf (h .words) u → yOf (completed t h s .words) u ≤ zOf (h .words) u
+    completed-within b u l r e =
+        rw (completed-by (delayAt u + delayY) (outside-after (delayAt u + delayY) 3840 256 (omega arith)) (λ q. omega arith))
+        (units-within t h s (t / 2) u (omega arith) l r e)
+
+    -- The counter.
+    pub completed-counter : t ≤ 256 → counterAt < length (h .words) → getD (completed t h s .words) counterAt 0 ≡ (getD (h .words) counterAt 0 + 1) % 2 ^ counterBits
+    unfolding completed counted
+    completed-counter b l =
+        getD-set-same (closed wordsAfter sumsAfter) counterAt ((getD (closed wordsAfter sumsAfter) counterAt 0 + 1) % 2 ^ counterBits) 0
+        (rw (closed-length wordsAfter sumsAfter, words-length t h s (t / 2)) l)
+        ∙ ap (λ (x : ℕ). (x + 1) % 2 ^ counterBits)
+        (closed-outside wordsAfter sumsAfter after-quadrants counterAt (outside-after counterAt 3840 256 (lit≤ tt))
+        ∙ words-between t h s (t / 2) counterAt (omega arith) (lit≤ tt) (lit< tt))
+
+    -- A word of generator-last is what stood in generator-this.
+    pub completed-last : Reaches (h .words) → (w : ℕ) → w < 64 → getD (completed t h s .words) (quadrantAt generatorLast + w) 0 ≡ getD (getD s generatorThis []) w 0
+    unfolding completed counted
+    completed-last r w b =
+        getD-set-other (closed wordsAfter sumsAfter) counterAt (quadrantAt generatorLast + w) ((getD (closed wordsAfter sumsAfter) counterAt 0 + 1) % 2 ^ counterBits) 0 (λ z. omega arith)
+        ∙ closed-generator-last wordsAfter sumsAfter after-quadrants (same-reach (words-length t h s (t / 2)) r) w b
+        ∙ ap (λ (l : List ℕ). getD l w 0) (other-after generatorThis (λ z. omega arith))
+
+    -- They keep a machine sound.
+    pub completed-sound : t ≤ 256 → WordsLow (h .memory) → sound (h .words) ≡ true → Reaches (h .words)
+        → ((i : ℕ) → i < 64 → getD (getD s generatorThis []) i 0 < 2 ^ 20) → ((i : ℕ) → i < 64 → getD (getD s modifierThis []) i 0 < 2 ^ 20)
+        → sound (completed t h s .words) ≡ true
+    unfolding completed
+    completed-sound b low e r low₀ low₂ =
+        sound-counted (closed wordsAfter sumsAfter)
+        (sound-closed wordsAfter sumsAfter (modified-sound t h s (t / 2) (omega arith) low e) (same-reach (words-length t h s (t / 2)) r) after-quadrants
+        (λ i l. rw (other-after 0 (λ q. omega arith)) (low₀ i l))
+        (λ i l. rw this-after (this-low t h s (t / 2) i (low₂ i l))))

@@ -8,5 +8,6 @@ pub mod Completing
 pub mod PassSound
 pub mod PassModes
 pub mod PassSettings
+pub mod PassDelays
 pub mod PassCounts
 pub mod PassesInSequence

@@ -29,7 +29,7 @@ use Rattle.pass_model.specs.Pass.{Call, passRefusal, passOf}
 use Rattle.pass_laws.proofs.Frames.{apart-other, not-there, step-below, steps-length, steps-beyond, steps-quadrants}
 use Rattle.pass_laws.proofs.Turns1978.{sixteen, same-generator}
 use Rattle.pass_laws.proofs.SoundPuts.{gmode-loaded}
-use Rattle.pass_laws.proofs.Passing.{Admitted, generatorsDone, admitted, let-through, ran-machine, ran-read, ran-written}
+use Rattle.pass_laws.proofs.Passing.{Admitted, generatorsDone, heldThen, admitted, let-through, ran-machine, ran-read, ran-written}
 use Rattle.pass_laws.proofs.Completing.{completed-counter}
 use Rattle.pass_laws.proofs.Orders.{Distinct, distinct-order, distinct-first, distinct-rest}
 
@@ -104,6 +104,6 @@ module _ (m : Machine) (call : Call) (e : passRefusal m call ≡ 0) where
       let t = generatorsDone m call in
       let k = steps-quadrants of1978 (call .items) (call .order) s (sums-quadrants m (reaches m (p .good .whole))) in
       rw (let-through m call e, ran-machine m call)
-      (completed-counter (t .words) (t .sums) (ticksOf m / 2) k (omega (arith, p .ticks))
+      (completed-counter (ticksOf m) (heldThen m call) (t .sums) k (p .ticks)
       (rw (steps-length of1978 (call .items) (call .order) s, p .good .whole) (lit< tt))
       ∙ ap (λ (x : ℕ). (x + 1) % 2 ^ counterBits) (steps-beyond of1978 (call .items) (call .order) s (p .below) sixteen counterAt (lit≤ tt)))

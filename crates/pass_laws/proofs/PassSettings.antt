@@ -10,7 +10,7 @@ use borrow.Author.Tests.{eqb-true, eqb-false, ne-eqb, ltb-true}
 use lib.Dec.{eqb, ltb, lit<, lit≤}
 use lib.ListN.{length, getD}
 use Rattle.lists.proofs.Below.{and-first}
-use Rattle.layout.specs.Layout.{generatorAt, modifierAt, dxAt, tAt, nAt, counterAt, lingeringAt, lingerPassAt, overrunAt, GN, GM, GP, GL, GSUM, GFM, GMODE, MIN, MRM, MSUM, MMODE}
+use Rattle.layout.specs.Layout.{generatorAt, modifierAt, dxAt, tAt, nAt, counterAt, lingeringAt, lingerPassAt, overrunAt, delayAt, delayX, delayY, delayZ, delayP, GN, GM, GP, GL, GSUM, GFM, GMODE, MIN, MRM, MSUM, MMODE}
 use Rattle.modes.specs.Modes.{wait, runningC}
 use Rattle.machine.specs.Questions.{sound}
 use Rattle.machine.proofs.SoundMachine.{reaches}
@@ -22,13 +22,14 @@ use Rattle.generator.specs.declared.Generator.{Generator}
 use Rattle.generator.specs.Generator.{runMode, withRunMode, triggers, gmodeAfter, after}
 use Rattle.pass_model.specs.Generators.{generatorOf, turn1978, of1978, State, told, step, steps, begun}
 use Rattle.pass_model.specs.Pass.{Call, Outcome, ran, passOf}
+use Rattle.pass_model.proofs.Delays.{OffUnits, off-below, off-setting}
 use Rattle.pass_model.proofs.Modifiers.{Elsewhere}
 use Rattle.pass_laws.specs.Settings.{SettingsKept}
 use Rattle.pass_laws.proofs.Frames.{broughtAt, setting, apart-other, step-length, step-below, steps-keep, steps-middle, steps-beyond, steps-setting, steps-quadrants}
 use Rattle.pass_laws.proofs.Turns.{step-registers}
 use Rattle.pass_laws.proofs.Turns1978.{sixteen}
 use Rattle.pass_laws.proofs.SoundPuts.{gmode-loaded}
-use Rattle.pass_laws.proofs.Passing.{Admitted, generatorsDone, begun-words, begun-sums, admitted, pass-by, refused-machine, ran-machine}
+use Rattle.pass_laws.proofs.Passing.{Admitted, generatorsDone, heldThen, begun-words, begun-sums, admitted, pass-by, refused-machine, ran-machine}
 use Rattle.pass_laws.proofs.Completing.{completed-word}
 use Rattle.pass_laws.proofs.PassSound.{step-sound}
 
@@ -124,6 +125,7 @@ same-settings m =
     record {
       generator = λ g h. record { go = refl; gn = refl; gm = refl; gp = refl; gl = refl; gsum = refl; gfm = refl; gmode = λ a b. refl; gmodeOther = λ mode a b. refl; gmodeRest = refl };
       modifier = λ k h. record { min = refl; mrm = refl; msum = refl; mmode = refl };
+      delay = λ u h. record { x = refl; z = refl; p = refl };
       dx = refl;
       t = refl;
       n = refl;
@@ -146,12 +148,12 @@ module _ (m : Machine) (call : Call) (p : Admitted m (call .order)) where
   completed-at : (i : ℕ) → Elsewhere i (ticksOf m / 2) → Outside i 3840 256 → i ≢ counterAt → getD last i 0 ≡ getD (done .words) i 0
   completed-at i a o c =
       rw (ran-machine m call)
-      (completed-word (done .words) (done .sums) (ticksOf m / 2)
+      (completed-word (ticksOf m) (heldThen m call) (done .sums)
       (steps-quadrants of1978 (call .items) (call .order) start (rw (begun-sums m (sumsOf m) (call .places)) (sums-quadrants m (reaches m (p .good .whole))))) i a o c)
 
   generator-word : (i : ℕ) → i < 2816 → getD last i 0 ≡ getD (done .words) i 0
   generator-word i h =
-      completed-at i (record { not-at = λ k j a b e. omega arith }) (outside-before i 3840 256 (omega arith)) (λ e. omega arith)
+      completed-at i (record { not-at = λ k j a b e. omega arith; units = off-below i (omega arith) }) (outside-before i 3840 256 (omega arith)) (λ e. omega arith)
 
   setting-word : (g j : ℕ) → g < 256 → ltb j 11 ≡ true → eqb j 1 ≡ false → eqb j 2 ≡ false → eqb j 6 ≡ false → eqb j 10 ≡ false
       → getD last (generatorAt g + j) 0 ≡ getD m (generatorAt g + j) 0
@@ -162,15 +164,22 @@ module _ (m : Machine) (call : Call) (p : Admitted m (call .order)) where
 
   modifier-word : (k j : ℕ) → k < 128 → 4 ≤ j → j < 8 → getD last (modifierAt k + j) 0 ≡ getD m (modifierAt k + j) 0
   modifier-word k j h a b =
-      completed-at (modifierAt k + j) (record { not-at = λ n i c d e. omega arith }) (outside-before (modifierAt k + j) 3840 256 (omega arith)) (λ e. omega arith)
+      completed-at (modifierAt k + j) (record { not-at = λ n i c d e. omega arith; units = off-below (modifierAt k + j) (omega arith) }) (outside-before (modifierAt k + j) 3840 256 (omega arith)) (λ e. omega arith)
       ∙ steps-middle of1978 (call .items) (call .order) start (p .below) (modifierAt k + j) (omega arith) (omega arith)
       ∙ rw (begun-words m (sumsOf m) (call .places))
 
-  control-word : (i : ℕ) → 4112 ≤ i → i ≢ counterAt → getD last i 0 ≡ getD m i 0
-  control-word i h c =
-      completed-at i (record { not-at = λ n j a b e. omega (arith, p .ticks) }) (outside-after i 3840 256 (omega arith)) c
+  beyond-word : (i : ℕ) → 4112 ≤ i → OffUnits i → i ≢ counterAt → getD last i 0 ≡ getD m i 0
+  beyond-word i h o c =
+      completed-at i (record { not-at = λ n j a b e. omega (arith, p .ticks); units = o }) (outside-after i 3840 256 (omega arith)) c
       ∙ steps-beyond of1978 (call .items) (call .order) start (p .below) sixteen i h
       ∙ rw (begun-words m (sumsOf m) (call .places))
+
+  control-word : (i : ℕ) → 4112 ≤ i → i < delayAt 0 → i ≢ counterAt → getD last i 0 ≡ getD m i 0
+  control-word i h l c = beyond-word i h (off-below i l) c
+
+  -- X, Z and P of a delay unit.
+  unit-word : (u j : ℕ) → u < 32 → j < 4 → j ≢ delayY → getD last (delayAt u + j) 0 ≡ getD m (delayAt u + j) 0
+  unit-word u j h l n = beyond-word (delayAt u + j) (omega arith) (off-setting u j h l n) (λ e. omega arith)
 
   mode-word : (g : ℕ) → g < 256 → ModeKept (getD m (generatorAt g + GMODE) 0) (getD last (generatorAt g + GMODE) 0)
   unfolding begun
@@ -201,12 +210,18 @@ module _ (m : Machine) (call : Call) (p : Admitted m (call .order)) where
               msum = modifier-word k 6 h (lit≤ tt) (lit< tt);
               mmode = modifier-word k 7 h (lit≤ tt) (lit< tt);
             };
-        dx = control-word dxAt (lit≤ tt) (eqb-false dxAt counterAt refl);
-        t = control-word tAt (lit≤ tt) (eqb-false tAt counterAt refl);
-        n = control-word nAt (lit≤ tt) (eqb-false nAt counterAt refl);
-        lingering = control-word lingeringAt (lit≤ tt) (eqb-false lingeringAt counterAt refl);
-        lingerPass = control-word lingerPassAt (lit≤ tt) (eqb-false lingerPassAt counterAt refl);
-        overrun = control-word overrunAt (lit≤ tt) (eqb-false overrunAt counterAt refl);
+        delay = λ u h.
+            record {
+              x = unit-word u delayX h (lit< tt) (eqb-false delayX delayY refl);
+              z = unit-word u delayZ h (lit< tt) (eqb-false delayZ delayY refl);
+              p = unit-word u delayP h (lit< tt) (eqb-false delayP delayY refl);
+            };
+        dx = control-word dxAt (lit≤ tt) (lit< tt) (eqb-false dxAt counterAt refl);
+        t = control-word tAt (lit≤ tt) (lit< tt) (eqb-false tAt counterAt refl);
+        n = control-word nAt (lit≤ tt) (lit< tt) (eqb-false nAt counterAt refl);
+        lingering = control-word lingeringAt (lit≤ tt) (lit< tt) (eqb-false lingeringAt counterAt refl);
+        lingerPass = control-word lingerPassAt (lit≤ tt) (lit< tt) (eqb-false lingerPassAt counterAt refl);
+        overrun = control-word overrunAt (lit≤ tt) (lit< tt) (eqb-false overrunAt counterAt refl);
       }
 
 -- A pass keeps the settings.

@@ -3,7 +3,7 @@
 use mathlib.Core.Path.{_≡_, _∙_}
 use mathlib.Core.Bool.{true}
 use mathlib.Core.List.{[]}
-use Prim.Native.Nat.{ℕ, zero, suc, _^_, _/_, _<_}
+use Prim.Native.Nat.{ℕ, zero, suc, _^_, _<_}
 use native.Mathlib.Omega.{arith}
 use lib.ListN.{length, getD}
 use Rattle.layout.specs.Layout.{machineLength}
@@ -16,13 +16,16 @@ use Rattle.generator.proofs.Registers.{after-ranged}
 use Rattle.generator.specs.Generator.{after}
 use Rattle.pass_model.specs.Generators.{generatorOf, turn1978, of1978, State, told, step, steps, begun}
 use Rattle.pass_model.specs.Pass.{Call, Outcome, ran, passOf}
+use Rattle.pass_model.proofs.Asked.{passes}
+use Rattle.delay_questions.specs.Questions.{memoryGood}
+use Rattle.delay_questions.proofs.Memory.{good-words}
 use Rattle.pass_model.proofs.Puts.{generator-ranged}
 use Rattle.pass_model.proofs.Views.{set-below}
 use Rattle.pass_laws.specs.Good.{Good}
 use Rattle.pass_laws.proofs.Frames.{broughtAt, putBack, words-by, sums-by, steps-keep, steps-keep-all, steps-length, steps-quadrants}
 use Rattle.pass_laws.proofs.Turns1978.{sixteen}
 use Rattle.pass_laws.proofs.SoundPuts.{sound-generator-put, sound-dac-put, f-low, good-after, gmode-good}
-use Rattle.pass_laws.proofs.Passing.{Admitted, generatorsDone, begun-words, begun-sums, admitted, pass-by, refused-machine, ran-machine}
+use Rattle.pass_laws.proofs.Passing.{Admitted, generatorsDone, heldThen, begun-words, begun-sums, admitted, pass-by, refused-machine, ran-machine}
 use Rattle.pass_laws.proofs.Completing.{completed-length, completed-sound}
 
 -- A generator's turn leaves a sound machine sound.
@@ -71,11 +74,11 @@ steps-low items order s k =
 
 module _ (m : Machine) (call : Call) where
   -- A pass that is let through.
-  ran-sound : Admitted m (call .order) → Good (ran m call .machine)
-  ran-sound p =
+  ran-sound : Admitted m (call .order) → memoryGood (call .memory) ≡ true → Good (ran m call .machine)
+  ran-sound p good =
       let t = generatorsDone m call in
       let s = begun m (sumsOf m) (call .places) in
-      let n = ticksOf m / 2 in
+      let h = heldThen m call in
       let start-sums = begun-sums m (sumsOf m) (call .places) in
       let start-words = begun-words m (sumsOf m) (call .places) in
       let l : length (t .words) ≡ machineLength = steps-length of1978 (call .items) (call .order) s ∙ rw start-words (p .good .whole) in
@@ -84,13 +87,13 @@ module _ (m : Machine) (call : Call) where
       let e = steps-sound (call .items) (call .order) s (p .below) (rw start-words (p .good .is-sound)) in
       rw (ran-machine m call)
       (record {
-        whole = completed-length (t .words) (t .sums) n ∙ l;
+        whole = completed-length (ticksOf m) h (t .sums) ∙ l;
         is-sound =
-            completed-sound (t .words) (t .sums) n k (omega (arith, p .ticks)) e (reaches (t .words) l)
+            completed-sound (ticksOf m) h (t .sums) k (p .ticks) (good-words (call .memory) good) e (reaches (t .words) l)
             (λ i h. low .low 0 i (omega arith) h) (λ i h. low .low 2 i (omega arith) h);
       })
 
   -- Questions 1 and 2 stay answered yes.
   pub pass-sound : Good m → Good (passOf m call .machine)
   pass-sound good =
-      pass-by m call (λ (r : Outcome). Good (r .machine)) (rw (refused-machine m call) good) (λ n. ran-sound (admitted m call n))
+      pass-by m call (λ (r : Outcome). Good (r .machine)) (rw (refused-machine m call) good) (λ n. ran-sound (admitted m call n) (passes m call n .memory))

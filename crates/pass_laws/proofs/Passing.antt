@@ -15,6 +15,7 @@ use Rattle.order.specs.Order.{IsOrder}
 use Rattle.order.proofs.Entries.{order-passes}
 use Rattle.sums.specs.Sums.{sumsOf}
 use Rattle.pass_model.specs.Generators.{of1978, State, steps, begun, takenBy}
+use Rattle.pass_model.specs.Modifiers.{Held}
 use Rattle.pass_model.specs.Pass.{Call, Outcome, completed, generatorsTaken, finished, ran, refused, passRefusal, passOf}
 use Rattle.pass_model.proofs.Asked.{passes, is-sound, is-whole, few-ticks, entries-below}
 use Rattle.pass_laws.specs.Good.{Good}
@@ -50,10 +51,10 @@ module _ (m : Machine) (call : Call) where
   admitted e =
       let q = passes m call e in
       record {
-        good = record { whole = is-whole m (call .order) (q .0); is-sound = is-sound m (call .order) (q .0) };
-        ticks = few-ticks m (call .order) (q .0);
-        is-order = order-passes (ticksOf m) (call .order) (q .1);
-        below = entries-below m (call .order) (q .0) (q .1);
+        good = record { whole = is-whole m (call .order) (q .whole); is-sound = is-sound m (call .order) (q .whole) };
+        ticks = few-ticks m (call .order) (q .whole);
+        is-order = order-passes (ticksOf m) (call .order) (q .ordered);
+        below = entries-below m (call .order) (q .whole) (q .ordered);
       }
 
   -- What holds of a refused pass and of one that is let through holds of every pass.
@@ -79,7 +80,19 @@ module _ (m : Machine) (call : Call) where
   unfolding ran finished refused
   pass-number = pass-by (λ (r : Outcome). r .number ≡ passRefusal m call) refl (λ e. sym e)
 
-  pub ran-machine : ran m call .machine ≡ completed (generatorsDone m call .words) (generatorsDone m call .sums) (ticksOf m / 2)
+  -- The words and the delay memory that the modifiers begin with.
+  abbrev pub heldThen : Held
+  heldThen = record { words = generatorsDone m call .words; memory = call .memory }
+
+  pub ran-memory : ran m call .memory ≡ completed (ticksOf m) heldThen (generatorsDone m call .sums) .memory
+  unfolding ran finished generatorsTaken takenBy
+  ran-memory = refl
+
+  pub refused-memory : refused (passRefusal m call) m call .memory ≡ call .memory
+  unfolding refused
+  refused-memory = refl
+
+  pub ran-machine : ran m call .machine ≡ completed (ticksOf m) heldThen (generatorsDone m call .sums) .words
   unfolding ran finished generatorsTaken takenBy
   ran-machine = refl
 

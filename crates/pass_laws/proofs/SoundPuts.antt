@@ -14,7 +14,7 @@ use Rattle.lists.specs.Lists.{isOneOf}
 use Rattle.lists.proofs.Below.{and-second}
 use Rattle.lists.proofs.Choices.{of-cond}
 use Rattle.modes.specs.Modes.{builtRun, builtOscillator, wait, runningC}
-use Rattle.layout.specs.Layout.{machineLength, generatorAt, modifierAt, quadrantAt, dacAt, counterAt, GJ, GK, GQ, GMODE, M1, L0, L1}
+use Rattle.layout.specs.Layout.{machineLength, generatorAt, modifierAt, quadrantAt, dacAt, counterAt, delayAt, delayY, delayFirst, delaySecond, delayThird, GJ, GK, GQ, GMODE, M1, L0, L1}
 use Rattle.machine.specs.Questions.{goodGmode, regions, testAt, sound}
 use Rattle.machine.proofs.Words.{gmode-from, gmode-oscillator}
 use Rattle.machine.proofs.Regions.{region, start, unit-test}
@@ -27,6 +27,8 @@ use Rattle.generator.specs.declared.Generator.{Generator}
 use Rattle.generator.specs.Generator.{loaded, stored, runMode, withRunMode, triggers, gmodeAfter}
 use Rattle.modifier.specs.declared.Modifier.{Modifier}
 use Rattle.modifier.specs.Modifier.{Ranged as RangedModifier, stored as storedModifier}
+use Rattle.delay.specs.declared.Delay.{Delay}
+use Rattle.delay.specs.Delay.{Ranged as RangedDelay, stored as storedDelay}
 use Rattle.pass_model.specs.Generators.{generatorOf}
 use Rattle.pass_model.specs.Pass.{counted}
 use Rattle.layout.specs.Machine.{Machine, Sums, Reaches}
@@ -67,6 +69,18 @@ sound-modifier-put m e k h u r =
     let m3 = set m2 (modifierAt k + L0) (u .l0) in
     let e3 = sound-put m2 e2 1 k 2 (modifierAt k + L0) (u .l0) h (lit< tt) (omega arith) (omega arith) (lt-ltb (u .l0) (2 ^ 20) (r .l0-low)) in
     sound-put m3 e3 1 k 3 (modifierAt k + L1) (u .l1) h (lit< tt) (omega arith) (omega arith) (lt-ltb (u .l1) (2 ^ 20) (r .l1-low))
+
+-- Y and the words on their way of a delay unit.
+pub sound-delay-put : (m : Machine) → sound m ≡ true → (u : ℕ) → u < 32 → (d : Delay) → RangedDelay d → sound (storedDelay m (delayAt u) d) ≡ true
+unfolding storedDelay regions
+sound-delay-put m e u h d r =
+    let m1 = set m (delayAt u + delayY) (d .y) in
+    let e1 = sound-put m e 5 u 1 (delayAt u + delayY) (d .y) h (lit< tt) (omega arith) (omega arith) (lt-ltb (d .y) (2 ^ 16) (r .y-low)) in
+    let m2 = set m1 (delayAt u + delayFirst) (d .first) in
+    let e2 = sound-put m1 e1 5 u 4 (delayAt u + delayFirst) (d .first) h (lit< tt) (omega arith) (omega arith) (lt-ltb (d .first) (2 ^ 20) (r .first-low)) in
+    let m3 = set m2 (delayAt u + delaySecond) (d .second) in
+    let e3 = sound-put m2 e2 5 u 5 (delayAt u + delaySecond) (d .second) h (lit< tt) (omega arith) (omega arith) (lt-ltb (d .second) (2 ^ 20) (r .second-low)) in
+    sound-put m3 e3 5 u 6 (delayAt u + delayThird) (d .third) h (lit< tt) (omega arith) (omega arith) (lt-ltb (d .third) (2 ^ 20) (r .third-low))
 
 -- The counter.
 pub sound-counted : (m : Machine) → sound m ≡ true → sound (counted m) ≡ true

@@ -5,7 +5,7 @@ use mathlib.Core.Path.{_≡_}
 use Prim.Native.Nat.{ℕ, _+_, _%_, _^_, _<_}
 use lib.Dec.{eqb}
 use lib.ListN.{getD}
-use Rattle.layout.specs.Layout.{generatorAt, modifierAt, dxAt, tAt, nAt, lingeringAt, lingerPassAt, overrunAt, GN, GM, GP, GL, GSUM, GFM, GMODE, MIN, MRM, MSUM, MMODE}
+use Rattle.layout.specs.Layout.{generatorAt, modifierAt, dxAt, tAt, nAt, lingeringAt, lingerPassAt, overrunAt, delayAt, delayX, delayZ, delayP, GN, GM, GP, GL, GSUM, GFM, GMODE, MIN, MRM, MSUM, MMODE}
 use Rattle.layout.specs.Machine.{Machine, runModeAt}
 use Rattle.modes.specs.Modes.{wait, runningC}
 
@@ -30,10 +30,17 @@ pub record ModifierKept (m r : Machine) (k : ℕ) : Type 0 where
   pub msum : getD r (modifierAt k + MSUM) 0 ≡ getD m (modifierAt k + MSUM) 0
   pub mmode : getD r (modifierAt k + MMODE) 0 ≡ getD m (modifierAt k + MMODE) 0
 
+-- Those of delay unit u: all but Y and the words on their way.
+pub record DelayKept (m r : Machine) (u : ℕ) : Type 0 where
+  pub x : getD r (delayAt u + delayX) 0 ≡ getD m (delayAt u + delayX) 0
+  pub z : getD r (delayAt u + delayZ) 0 ≡ getD m (delayAt u + delayZ) 0
+  pub p : getD r (delayAt u + delayP) 0 ≡ getD m (delayAt u + delayP) 0
+
 -- All settings of a machine, and what an update sets.
 pub record SettingsKept (m r : Machine) : Type 0 where
   pub generator : (g : ℕ) → g < 256 → GeneratorKept m r g
   pub modifier : (k : ℕ) → k < 128 → ModifierKept m r k
+  pub delay : (u : ℕ) → u < 32 → DelayKept m r u
   pub dx : getD r dxAt 0 ≡ getD m dxAt 0
   pub t : getD r tAt 0 ≡ getD m tAt 0
   pub n : getD r nAt 0 ≡ getD m nAt 0

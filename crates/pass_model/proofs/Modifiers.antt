@@ -1,122 +1,147 @@
 -- What the modifiers leave alone, and the widths of what they write.
 -- Assumes nothing.
 use mathlib.Core.Path.{_≡_, refl, _∙_, ap}
-use mathlib.Core.Logic.{_≢_, ⊎-elim}
+use mathlib.Core.Logic.{_≢_}
 use mathlib.Core.List.{List, []}
 use Prim.Native.Nat.{ℕ, zero, suc, _+_, _*_, _^_, _≤_, _<_}
 use native.Mathlib.Omega.{arith}
-use native.Mathlib.Nat.{add-zero, le-of-suc-le-suc, not-suc-le-zero, eq-or-lt-of-le}
-use lib.ListN.{length, getD, drop}
-use lib.Seq.{sets, length-sets, getD-drop}
-use Rattle.layout.specs.Layout.{modifierAt, M1, L0, L1}
+use lib.ListN.{length, getD}
+use lib.Seq.{sets, length-sets}
+use Rattle.layout.specs.Layout.{modifierAt, delayAt, delayY, delayZ}
+use Rattle.layout.specs.Machine.{Machine, Memory, Sums}
 use Rattle.modifier.specs.declared.Modifier.{Modifier}
-use Rattle.modifier.specs.Modifier.{loaded, Ranged}
+use Rattle.modifier.specs.Modifier.{Ranged}
 use Rattle.modifier.proofs.Low.{loaded-ranged}
 use Rattle.modifier.proofs.Turns.{Low}
 use Rattle.modifier_turn.proofs.Turns.{turn-low}
+use Rattle.delay.proofs.Low.{WordsLow}
 use Rattle.sums.proofs.Blocks.{Outside, getD-outside}
-use Rattle.pass_model.specs.Modifiers.{withWrites, earlyView, lateView, turnSeen, modifierOf, modify, modified, modifiedBy}
-use Rattle.pass_model.proofs.Registers.{registers, four, put-is, sets-low}
-use Rattle.pass_model.proofs.Views.{writes-snoc, writes-length, write-low, seen-low}
+use Rattle.pass_model.specs.Modifiers.{withWrites, earlyView, lateView, turnSeen, modifierOf, Held, delayed, Stage, modify, modified, modifiedBy}
+use Rattle.pass_model.proofs.Registers.{registers, four, put-is}
+use Rattle.pass_model.proofs.Views.{writes-snoc, writes-length, write-low, seen-low, beside-low}
+use Rattle.pass_model.proofs.Delays.{OffUnits, off-below, off-setting, yOf, zOf, delayed-length, delayed-kept, delayed-memory-length, delayed-memory-low, delayed-within}
 
 -- What a turn gives is within its widths, whatever stands in the machine.
-pub turn-seen-low : (s : List (List ℕ)) (early late words : List ℕ) (m : ℕ) → Low (turnSeen s early late (modifierOf words m))
+pub turn-seen-low : (t : ℕ) (s : Sums) (early late : List ℕ) (words : Machine) (m : ℕ) → Low (turnSeen t words s early late (modifierOf words m))
 unfolding turnSeen modifierOf
-turn-seen-low s early late words m = turn-low _ _ _ (loaded-ranged _) (seen-low _ _ _)
+turn-seen-low t s early late words m = turn-low _ _ _ (loaded-ranged _) (seen-low _ _ _) (beside-low t words s early _)
 
--- What modifier n does to the words.
-record TurnTaken (words : List ℕ) (n : ℕ) (after : List ℕ) : Type 0 where
-  unit : Modifier
-  ranged : Ranged unit
-  is : after ≡ sets words (2816 + 8 * n) (registers unit)
+module _ (t : ℕ) (h : Held) (s : Sums) where
+  -- The words and delay memory after n modifiers.
+  abbrev pub wordsAt : ℕ → Machine
+  wordsAt n = modifiedBy t h s n .held .words
 
-taken : (words : List ℕ) (s : List (List ℕ)) (n : ℕ) → TurnTaken (modifiedBy words s n .words) n (modifiedBy words s (suc n) .words)
-unfolding modifiedBy modified modify
-taken words s n =
-    let v = modified words s n in
-    let t = turnSeen s (earlyView (getD s 2 []) n (v .writes)) (lateView (getD s 2 []) n (v .writes)) (modifierOf (v .words) n) in
-    record {
-      unit = t .unit;
-      ranged = turn-seen-low s (earlyView (getD s 2 []) n (v .writes)) (lateView (getD s 2 []) n (v .writes)) (v .words) n .ranged;
-      is = put-is (v .words) n (t .unit);
-    }
+  abbrev pub memoryAt : ℕ → Memory
+  memoryAt n = modifiedBy t h s n .held .memory
 
-words-none : (words : List ℕ) (s : List (List ℕ)) → modifiedBy words s 0 .words ≡ words
-unfolding modifiedBy modified
-words-none words s = refl
+  -- What modifier n does: its registers are written, then its delay unit has its turn.
+  record TurnTaken (n : ℕ) : Type 0 where
+    unit : Modifier
+    ranged : Ranged unit
+    by : Modifier
+    is : modifiedBy t h s (suc n) .held ≡ delayed t (record { words = sets (wordsAt n) (2816 + 8 * n) (registers unit); memory = memoryAt n }) by (unit .l1)
 
--- The machine keeps its length.
-pub words-length : (words : List ℕ) (s : List (List ℕ)) (n : ℕ) → length (modifiedBy words s n .words) ≡ length words
-words-length words s zero = ap length (words-none words s)
-words-length words s (suc n) =
-    let t = taken words s n in
-    rw (t .is, length-sets (modifiedBy words s n .words) (2816 + 8 * n) (registers (t .unit))) (words-length words s n)
+  taken : (n : ℕ) → TurnTaken n
+  unfolding modifiedBy modified modify
+  taken n =
+      let v = modified t h s n in
+      let early = earlyView (getD s 2 []) n (v .writes) in
+      let late = lateView (getD s 2 []) n (v .writes) in
+      let u = modifierOf (v .held .words) n in
+      let turn = turnSeen t (v .held .words) s early late u in
+      record {
+        unit = turn .unit;
+        ranged = turn-seen-low t s early late (v .held .words) n .ranged;
+        by = u;
+        is = ap (λ (w : Machine). delayed t (record { words = w; memory = v .held .memory }) u (turn .unit .l1)) (put-is (v .held .words) n (turn .unit));
+      }
 
--- Place i has none of the registers M0, M1, L0 and L1 of the first n modifiers.
+  none-taken : modifiedBy t h s 0 .held ≡ h
+  unfolding modifiedBy modified
+  none-taken = refl
+
+  -- The machine and delay memory keep their lengths.
+  pub words-length : (n : ℕ) → length (wordsAt n) ≡ length (h .words)
+  words-length zero = ap (λ (k : Held). length (k .words)) none-taken
+  words-length (suc n) =
+      let a = taken n in
+      ap (λ (k : Held). length (k .words)) (a .is)
+      ∙ delayed-length t (record { words = sets (wordsAt n) (2816 + 8 * n) (registers (a .unit)); memory = memoryAt n }) (a .by) (a .unit .l1)
+      ∙ length-sets (wordsAt n) (2816 + 8 * n) (registers (a .unit))
+      ∙ words-length n
+
+  pub memory-length : (n : ℕ) → length (memoryAt n) ≡ length (h .memory)
+  memory-length zero = ap (λ (k : Held). length (k .memory)) none-taken
+  memory-length (suc n) =
+      let a = taken n in
+      ap (λ (k : Held). length (k .memory)) (a .is)
+      ∙ delayed-memory-length t (record { words = sets (wordsAt n) (2816 + 8 * n) (registers (a .unit)); memory = memoryAt n }) (a .by) (a .unit .l1)
+      ∙ memory-length n
+
+  -- The words of delay memory keep their width.
+  pub memory-low : (n : ℕ) → WordsLow (h .memory) → WordsLow (memoryAt n)
+  memory-low zero low = rw (memoryAt, none-taken) low
+  memory-low (suc n) low =
+      let a = taken n in
+      rw (memoryAt, a .is)
+      (delayed-memory-low t (record { words = sets (wordsAt n) (2816 + 8 * n) (registers (a .unit)); memory = memoryAt n }) (a .by) (a .unit .l1) (a .ranged .l1-low)
+      (memory-low n low))
+
+  -- Modifier n leaves the words outside its own M0, M1, L0 and L1, and outside what a delay unit's turn changes.
+  outside-kept : (n i : ℕ) → Outside i (2816 + 8 * n) 4 → OffUnits i → getD (wordsAt (suc n)) i 0 ≡ getD (wordsAt n) i 0
+  outside-kept n i o u =
+      let a = taken n in
+      ap (λ (k : Held). getD (k .words) i 0) (a .is)
+      ∙ delayed-kept t (record { words = sets (wordsAt n) (2816 + 8 * n) (registers (a .unit)); memory = memoryAt n }) (a .by) (a .unit .l1) i u
+      ∙ getD-outside (registers (a .unit)) (wordsAt n) (2816 + 8 * n) i 0 (rw (four (a .unit)) o)
+
+-- Place i has none of the registers M0, M1, L0 and L1 of the first n modifiers, and nothing that a delay unit's turn changes.
 pub record Elsewhere (i n : ℕ) : Type 0 where
   pub not-at : (k j : ℕ) → k < n → j < 4 → i ≢ modifierAt k + j
+  pub units : OffUnits i
 
--- Modifier n leaves the words outside these registers of its own.
-outside-kept : (words : List ℕ) (s : List (List ℕ)) (n i : ℕ) → Outside i (2816 + 8 * n) 4
-    → getD (modifiedBy words s (suc n) .words) i 0 ≡ getD (modifiedBy words s n .words) i 0
-outside-kept words s n i o =
-    let t = taken words s n in
-    rw (t .is) (getD-outside (registers (t .unit)) (modifiedBy words s n .words) (2816 + 8 * n) i 0 (rw (four (t .unit)) o))
+module _ (t : ℕ) (h : Held) (s : Sums) where
+  -- A word elsewhere is kept.
+  pub words-kept : (n i : ℕ) → Elsewhere i n → getD (wordsAt t h s n) i 0 ≡ getD (h .words) i 0
+  words-kept zero i e = ap (λ (k : Held). getD (k .words) i 0) (none-taken t h s)
+  words-kept (suc n) i e =
+      outside-kept t h s n i (record { out = λ j b. e .not-at n j (omega arith) b }) (e .units)
+      ∙ words-kept n i (record { not-at = λ k j b. e .not-at k j (omega arith); units = e .units })
 
--- A word elsewhere is kept: each word below the modifiers, each one above them, and modifier k until its turn.
-pub words-kept : (words : List ℕ) (s : List (List ℕ)) (n i : ℕ) → Elsewhere i n → getD (modifiedBy words s n .words) i 0 ≡ getD words i 0
-words-kept words s zero i e = rw (words-none words s)
-words-kept words s (suc n) i e =
-    outside-kept words s n i (record { out = λ j h. e .not-at n j (omega arith) h })
-    ∙ words-kept words s n i (record { not-at = λ k j h. e .not-at k j (omega arith) })
+  -- A word between the modifiers and the delay units, and a delay unit's X, Z and P.
+  pub words-between : (n i : ℕ) → n ≤ 128 → 3840 ≤ i → i < delayAt 0 → getD (wordsAt t h s n) i 0 ≡ getD (h .words) i 0
+  words-between n i b g l = words-kept n i (record { not-at = λ k j a c e. omega arith; units = off-below i l })
 
-pub words-above : (words : List ℕ) (s : List (List ℕ)) (n i : ℕ) → n ≤ 128 → 3840 ≤ i → getD (modifiedBy words s n .words) i 0 ≡ getD words i 0
-words-above words s n i h g = words-kept words s n i (record { not-at = λ k j a b e. omega arith })
+  pub unit-setting : (n u j : ℕ) → n ≤ 128 → u < 32 → j < 4 → j ≢ delayY → getD (wordsAt t h s n) (delayAt u + j) 0 ≡ getD (h .words) (delayAt u + j) 0
+  unit-setting n u j b l c d = words-kept n (delayAt u + j) (record { not-at = λ k i a e f. omega arith; units = off-setting u j l c d })
 
--- M0, M1, L0 and L1 of modifier k are within their widths.
-pub record Narrow (words : List ℕ) (k : ℕ) : Type 0 where
-  pub m0-low : getD words (modifierAt k) 0 < 2 ^ 30
-  pub m1-low : getD words (modifierAt k + M1) 0 < 2 ^ 30
-  pub l0-low : getD words (modifierAt k + L0) 0 < 2 ^ 20
-  pub l1-low : getD words (modifierAt k + L1) 0 < 2 ^ 20
+  -- Y of a delay unit stays at most Z.
+  pub units-within : (n u : ℕ) → n ≤ 128 → u < 32 → delayAt 32 ≤ length (h .words) → yOf (h .words) u ≤ zOf (h .words) u → yOf (wordsAt t h s n) u ≤ zOf (h .words) u
+  units-within zero u b l r e = rw (wordsAt, none-taken t h s) e
+  units-within (suc n) u b l r e =
+      let a = taken t h s n in
+      let w : Held = record { words = sets (wordsAt t h s n) (2816 + 8 * n) (registers (a .unit)); memory = memoryAt t h s n } in
+      let y : getD (w .words) (delayAt u + delayY) 0 ≡ getD (wordsAt t h s n) (delayAt u + delayY) 0 =
+      getD-outside (registers (a .unit)) (wordsAt t h s n) (2816 + 8 * n) (delayAt u + delayY) 0 (rw (four (a .unit)) (record { out = λ j c q. omega arith })) in
+      let z : getD (w .words) (delayAt u + delayZ) 0 ≡ getD (wordsAt t h s n) (delayAt u + delayZ) 0 =
+      getD-outside (registers (a .unit)) (wordsAt t h s n) (2816 + 8 * n) (delayAt u + delayZ) 0 (rw (four (a .unit)) (record { out = λ j c q. omega arith })) in
+      let z₀ = unit-setting n u delayZ (omega arith) l (omega arith) (λ q. omega arith) in
+      let before = units-within n u (omega arith) l r e in
+      let inside : delayAt u + delayY < length (w .words) = omega (arith, length-sets (wordsAt t h s n) (2816 + 8 * n) (registers (a .unit)), words-length t h s n, r) in
+      let same : zOf (w .words) u ≡ zOf (h .words) u = rw (z, z₀) in
+      rw (wordsAt, a .is) (omega (arith, same, delayed-within t w (a .by) (a .unit .l1) u l inside (rw (y, same) before)))
 
-narrow-now : (words : List ℕ) (n : ℕ) (u : Modifier) → Ranged u → Narrow (sets words (2816 + 8 * n) (registers u)) n
-unfolding registers
-narrow-now words n u r = record {
-  m0-low = rw (add-zero (2816 + 8 * n)) at (sets-low (registers u) words (2816 + 8 * n) 0 (2 ^ 30) (omega arith) (r .m0-low));
-  m1-low = sets-low (registers u) words (2816 + 8 * n) 1 (2 ^ 30) (omega arith) (r .m1-low);
-  l0-low = sets-low (registers u) words (2816 + 8 * n) 2 (2 ^ 20) (omega arith) (r .l0-low);
-  l1-low = sets-low (registers u) words (2816 + 8 * n) 3 (2 ^ 20) (omega arith) (r .l1-low);
-}
+  -- Modifier-this keeps its length.
+  pub this-length : (n : ℕ) → length (modifiedBy t h s n .this) ≡ length (getD s 2 [])
+  unfolding modifiedBy
+  this-length n = writes-length (getD s 2 []) (modified t h s n .writes)
 
-narrow-still : (words : List ℕ) (s : List (List ℕ)) (n k : ℕ) → k < n → Narrow (modifiedBy words s n .words) k → Narrow (modifiedBy words s (suc n) .words) k
-narrow-still words s n k h r = record {
-  m0-low = rw (outside-kept words s n (modifierAt k) (record { out = λ j b e. omega arith })) (r .m0-low);
-  m1-low = rw (outside-kept words s n (modifierAt k + M1) (record { out = λ j b e. omega arith })) (r .m1-low);
-  l0-low = rw (outside-kept words s n (modifierAt k + L0) (record { out = λ j b e. omega arith })) (r .l0-low);
-  l1-low = rw (outside-kept words s n (modifierAt k + L1) (record { out = λ j b e. omega arith })) (r .l1-low);
-}
-
--- Those of each modifier that was taken are, whatever stood in the machine.
-pub taken-narrow : (words : List ℕ) (s : List (List ℕ)) (n k : ℕ) → k < n → Narrow (modifiedBy words s n .words) k
-taken-narrow words s zero k h = absurd (not-suc-le-zero h)
-taken-narrow words s (suc n) k h =
-    ⊎-elim
-    (λ e. rw e (rw (taken words s n .is) (narrow-now (modifiedBy words s n .words) n (taken words s n .unit) (taken words s n .ranged))))
-    (λ l. narrow-still words s n k l (taken-narrow words s n k l))
-    (eq-or-lt-of-le (le-of-suc-le-suc h))
-
--- Modifier-this keeps its length.
-pub this-length : (words : List ℕ) (s : List (List ℕ)) (n : ℕ) → length (modifiedBy words s n .this) ≡ length (getD s 2 [])
-unfolding modifiedBy
-this-length words s n = writes-length (getD s 2 []) (modified words s n .writes)
-
--- A word of it stays one of 20 bits.
-pub this-low : (words : List ℕ) (s : List (List ℕ)) (n i : ℕ) → getD (getD s 2 []) i 0 < 2 ^ 20 → getD (modifiedBy words s n .this) i 0 < 2 ^ 20
-unfolding modifiedBy modified modify withWrites
-this-low words s zero i h = h
-this-low words s (suc n) i h =
-    let q = getD s 2 [] in
-    let v = modified words s n in
-    rw (writes-snoc q (v .writes) _)
-    (write-low (withWrites q (v .writes)) _ i (turn-seen-low s (earlyView q n (v .writes)) (lateView q n (v .writes)) (v .words) n .s-low) (this-low words s n i h))
+  -- A word of it stays one of 20 bits.
+  pub this-low : (n i : ℕ) → getD (getD s 2 []) i 0 < 2 ^ 20 → getD (modifiedBy t h s n .this) i 0 < 2 ^ 20
+  unfolding modifiedBy modified modify withWrites
+  this-low zero i b = b
+  this-low (suc n) i b =
+      let q = getD s 2 [] in
+      let v = modified t h s n in
+      rw (writes-snoc q (v .writes) _)
+      (write-low (withWrites q (v .writes)) _ i (turn-seen-low t s (earlyView q n (v .writes)) (lateView q n (v .writes)) (v .held .words) n .s-low) (this-low n i b))

@@ -1,7 +1,7 @@
 -- The modifiers of a pass, taken by number (document 01, "A modifier" and "A pass, and two orders of it").
 -- Assumes nothing.
 use Prim.Native.Nat.{ℕ, zero, suc, _+_, _-_, _/_, _%_}
-use mathlib.Core.Bool.{cond}
+use mathlib.Core.Bool.{cond, _&&_}
 use mathlib.Core.List.{List, [], _∷_, _++_}
 use lib.Dec.{eqb}
 use lib.ListN.{getD, set, take, drop}
@@ -10,8 +10,11 @@ use Rattle.modifier.specs.declared.Modifier.{Modifier}
 use Rattle.modifier.specs.declared.Turned.{Turned}
 use Rattle.modifier.specs.Modifier.{loaded, stored, functionOf}
 use Rattle.modifier_turn.specs.Turn.{turnOf, readsLate}
-use Rattle.layout.specs.Layout.{modifierAt}
-use Rattle.layout.specs.Machine.{Machine, Sums}
+use Rattle.modifier_delay.specs.Invoke.{invoking, unitOf}
+use Rattle.delay.specs.Delay.{runs, due, stored as storedDelay, turnOf as delayTurn}
+use Rattle.delay_questions.specs.Questions.{delayOf}
+use Rattle.layout.specs.Layout.{modifierAt, delayAt}
+use Rattle.layout.specs.Machine.{Machine, Memory, Sums}
 use Rattle.sums.specs.Sums.{generatorLast, modifierThis, modifierLast, wordAt}
 
 -- What a modifier writes into modifier-this: S, at MSUM.
@@ -44,41 +47,64 @@ seen s view address =
     (cond (eqb (address / 64) 0b01) (wordAt (getD s modifierLast []) (address % 64))
     (wordAt view (address % 64)))
 
--- A modifier's turn: B sees the early view, A the late or the early one by the function.
-unfoldable pub turnSeen : Sums → List ℕ → List ℕ → Modifier → Turned
-turnSeen s early late u = turnOf u (seen s (cond (readsLate (functionOf u)) late early) (u .min)) (seen s early (u .mrm))
+-- What the delay unit that a modifier names gives it in a pass of T processing ticks: the word that is due, and 0 from a unit that acts as inactive.
+unfoldable pub given : ℕ → Machine → Modifier → ℕ
+given t words u =
+    let d = delayOf words (unitOf u) in
+    cond (runs t (unitOf u) d) (due d) 0
+
+-- The word that a modifier's turn takes beside A: B, which sees the early view; in 00111, where B isn't read, the word that its delay unit gives.
+unfoldable pub beside : ℕ → Machine → Sums → List ℕ → Modifier → ℕ
+beside t words s early u = cond (invoking u) (given t words u) (seen s early (u .mrm))
+
+-- A modifier's turn: A sees the late view or the early one by the function.
+unfoldable pub turnSeen : ℕ → Machine → Sums → List ℕ → List ℕ → Modifier → Turned
+turnSeen t words s early late u = turnOf u (seen s (cond (readsLate (functionOf u)) late early) (u .min)) (beside t words s early u)
 
 -- Modifier m of a machine's words.
 unfoldable pub modifierOf : Machine → ℕ → Modifier
 modifierOf words m = loaded (drop (modifierAt m) words)
 
--- The stage under way: the machine's words, and the writes so far.
-pub record Stage : Type 0 where
+-- A machine's words and delay memory.
+pub record Held : Type 0 where
   pub words : Machine
+  pub memory : Memory
+
+-- The turn of the delay unit that a modifier names, with a word from it: none unless the modifier invokes it and it doesn't act as inactive.
+unfoldable pub delayed : ℕ → Held → Modifier → ℕ → Held
+delayed t h u w =
+    let d = delayOf (h .words) (unitOf u) in
+    let a = delayTurn d (h .memory) w in
+    cond (invoking u && runs t (unitOf u) d) (record { words = storedDelay (h .words) (delayAt (unitOf u)) (a .unit); memory = a .memory }) h
+
+-- The stage under way: the machine's words and delay memory, and the writes so far.
+pub record Stage : Type 0 where
+  pub held : Held
   pub writes : List Write
 
--- Modifier m is taken.
-unfoldable pub modify : Sums → Stage → ℕ → Stage
-modify s v m =
+-- Modifier m is taken, in a pass of T processing ticks: its own turn, then that of its delay unit with the word that goes to it, L1 afterwards.
+unfoldable pub modify : ℕ → Sums → Stage → ℕ → Stage
+modify t s v m =
     let q = getD s modifierThis [] in
-    let u = modifierOf (v .words) m in
-    let t = turnSeen s (earlyView q m (v .writes)) (lateView q m (v .writes)) u in
+    let words = v .held .words in
+    let u = modifierOf words m in
+    let turn = turnSeen t words s (earlyView q m (v .writes)) (lateView q m (v .writes)) u in
     record {
-      words = stored (v .words) (modifierAt m) (t .unit);
-      writes = v .writes ++ (record { msum = u .msum; s = t .s } ∷ []);
+      held = delayed t (record { words = stored words (modifierAt m) (turn .unit); memory = v .held .memory }) u (turn .unit .l1);
+      writes = v .writes ++ (record { msum = u .msum; s = turn .s } ∷ []);
     }
 
--- Modifiers 0 to n-1 are taken, on a machine's words and sum memory.
-unfoldable pub modified : Machine → Sums → ℕ → Stage
-modified words s zero = record { words = words; writes = [] }
-modified words s (suc n) = modify s (modified words s n) n
+-- Modifiers 0 to n-1 are taken, on a machine's words, delay memory and sum memory.
+unfoldable pub modified : ℕ → Held → Sums → ℕ → Stage
+modified t h s zero = record { held = h; writes = [] }
+modified t h s (suc n) = modify t s (modified t h s n) n
 
--- What the stage leaves: the machine's words, and modifier-this.
+-- What the stage leaves: the machine's words and delay memory, and modifier-this.
 pub record Modified : Type 0 where
-  pub words : Machine
+  pub held : Held
   pub this : List ℕ
 
-unfoldable pub modifiedBy : Machine → Sums → ℕ → Modified
-modifiedBy words s n =
-    let v = modified words s n in
-    record { words = v .words; this = withWrites (getD s modifierThis []) (v .writes) }
+unfoldable pub modifiedBy : ℕ → Held → Sums → ℕ → Modified
+modifiedBy t h s n =
+    let v = modified t h s n in
+    record { held = v .held; this = withWrites (getD s modifierThis []) (v .writes) }

@@ -1,60 +1,65 @@
--- A pass by an order of the generators (document 01, "A pass, and two orders of it" and "Questions at the door").
+-- A pass by an order of the generators (document 01, "A pass, and two orders of it" and "Questions at the door"; document 02, Q-1).
 -- Assumes nothing.
 use Prim.Native.Nat.{ℕ, _+_, _/_, _%_, _^_}
 use mathlib.Core.Bool.{cond}
 use mathlib.Core.List.{[], _∷_}
 use lib.Dec.{eqb}
 use lib.ListN.{getD, set}
-use Rattle.layout.specs.Layout.{counterAt}
+use Rattle.lists.specs.Lists.{zeros}
+use Rattle.layout.specs.Layout.{counterAt, memoryWords}
 use Rattle.layout.specs.Widths.{counterBits}
-use Rattle.layout.specs.Machine.{Machine, Order, Items, Places, Sums, ticksOf}
+use Rattle.layout.specs.Machine.{Machine, Order, Items, Places, Memory, Sums, ticksOf}
 use Rattle.questions.specs.Questions.{asked}
 use Rattle.machine.specs.Questions.{question1, question2}
 use Rattle.order.specs.Order.{question5, question6, question7, question8}
+use Rattle.delay_questions.specs.Questions.{question10, question11, question12}
 use Rattle.sums.specs.Sums.{modifierThis, sumsOf, closed}
 use Rattle.pass_model.specs.Generators.{Generators, of1978, begun, Taken, takenBy}
-use Rattle.pass_model.specs.Modifiers.{modifiedBy}
+use Rattle.pass_model.specs.Modifiers.{Held, modifiedBy}
 
--- What a pass is called with, beside the machine: an order, items to read, and places for written items.
+-- What a pass is called with, beside the machine: an order, items to read, places for written items, and delay memory.
 pub record Call : Type 0 where
   pub order : Order
   pub items : Items
   pub places : Places
+  pub memory : Memory
 
 -- The same call by another order.
 abbrev pub by : Order → Call → Call
-by order call = record { order = order; items = call .items; places = call .places }
+by order call = record { order = order; items = call .items; places = call .places; memory = call .memory }
 
--- A call with these and nothing else.
+-- A call with these and a delay memory of zeros.
 abbrev pub plainCall : Order → Items → Places → Call
-plainCall order items places = record { order = order; items = items; places = places }
+plainCall order items places = record { order = order; items = items; places = places; memory = zeros memoryWords }
 
--- What a pass answers and leaves: the number of the refusing question or 0, the items read and written, the machine and the written places.
+-- What a pass answers and leaves: the number of the refusing question or 0, the items read and written, the machine, the written places and delay memory.
 pub record Outcome : Type 0 where
   pub number : ℕ
   pub read : ℕ
   pub written : ℕ
   pub machine : Machine
   pub places : Places
+  pub memory : Memory
 
 -- 1 is added to the counter.
 unfoldable pub counted : Machine → Machine
 counted words = set words counterAt ((getD words counterAt 0 + 1) % 2 ^ counterBits)
 
--- After the generators: modifiers 0..(n-1) by number, both this-pass quadrants copied to last and cleared, the counter.
-unfoldable pub completed : Machine → Sums → ℕ → Machine
-completed words s n =
-    let v = modifiedBy words s n in
-    counted (closed (v .words) (set s modifierThis (v .this)))
+-- After the generators, in a pass of T processing ticks: modifiers 0..(T div 2)-1 by number, both this-pass quadrants copied to last and cleared, the counter.
+unfoldable pub completed : ℕ → Held → Sums → Held
+completed t h s =
+    let v = modifiedBy t h s (t / 2) in
+    record { words = counted (closed (v .held .words) (set s modifierThis (v .this))); memory = v .held .memory }
 
 -- What the generators of a pass leave, taken in the call's order.
 unfoldable pub generatorsTaken : Machine → Call → Taken
 generatorsTaken m call = takenBy of1978 (call .items) (begun m (sumsOf m) (call .places)) (call .order)
 
--- What follows: modifiers below T div 2, by T as the pass began, and the end of the pass.
+-- What follows: the modifiers, by T as the pass began, on the delay memory that the call brought, and the end of the pass.
 unfoldable pub finished : Machine → Call → Taken → Outcome
 finished m call t =
-    record { number = 0; read = t .reads; written = t .writes; machine = completed (t .words) (t .sums) (ticksOf m / 2); places = t .places }
+    let h = completed (ticksOf m) (record { words = t .words; memory = call .memory }) (t .sums) in
+    record { number = 0; read = t .reads; written = t .writes; machine = h .words; places = t .places; memory = h .memory }
 
 -- A pass that all questions let through.
 unfoldable pub ran : Machine → Call → Outcome
@@ -62,7 +67,7 @@ ran m call = finished m call (generatorsTaken m call)
 
 -- A refused pass answers the number and leaves all as it was.
 unfoldable pub refused : ℕ → Machine → Call → Outcome
-refused n m call = record { number = n; read = 0; written = 0; machine = m; places = call .places }
+refused n m call = record { number = n; read = 0; written = 0; machine = m; places = call .places; memory = call .memory }
 
 -- The questions of a pass, in sequence.
 unfoldable pub passRefusal : Machine → Call → ℕ
@@ -74,6 +79,9 @@ passRefusal m call =
     ∷ question6 (ticksOf m) (call .order)
     ∷ question7 m (call .items)
     ∷ question8 m (call .places)
+    ∷ question10 (call .memory)
+    ∷ question11 m
+    ∷ question12 m
     ∷ [])
 
 -- The pass.

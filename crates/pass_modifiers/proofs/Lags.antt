@@ -8,7 +8,7 @@ use native.Mathlib.Nat.{le-of-suc-le-suc, not-suc-le-zero}
 use native.Mathlib.Numerals.{add-one}
 use lib.ListN.{length, getD, set, take, length-append}
 use lib.Seq.{take-all, take-append-le, set-getD, set-set}
-use Rattle.pass_model.specs.Modifiers.{Write, withWrite, withWrites, earlyView, lateView, turnSeen, Stage, modifierOf, modify, modified, modifiedBy}
+use Rattle.pass_model.specs.Modifiers.{Write, withWrite, withWrites, earlyView, lateView, turnSeen, Stage, modifierOf, Held, modify, modified, modifiedBy}
 use Rattle.pass_model.proofs.Views.{writes-snoc, this-at, turn-set}
 use Rattle.pass_modifiers.specs.Loops.{wordLeft, Lagging, caughtUp, lagStep, lagged}
 use Rattle.pass_modifiers.proofs.Ring.{Ring, oldest, ring-on, ring-start}
@@ -80,56 +80,57 @@ module _ (q : List ℕ) (ws : List Write) where
 
 -- The code's state is that of the definition.
 record Bridge (s : List (List ℕ)) (v : Lagging) (w : Stage) (n : ℕ) : Type 0 where
-  same-words : v .words ≡ w .words
+  same-held : v .held ≡ w .held
   same-sums : v .sums ≡ set s 2 (withWrites (getD s 2 []) (w .writes))
   same-early : v .early ≡ withWrites (getD s 2 []) (take (n - 4) (w .writes))
   count : length (w .writes) ≡ n
   same-msums : Ring (v .msums) (ringMsums (w .writes)) n
   same-lefts : Ring (v .lefts) (ringLefts (getD s 2 []) (w .writes)) n
 
-bridge-on : (s : List (List ℕ)) (v : Lagging) (w : Stage) (n : ℕ) → Bridge s v w n → Bridge s (lagStep v n) (modify s w n) (suc n)
+bridge-on : (t : ℕ) (s : List (List ℕ)) (v : Lagging) (w : Stage) (n : ℕ) → Bridge s v w n → Bridge s (lagStep t v n) (modify t s w n) (suc n)
 unfolding lagStep modify
-bridge-on s v w n b =
+bridge-on t s v w n b =
     let q = getD s 2 [] in
     let l = withWrites q (w .writes) in
     let e = earlyView q n (w .writes) in
     let this : getD (v .sums) 2 [] ≡ l = rw (b .same-sums) (this-at s (w .writes)) in
     let early : caughtUp (v .early) (v .msums) (v .lefts) (n % 4) ≡ e
     = rw (b .same-early) (caught q (w .writes) n (v .msums) (v .lefts) (b .count) (b .same-msums) (b .same-lefts)) in
-    let u = modifierOf (w .words) n in
-    let t = turnSeen s e (lateView q n (w .writes)) u in
-    let x : Write = record { msum = u .msum; s = t .s } in
-    let turn : turnSeen (v .sums) (caughtUp (v .early) (v .msums) (v .lefts) (n % 4)) (getD (v .sums) 2 []) (modifierOf (v .words) n) ≡ t
-    = rw (early, this, b .same-sums, b .same-words, late-all q (w .writes) n (b .count)) (turn-set s l e l u) in
+    let words = w .held .words in
+    let u = modifierOf words n in
+    let done = turnSeen t words s e (lateView q n (w .writes)) u in
+    let x : Write = record { msum = u .msum; s = done .s } in
+    let turn : turnSeen t (v .held .words) (v .sums) (caughtUp (v .early) (v .msums) (v .lefts) (n % 4)) (getD (v .sums) 2 []) (modifierOf (v .held .words) n) ≡ done
+    = rw (early, this, b .same-sums, b .same-held, late-all q (w .writes) n (b .count)) (turn-set t words s l e l u) in
     record {
-      same-words = rw (turn, b .same-words);
-      same-sums = rw (turn, this, b .same-sums, b .same-words, set-set s 2 l (withWrite l x), writes-snoc q (w .writes) x);
+      same-held = rw (turn, b .same-held);
+      same-sums = rw (turn, this, b .same-sums, b .same-held, set-set s 2 l (withWrite l x), writes-snoc q (w .writes) x);
       same-early = rw early (early-before q (w .writes) n x (b .count));
       count = omega (arith, length-append (w .writes) (x ∷ []), b .count);
-      same-msums = rw (b .same-words, msums-snoc (w .writes) x) (ring-on (v .msums) (ringMsums (w .writes)) n (x .msum) (b .same-msums));
-      same-lefts = rw (turn, this, b .same-words, lefts-snoc q (w .writes) x) (ring-on (v .lefts) (ringLefts q (w .writes)) n (wordLeft l x) (b .same-lefts));
+      same-msums = rw (b .same-held, msums-snoc (w .writes) x) (ring-on (v .msums) (ringMsums (w .writes)) n (x .msum) (b .same-msums));
+      same-lefts = rw (turn, this, b .same-held, lefts-snoc q (w .writes) x) (ring-on (v .lefts) (ringLefts q (w .writes)) n (wordLeft l x) (b .same-lefts));
     }
 
-bridge : (words : List ℕ) (s : List (List ℕ)) (n : ℕ) → Bridge s (lagged words s n) (modified words s n) n
+bridge : (t : ℕ) (h : Held) (s : List (List ℕ)) (n : ℕ) → Bridge s (lagged t h s n) (modified t h s n) n
 unfolding lagged modified withWrites
-bridge words s zero = record {
-  same-words = refl;
+bridge t h s zero = record {
+  same-held = refl;
   same-sums = sym (set-getD s 2 []);
   same-early = refl;
   count = refl;
   same-msums = ring-start 0 0 0 0;
   same-lefts = ring-start _ _ _ _;
 }
-bridge words s (suc n) = bridge-on s (lagged words s n) (modified words s n) n (bridge words s n)
+bridge t h s (suc n) = bridge-on t s (lagged t h s n) (modified t h s n) n (bridge t h s n)
 
 -- One modifier more, and all of them.
-pub lagged-on : (words : List ℕ) (s : List (List ℕ)) (k : ℕ) {v w : Lagging} → w ≡ lagStep v k → v ≡ lagged words s k → w ≡ lagged words s (k + 1)
+pub lagged-on : (t : ℕ) (h : Held) (s : List (List ℕ)) (k : ℕ) {v w : Lagging} → w ≡ lagStep t v k → v ≡ lagged t h s k → w ≡ lagged t h s (k + 1)
 unfolding lagged
-lagged-on words s k e h = rw (add-one, ← h) e
+lagged-on t h s k e p = rw (add-one, ← p) e
 
-pub stage-end : (words : List ℕ) (s : List (List ℕ)) (n k : ℕ) {v : Lagging} → k ≡ n → v ≡ lagged words s k
-    → (v .words ≡ modifiedBy words s n .words) × (v .sums ≡ set s 2 (modifiedBy words s n .this))
+pub stage-end : (t : ℕ) (h : Held) (s : List (List ℕ)) (n k : ℕ) {v : Lagging} → k ≡ n → v ≡ lagged t h s k
+    → (v .held ≡ modifiedBy t h s n .held) × (v .sums ≡ set s 2 (modifiedBy t h s n .this))
 unfolding modifiedBy
-stage-end words s n k h e =
-    let b = bridge words s k in
-    (rw (e, b .same-words, h), rw (e, b .same-sums, h))
+stage-end t h s n k p e =
+    let b = bridge t h s k in
+    (rw (e, b .same-held, p), rw (e, b .same-sums, p))

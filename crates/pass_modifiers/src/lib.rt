@@ -4,12 +4,14 @@ ghost use mathlib.Core.List.{[]};
 ghost use Prim.Native.Nat.{_≤_, _<_, _^_};
 ghost use lib.ListN.{getD, set};
 ghost use Rattle.words.specs.Words.{Word};
-ghost use Rattle.layout.specs.Layout.{modifierAt};
+ghost use Rattle.layout.specs.Layout.{modifierAt, delayAt};
 ghost use Rattle.layout.specs.Machine.{Reaches};
 ghost use Rattle.modifier.specs.Modifier.{Ranged, stored};
 ghost use Rattle.sums.specs.Sums.{modifierThis};
-ghost use Rattle.pass_model.specs.Modifiers.{withWrite, seen, turnSeen, modifierOf, modifiedBy};
+ghost use Rattle.delay.specs.Delay.{stored as storedDelay};
+ghost use Rattle.pass_model.specs.Modifiers.{withWrite, seen, given, beside, turnSeen, modifierOf, delayed, modifiedBy};
 ghost use Rattle.pass_modifiers.specs.Loops.{wordLeft, caughtUp, lagStep};
+use delay::Delay;
 use modifier::Modifier;
 use modifier::Turned;
 use sums::Quadrant;
@@ -60,17 +62,70 @@ fn put_modifier_at(m: &mut [u32], k: usize, unit: Modifier)
     unit.store(&mut m[at..]);
 }
 
-// The turn of a modifier that reads B early, and A late or early by its function. The late view is modifier-this itself.
-fn turned(s: &Sums, early: &Quadrant, u: Modifier) -> Turned
+// The word that the delay unit that a modifier names gives it: the one that is due, and 0 from a unit that acts as inactive.
+fn given(m: &[u32], t: usize, u: Modifier) -> u32
+    requires { ⌜ Reaches (now m) ⌝ }
+    ensures { λ r. ⌜ Word (given t (now (m .entry)) u) r ⌝ }
+{
+    let n = modifier_delay::unit_of(u);
+    let d = delay_questions::delay_at(m, n);
+    if !d.runs(t, n) {
+        return 0;
+    }
+    d.first
+}
+
+// The word beside A: B, which sees the early view; in 00111 the word that the delay unit gives.
+fn beside(m: &[u32], s: &Sums, early: &Quadrant, t: usize, u: Modifier) -> u32
+    requires { ⌜ Reaches (now m) ⌝ }
+    ensures { λ r. ⌜ Word (beside t (now (m .entry)) (now (s .entry)) (now (early .entry)) u) r ⌝ }
+{
+    if modifier_delay::invoking(u) {
+        return given(m, t, u);
+    }
+    look(s, early, u.mrm)
+}
+
+// The turn of a modifier that reads A late or early by its function. The late view is modifier-this itself.
+fn turned(m: &[u32], s: &Sums, early: &Quadrant, t: usize, u: Modifier) -> Turned
+    requires { ⌜ Reaches (now m) ⌝ }
     requires { ⌜ Ranged u ⌝ }
-    ensures { λ r. ⌜ r ≡ turnSeen (now (s .entry)) (now (early .entry)) (getD (now (s .entry)) modifierThis []) u ⌝ }
+    ensures { λ r. ⌜ r ≡ turnSeen t (now (m .entry)) (now (s .entry)) (now (early .entry)) (getD (now (s .entry)) modifierThis []) u ⌝ }
 {
     let late = &s[sums::MODIFIER_THIS];
-    let b = look(s, early, u.mrm);
+    let b = beside(m, s, early, t, u);
     if modifier_turn::reads_late(u.function()) {
         return modifier_turn::turn(u, look(s, late, u.min), b);
     }
     modifier_turn::turn(u, look(s, early, u.min), b)
+}
+
+// The registers of delay unit n that a turn can change are written back.
+fn put_delay_at(m: &mut [u32], n: usize, unit: Delay)
+    requires { ⌜ Reaches (now m) ⌝ }
+    requires { ⌜ n < 32 ⌝ }
+    ensures { λ r. ⌜ now (m .exit) ≡ storedDelay (now (m .entry)) (delayAt n) unit ⌝ }
+{
+    let at = layout::DELAYS_AT + layout::DELAY_WORDS * n;
+    unit.store(&mut m[at..]);
+}
+
+// The turn of the delay unit that a modifier names, with a word from it: none unless the modifier invokes it and it doesn't act as inactive.
+fn delay_turn(m: &mut [u32], memory: &mut [u32], t: usize, u: Modifier, w: u32)
+    requires { ⌜ Reaches (now m) ⌝ }
+    requires { ⌜ w < 2 ^ 20 ⌝ }
+    ensures { λ r. ⌜ record { words = now (m .exit); memory = now (memory .exit) } ≡ delayed t (record { words = now (m .entry); memory = now (memory .entry) }) u w ⌝ }
+{
+    if !modifier_delay::invoking(u) {
+        return;
+    }
+    let n = modifier_delay::unit_of(u);
+    let d = delay_questions::delay_at(m, n);
+    if !d.runs(t, n) {
+        return;
+    }
+    let after = d.turn(memory, w);
+    put_delay_at(m, n, after);
 }
 
 // S is added into the word of modifier-this at MSUM, or replaces it; the answer is the word that this leaves.
@@ -97,35 +152,38 @@ fn catch_up(early: &mut Quadrant, msums: &Ring, lefts: &Ring, j: usize)
     early[i] = lefts[j];
 }
 
-// Modifier k is taken. Before its turn the early view catches up with the write of k-4, whose slot its own write then has.
+// Modifier k is taken, then its delay unit, which gets L1. Before its turn the early view catches up with the write of k-4, whose slot its own write then has.
 fn step(
     m: &mut [u32],
     s: &mut Sums,
+    memory: &mut [u32],
     early: &mut Quadrant,
     msums: &mut Ring,
     lefts: &mut Ring,
+    t: usize,
     k: usize,
 )
     requires { ⌜ Reaches (now m) ⌝ }
     requires { ⌜ k < 128 ⌝ }
-    ensures { λ r. ⌜ record { words = now (m .exit); sums = now (s .exit); early = now (early .exit); msums = now (msums .exit); lefts = now (lefts .exit) } ≡ lagStep (record { words = now (m .entry); sums = now (s .entry); early = now (early .entry); msums = now (msums .entry); lefts = now (lefts .entry) }) k ⌝ }
+    ensures { λ r. ⌜ record { held = record { words = now (m .exit); memory = now (memory .exit) }; sums = now (s .exit); early = now (early .exit); msums = now (msums .exit); lefts = now (lefts .exit) } ≡ lagStep t (record { held = record { words = now (m .entry); memory = now (memory .entry) }; sums = now (s .entry); early = now (early .entry); msums = now (msums .entry); lefts = now (lefts .entry) }) k ⌝ }
 {
     let j = k % 4;
     catch_up(early, msums, lefts, j);
     let u = modifier_at(m, k);
-    let t = turned(s, early, u);
-    let unit = t.unit;
+    let turn = turned(m, s, early, t, u);
+    let unit = turn.unit;
     put_modifier_at(m, k, unit);
-    let left = put(s, u.msum, t.s);
+    delay_turn(m, memory, t, u, unit.l1);
+    let left = put(s, u.msum, turn.s);
     msums[j] = u.msum;
     lefts[j] = left;
 }
 
-// Modifiers 0 to n-1 are taken, on the machine's words and on modifier-this in sum memory.
-pub fn modifiers(m: &mut [u32], s: &mut Sums, n: usize)
+// Modifiers 0 to n-1 are taken in a pass of t processing ticks, on the machine's words, on modifier-this in sum memory and on delay memory.
+pub fn modifiers(m: &mut [u32], s: &mut Sums, memory: &mut [u32], t: usize, n: usize)
     requires { ⌜ Reaches (now m) ⌝ }
     requires { ⌜ n ≤ 128 ⌝ }
-    ensures { λ r. ⌜ (now (m .exit) ≡ modifiedBy (now (m .entry)) (now (s .entry)) n .words) × (now (s .exit) ≡ set (now (s .entry)) modifierThis (modifiedBy (now (m .entry)) (now (s .entry)) n .this)) ⌝ }
+    ensures { λ r. ⌜ (record { words = now (m .exit); memory = now (memory .exit) } ≡ modifiedBy t (record { words = now (m .entry); memory = now (memory .entry) }) (now (s .entry)) n .held) × (now (s .exit) ≡ set (now (s .entry)) modifierThis (modifiedBy t (record { words = now (m .entry); memory = now (memory .entry) }) (now (s .entry)) n .this)) ⌝ }
 {
     let mut early = s[sums::MODIFIER_THIS];
     let first = early[0];
@@ -133,7 +191,7 @@ pub fn modifiers(m: &mut [u32], s: &mut Sums, n: usize)
     let mut lefts = [first, first, first, first];
     let mut k: usize = 0;
     while k < n {
-        step(m, s, &mut early, &mut msums, &mut lefts, k);
+        step(m, s, memory, &mut early, &mut msums, &mut lefts, t, k);
         k += 1;
     }
 }

@@ -33,25 +33,25 @@ fn refuse(n: u32) -> bool {
 }
 
 // Rings as many passes as the buffer has room for, and prints them; says whether they were written.
-fn ring_part(at: Progress, m: &mut [u32], commands: &[u32]) -> Part
-    ensures { λ r. ⌜ ringingAt (r .next) (now (m .exit)) (now (commands .entry)) ≡ gathered 8192 (ringingAt at (now (m .entry)) (now (commands .entry))) .next ⌝ }
+fn ring_part(at: Progress, m: &mut [u32], commands: &[u32], memory: &mut [u32]) -> Part
+    ensures { λ r. ⌜ ringingAt (r .next) (now (m .exit)) (now (memory .exit)) (now (commands .entry)) ≡ gathered 8192 (ringingAt at (now (m .entry)) (now (memory .entry)) (now (commands .entry))) .next ⌝ }
 {
     let mut out = [0u8; OUTPUT_BYTES];
-    let next = bench_gathering::gather(at, m, commands, &mut out);
+    let next = bench_gathering::gather(at, m, commands, memory, &mut out);
     let length = next.length;
     let written = io::write_all(STDOUT_FILENO, &out[0..length]);
     Part { next, written }
 }
 
 // Rings until no pass is left or a write fails; says whether all was written.
-fn ring_all(m: &mut [u32], commands: &[u32], passes: u32) -> bool {
+fn ring_all(m: &mut [u32], commands: &[u32], memory: &mut [u32], passes: u32) -> bool {
     let mut at = Progress {
         passes,
         taken: 0,
         length: 0,
     };
     while at.passes != 0 {
-        let part = ring_part(at, m, commands);
+        let part = ring_part(at, m, commands, memory);
         if !part.written {
             return false;
         }
@@ -61,16 +61,17 @@ fn ring_all(m: &mut [u32], commands: &[u32], passes: u32) -> bool {
     true
 }
 
-// Rings a text; says whether all was written.
+// Rings a text, over a delay memory of zeros; says whether all was written.
 fn ring(text: &[u8]) -> bool {
     let mut m = [0u32; layout::MACHINE_LENGTH];
     let mut room = [0u32; bench_file::COMMAND_PLACES];
+    let mut memory = [0u32; layout::MEMORY_WORDS];
     let file = bench_file::read(text, &mut m, &mut room);
     if file.number != 0 {
         return refuse(file.number);
     }
     let count = file.count;
-    ring_all(&mut m, &room[0..count], file.passes)
+    ring_all(&mut m, &room[0..count], &mut memory, file.passes)
 }
 
 // Reads from standard input once.

@@ -9,9 +9,11 @@ use borrow.Author.Tests.{eqb-true, leb-true, ne-eqb}
 use lib.Dec.{eqb, leb}
 use Rattle.lists.proofs.Below.{and-first, and-second}
 use Rattle.questions.proofs.Asked.{both-yes}
+use Rattle.delay.specs.Delay.{builtMode}
 use Rattle.machine.specs.Questions.{goodGmode, goodMmode, goodAddress}
 use Rattle.command_fields.specs.Fields.{field, flag, code4, code5}
 use Rattle.command_timer.specs.Timer.{ticksData}
+use Rattle.command_delay.specs.DelayLoads.{uuOf, delayModeData, builtDLY}
 use Rattle.command_built.specs.Built.{built, ticksFit, builtMRM, question3, question4, commandRefusal}
 
 -- A command that is not refused: both questions are answered yes.
@@ -62,6 +64,11 @@ pub min-accepted : (c : ℕ) → Accepted c → eqb (code5 c) 0b11111 ≡ true �
 min-accepted c p t =
     or-else (flag 5 c) (goodAddress (field 16 23 c))
     (and-second (flag 4 c || goodAddress (field 8 15 c)) (flag 5 c || goodAddress (field 16 23 c)) (both-addresses c p t))
+
+-- DLY with UU 10 has a built mode.
+pub dly-accepted : (c : ℕ) → Accepted c → eqb (code5 c) 0b00001 ≡ true → eqb (uuOf c) 0b10 ≡ true → builtMode (delayModeData c) ≡ true
+unfolding built builtDLY
+dly-accepted c p t q = rw (eqb-true (code5 c) 0b00001 t, eqb-true (uuOf c) 0b10 q) at (p .is-built)
 
 -- TICKS with Q 0 has a number of at most 255.
 pub ticks-accepted : (c : ℕ) → Accepted c → eqb (code5 c) 0b00011 ≡ true → flag 32 c ≡ false → ticksData c ≤ 255

@@ -18,6 +18,7 @@ use Rattle.command_generator.specs.GeneratorLoads.{loadedGQ, loadedGJ, loadedGP
 use Rattle.command_modifier.specs.ModifierLoads.{loadedMM, loadedML, loadedMMODE, loadedMRM, afterModifierLoad}
 use Rattle.command_misc.specs.Misc.{releasedOne, releasedBelow, released, miscellany}
 use Rattle.command_timer.specs.Timer.{counterSet, behind, waitsFor, lingered, ttOf, timed, ticksSet}
+use Rattle.command_delay.specs.DelayLoads.{uuOf, loadedDLY}
 use Rattle.command_built.specs.Built.{commandRefusal}
 use Rattle.command.specs.Command.{done, waits, afterCommand}
 use Rattle.update.specs.Update.{Outcome, mostCommands, stillLingering, takenBy, updateOf}
@@ -56,6 +57,14 @@ module _ (n : ℕ) where
   then-cleared-long m e c i v j w k = cleared-long (flag 6 c) _ (two-long m e c i v j w) k
 
   -- The loads, in the sequence of their codes.
+  delay-long : (m : List ℕ) → Long n m → (c : ℕ) → Long n (loadedDLY m c)
+  unfolding loadedDLY
+  delay-long m e c =
+      of-cond (Long n) (eqb (uuOf c) 0b00) (set-long _ (set-long m e _ _) _ _)
+      (of-cond (Long n) (eqb (uuOf c) 0b01) (set-long m e _ _)
+      (of-cond (Long n) (eqb (uuOf c) 0b10) (set-long _ (set-long m e _ _) _ _)
+      e))
+
   generator-long : (m : List ℕ) → Long n m → (c : ℕ) → Long n (afterGeneratorLoad m c)
   unfolding afterGeneratorLoad loadedGQ loadedGJ loadedGP loadedGN loadedGL loadedGK loadedGMODE loadedGO
   generator-long m e c =
@@ -114,9 +123,10 @@ module _ (n : ℕ) where
   unfolding done
   done-long m e c =
       of-cond (Long n) (eqb (code5 c) 0b00000) (miscellany-long m e c)
+      (of-cond (Long n) (eqb (code5 c) 0b00001) (delay-long m e c)
       (of-cond (Long n) (eqb (code5 c) 0b00010) (timed-long m e c)
       (of-cond (Long n) (eqb (code5 c) 0b00011) (ticks-long m e c)
-      (of-cond (Long n) (ltb (code5 c) 0b11000) (generator-long m e c) (modifier-long m e c))))
+      (of-cond (Long n) (ltb (code5 c) 0b11000) (generator-long m e c) (modifier-long m e c)))))
 
 pub command-length : (m : List ℕ) (c : ℕ) → length (afterCommand m c) ≡ length m
 unfolding afterCommand

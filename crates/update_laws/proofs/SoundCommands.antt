@@ -24,7 +24,7 @@ use Rattle.command_timer.specs.Timer.{counterSet, behind, waitsFor, lingered, t
 use Rattle.command_built.specs.Built.{commandRefusal}
 use Rattle.command.specs.Command.{done, afterCommand}
 use Rattle.update_laws.proofs.Accepted.{Accepted, accepted, ticks-accepted}
-use Rattle.update_laws.proofs.SoundLoads.{Sound, generator-keeps, control-keeps, generator-load-sound, modifier-load-sound}
+use Rattle.update_laws.proofs.SoundLoads.{Sound, generator-keeps, control-keeps, delay-load-sound, generator-load-sound, modifier-load-sound}
 
 -- A generator that goes to 1111 has a good GMODE: its oscillator mode is kept.
 good-released : (m : List ℕ) → Sound m → (g : ℕ) → g < 256 → goodGmode (withRunMode runningA (gmodeAt m g)) ≡ true
@@ -90,9 +90,10 @@ unfolding done
 done-sound m e c z =
     let p = accepted c z in
     of-cond Sound (eqb (code5 c) 0b00000) (miscellany-sound m e c)
-    (of-cond Sound (eqb (code5 c) 0b00010) (timed-sound m e c)
+    (of-test Sound (eqb (code5 c) 0b00001) (λ t. delay-load-sound c m e p t)
+    (λ q. of-cond Sound (eqb (code5 c) 0b00010) (timed-sound m e c)
     (of-test Sound (eqb (code5 c) 0b00011) (λ t. ticks-sound m e c p t)
-    (λ q. of-cond Sound (ltb (code5 c) 0b11000) (generator-load-sound m e c p) (modifier-load-sound m e c p))))
+    (λ q. of-cond Sound (ltb (code5 c) 0b11000) (generator-load-sound m e c p) (modifier-load-sound m e c p)))))
 
 pub command-sound : (m : List ℕ) (c : ℕ) → sound m ≡ true → sound (afterCommand m c) ≡ true
 unfolding afterCommand

@@ -12,9 +12,10 @@ use Rattle.words.specs.Words.{extended, signed}
 use Rattle.words.proofs.Residues.{low-lt}
 use Rattle.lists.proofs.Below.{and-second, and-both}
 use Rattle.lists.proofs.Choices.{of-cond, of-test}
-use Rattle.layout.specs.Layout.{machineLength, generatorAt, modifierAt, dxAt, GO, GJ, GK, GN, GM, GP, GQ, GL, GSUM, GFM, GMODE, M0, M1, L0, L1, MIN, MRM, MSUM, MMODE}
-use Rattle.layout.specs.Widths.{gjBits, gnBits, gmBits, gqBits, glBits, gsumBits, gfmBits, coefficientBits, msumBits, mmodeBits, wordBits}
+use Rattle.layout.specs.Layout.{machineLength, generatorAt, modifierAt, dxAt, delayAt, delayX, delayY, delayZ, delayP, GO, GJ, GK, GN, GM, GP, GQ, GL, GSUM, GFM, GMODE, M0, M1, L0, L1, MIN, MRM, MSUM, MMODE}
+use Rattle.layout.specs.Widths.{gjBits, gnBits, gmBits, gqBits, glBits, gsumBits, gfmBits, coefficientBits, msumBits, mmodeBits, wordBits, delayBits, delayModeBits}
 use Rattle.modifier_turn.specs.Turn.{builtFunction}
+use Rattle.delay.specs.Delay.{builtMode}
 use Rattle.machine.specs.Questions.{bits, goodMmode, regions, testAt, sound}
 use Rattle.machine.proofs.Regions.{region, start, unit-test}
 use Rattle.machine.proofs.SoundMachine.{sound-set, sound-modifier, sound-controls}
@@ -22,7 +23,8 @@ use Rattle.command_fields.specs.Fields.{field, flag, dataOf, code3, code4, code
 use Rattle.command_load.specs.Loads.{loadedUnless, clearedIf, loadedData, loadedRight, loadedLeft, loadedAdjusted, loadedTwo, loadedThenCleared}
 use Rattle.command_generator.specs.GeneratorLoads.{generatorWord, loadedGQ, loadedGJ, loadedGP, loadedGN, loadedGL, loadedGK, loadedGMODE, loadedGO, afterGeneratorLoad}
 use Rattle.command_modifier.specs.ModifierLoads.{modifierWord, loadedMM, loadedML, mmodeBy, loadedMMODE, loadedMRM, afterModifierLoad}
-use Rattle.update_laws.proofs.Accepted.{Accepted, gmode-accepted, mmode-accepted, mrm-accepted, min-accepted}
+use Rattle.command_delay.specs.DelayLoads.{uuOf, delayData, delayModeData, delayNumber, delayWord, loadedDLY}
+use Rattle.update_laws.proofs.Accepted.{Accepted, gmode-accepted, mmode-accepted, mrm-accepted, min-accepted, dly-accepted}
 
 -- A sound machine.
 abbrev pub Sound : List ℕ → Type 0
@@ -41,7 +43,7 @@ unit-keeps : (k u j i v : ℕ) → u < region regions k .units → j < length (r
     → i ≡ start regions k + (length (region regions k .tests) * u + j) → i < machineLength → Passes k j v → Keeps i v
 unit-keeps k u j i v h l q n p m e = sound-set m e i v n (ap (λ (at : ℕ). testAt regions at v) q ∙ unit-test regions k u j v h l ∙ p)
 
--- A word of a generator, of a modifier, and of the words from DX on.
+-- A word of a generator, of a modifier, of the words from DX on, and of a delay unit.
 pub generator-keeps : (g j v : ℕ) → g < 256 → j < 11 → Passes 0 j v → Keeps (generatorAt g + j) v
 unfolding regions
 generator-keeps g j v h l p = unit-keeps 0 g j (generatorAt g + j) v h l (omega arith) (omega arith) p
@@ -50,17 +52,24 @@ modifier-keeps : (k j v : ℕ) → k < 128 → j < 8 → Passes 1 j v → Keeps 
 unfolding regions
 modifier-keeps k j v h l p = unit-keeps 1 k j (modifierAt k + j) v h l (omega arith) (omega arith) p
 
-pub control-keeps : (i v : ℕ) → dxAt ≤ i → i < machineLength → Passes 4 (i - dxAt) v → Keeps i v
+pub control-keeps : (i v : ℕ) → dxAt ≤ i → i < delayAt 0 → Passes 4 (i - dxAt) v → Keeps i v
 unfolding regions
-control-keeps i v h l p = unit-keeps 4 0 (i - dxAt) i v (lit< tt) (omega arith) (omega arith) l p
+control-keeps i v h l p = unit-keeps 4 0 (i - dxAt) i v (lit< tt) (omega arith) (omega arith) (omega arith) p
+
+delay-keeps : (u j v : ℕ) → u < 32 → j < 7 → Passes 5 j v → Keeps (delayAt u + j) v
+unfolding regions
+delay-keeps u j v h l p = unit-keeps 5 u j (delayAt u + j) v h l (omega arith) (omega arith) p
 
 module _ (c : ℕ) where
-  -- The addressed generator and the addressed modifier.
+  -- The addressed generator, the addressed modifier and the addressed delay unit.
   own-keeps : (j v : ℕ) → j < 11 → Passes 0 j v → Keeps (generatorWord c j) v
   own-keeps j v = generator-keeps (generatorNumber c) j v (omega arith)
 
   its-keeps : (j v : ℕ) → j < 8 → Passes 1 j v → Keeps (modifierWord c j) v
   its-keeps j v = modifier-keeps (modifierNumber c) j v (omega arith)
+
+  addressed-keeps : (j v : ℕ) → j < 7 → Passes 5 j v → Keeps (delayWord c j) v
+  addressed-keeps j v = delay-keeps (delayNumber c) j v (omega arith)
 
   -- The data and a field are within their widths.
   data-passes : bits wordBits (dataOf c) ≡ true
@@ -163,6 +172,22 @@ module _ (c : ℕ) where
         (λ q. its-keeps MRM (field 8 15 c) (lit< tt) (mrm-accepted c p t q))
         (λ q. its-keeps MIN (field 16 23 c) (lit< tt) (min-accepted c p t q))
         (its-keeps L1 0 (lit< tt) refl)
+
+    -- Delay units.
+    pub delay-load-sound : Accepted c → eqb (code5 c) 0b00001 ≡ true → Sound (loadedDLY m c)
+    unfolding loadedDLY regions
+    delay-load-sound p t =
+        let n = delayData c in
+        let mode = delayModeData c in
+        let low = lt-ltb n (2 ^ delayBits) (omega arith) in
+        let x = addressed-keeps delayX n (lit< tt) low m e in
+        let z = addressed-keeps delayZ n (lit< tt) low m e in
+        let mode-low = lt-ltb mode (2 ^ delayModeBits) (omega arith) in
+        of-cond Sound (eqb (uuOf c) 0b00) (addressed-keeps delayY 0 (lit< tt) refl _ x)
+        (of-cond Sound (eqb (uuOf c) 0b01) (addressed-keeps delayY (2 ^ delayBits - 1 - n) (lit< tt) (lt-ltb (2 ^ delayBits - 1 - n) (2 ^ delayBits) (omega arith)) m e)
+        (of-test Sound (eqb (uuOf c) 0b10)
+        (λ q. addressed-keeps delayP mode (lit< tt) (and-both (bits delayModeBits mode) (builtMode mode) mode-low (dly-accepted c p t q)) _ z)
+        (λ q. e)))
 
 -- A function of five bits that is built.
 record Function (f : ℕ) : Type 0 where

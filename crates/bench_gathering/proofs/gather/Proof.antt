@@ -12,7 +12,7 @@ by-number-requires c κs = search needs
 
 slice-aggregate-gather-by : tie.Need-slice-aggregate-gather-by
 slice-aggregate-gather-by c =
-    let filled = c .before .before in
+    let filled = c .before .before .before in
     sym (by-number-length 256) ∙ ap length (sym (filled .by-number .ensures))
 
 gather-by-requires : tie.Need-gather-by-requires
@@ -23,6 +23,9 @@ same-length c = search needs
 
 same-length-2 : tie.Need-same-length-2
 same-length-2 c = search needs
+
+same-length-3 : tie.Need-same-length-3
+same-length-3 c = search needs
 
 returns : tie.Need-returns
 returns c = search needs
@@ -36,4 +39,5 @@ gather-spec =
     gather-by-requires
     same-length
     same-length-2
+    same-length-3
     returns)

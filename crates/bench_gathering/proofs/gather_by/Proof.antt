@@ -11,74 +11,97 @@ use Rattle.bench_gathering.proofs.gather_by.Statement.{statement}
 use Rattle.bench_gathering.proofs.gather_by.Tie as tie
 
 abbrev Inv-loop : tie.InvT-loop
-Inv-loop m₀ commands order out₀ passes taken number₀ here₀ m out number here =
+Inv-loop m₀ commands memory₀ order out₀ passes taken number₀ here₀ m memory out number here =
     (length m ≡ length m₀)
-    × ((number ≡ passed m .number)
-    × Gathering out₀ (record { passes = passes; machine = m₀; commands = drop taken commands }) taken out (here .length) (ringingAt here m commands) (here .taken))
+    × ((length memory ≡ length memory₀)
+    × ((number ≡ passed m memory .number)
+    × Gathering out₀ (record { passes = passes; machine = m₀; memory = memory₀; commands = drop taken commands }) taken out (here .length) (ringingAt here m memory commands) (here .taken)))
 
 abbrev μ-loop : tie.MeasureT-loop
-μ-loop m₀ commands order out₀ passes taken number₀ here₀ m out number here = here .passes
+μ-loop m₀ commands memory₀ order out₀ passes taken number₀ here₀ m memory out number here = here .passes
 
 refusal-requires : tie.Need-refusal-requires Inv-loop μ-loop
 refusal-requires c κs = search needs
 
 loop-holds : tie.Need-loop-holds Inv-loop μ-loop
-loop-holds c = (refl, (c .refusal .ensures, gathering-begins _ _ _))
+loop-holds c = (refl, (refl, (c .refusal .ensures, gathering-begins _ _ _)))
 
 add-if2 : tie.Need-add-if2 Inv-loop μ-loop
-add-if2 c = omega (arith, c .before .before .before .loop .inv .1 .1 .inside)
+add-if2 c = omega (arith, c .before .before .before .loop .inv .1 .1 .1 .inside)
 
 same-length : tie.Need-same-length Inv-loop μ-loop
 same-length c = c .before .before .before .before .loop .inv .0
 
 same-length-2 : tie.Need-same-length-2 Inv-loop μ-loop
-same-length-2 c = c .before .before .before .before .loop .inv .1 .1 .room
+same-length-2 c = c .before .before .before .before .loop .inv .1 .0
+
+same-length-3 : tie.Need-same-length-3 Inv-loop μ-loop
+same-length-3 c = c .before .before .before .before .loop .inv .1 .1 .1 .room
 
 returns : tie.Need-returns Inv-loop μ-loop
-returns c = gathering-full (c .before .before .before .before .loop .inv .1 .1) (c .if2 .taken)
+returns c = gathering-full (c .before .before .before .before .loop .inv .1 .1 .1) (c .if2 .taken)
 
 step-into-requires : tie.Need-step-into-requires Inv-loop μ-loop
 step-into-requires c κs =
-    let free = c .before .before in
+    let free = c .before .before .before in
     let test = free .before .before in
     let turn = test .before .before in
-    let start = turn .before .before .before .before .before .before .before in
-    (free .if2 .left, (test .if1 .taken, (start .pre, turn .loop .inv .1 .0)))
+    let asked = turn .before in
+    let known = asked .before .before .before in
+    let start = known .before .before .before .before .before in
+    (free .if2 .left, (test .if1 .taken, (start .pre, turn .loop .inv .1 .1 .0)))
 
 next-number-requires : tie.Need-next-number-requires Inv-loop μ-loop
 next-number-requires c κs =
-    let stepped = c .before .before .before .before .before .before .before in
-    let test = stepped .before .before .before .before .before in
+    let after = c .before .before .before .before in
+    let stepped = after .before .before .before .before .before .before in
+    let free = stepped .before .before .before .before in
+    let test = free .before .before in
     let turn = test .before .before in
-    let a = turn .before .before .before .before .before .before .before .args in
-    known-after (ringingAt (turn .loop .here) (turn .loop .m) (a .commands .now)) (turn .loop .here .taken) (test .if1 .taken) (turn .loop .inv .1 .0) (stepped .step-into .ensures .1 .1 .0) (stepped .step-into .ensures .1 .1 .1)
+    let asked = turn .before in
+    let known = asked .before .before .before in
+    let start = known .before .before .before .before .before in
+    let a = start .args in
+    known-after (ringingAt (turn .loop .here) (turn .loop .m) (turn .loop .memory) (a .commands .now)) (turn .loop .here .taken) (test .if1 .taken) (turn .loop .inv .1 .1 .0) (stepped .step-into .ensures .1 .1 .0) (stepped .step-into .ensures .1 .1 .1)
 
 loop-less : tie.Need-loop-less Inv-loop μ-loop
 loop-less c =
-    let stepped = c .before .before .before .before .before .before .before .before in
-    let test = stepped .before .before .before .before .before in
+    let after = c .before .before .before .before .before in
+    let stepped = after .before .before .before .before .before .before in
+    let free = stepped .before .before .before .before in
+    let test = free .before .before in
     let turn = test .before .before in
-    let a = turn .before .before .before .before .before .before .before .args in
-    step-lowers (ringingAt (turn .loop .here) (turn .loop .m) (a .commands .now)) (test .if1 .taken) (stepped .step-into .ensures .1 .1 .0)
+    let asked = turn .before in
+    let known = asked .before .before .before in
+    let start = known .before .before .before .before .before in
+    let a = start .args in
+    step-lowers (ringingAt (turn .loop .here) (turn .loop .m) (turn .loop .memory) (a .commands .now)) (test .if1 .taken) (stepped .step-into .ensures .1 .1 .0)
 
 loop-again : tie.Need-loop-again Inv-loop μ-loop
 loop-again c =
-    let stepped = c .before .before .before .before .before .before .before .before in
-    let free = stepped .before .before .before in
+    let after = c .before .before .before .before .before in
+    let stepped = after .before .before .before .before .before .before in
+    let free = stepped .before .before .before .before in
     let test = free .before .before in
     let turn = test .before .before in (
       stepped .step-into .kept .1 .0 ∙ turn .loop .inv .0,
-      (c .next-number .ensures, gathering-goes (turn .loop .inv .1 .1) (test .if1 .taken) (free .if2 .left) (stepped .step-into .ensures)),
+      (
+        stepped .step-into .kept .1 .1 .1 .0 ∙ turn .loop .inv .1 .0,
+        (c .next-number .ensures, gathering-goes (turn .loop .inv .1 .1 .1) (test .if1 .taken) (free .if2 .left) (stepped .step-into .ensures)),
+      ),
     )
 
-same-length-3 : tie.Need-same-length-3 Inv-loop μ-loop
-same-length-3 c = c .before .before .loop .inv .0
-
 same-length-4 : tie.Need-same-length-4 Inv-loop μ-loop
-same-length-4 c = c .before .before .loop .inv .1 .1 .room
+same-length-4 c = c .before .before .loop .inv .0
+
+same-length-5 : tie.Need-same-length-5 Inv-loop μ-loop
+same-length-5 c = c .before .before .loop .inv .1 .0
+
+same-length-6 : tie.Need-same-length-6 Inv-loop μ-loop
+same-length-6 c = c .before .before .loop .inv .1 .1 .1 .room
 
 returns-2 : tie.Need-returns-2 Inv-loop μ-loop
-returns-2 c = gathering-ends (c .before .before .loop .inv .1 .1) (c .if1 .left)
+returns-2 c = gathering-ends (c .before .before .loop .inv .1 .1 .1) (c .if1 .left)
 
 pub gather-by-spec : {M : Type 1} → statement M
 gather-by-spec =
@@ -91,11 +114,13 @@ gather-by-spec =
     add-if2
     same-length
     same-length-2
+    same-length-3
     returns
     step-into-requires
     next-number-requires
     loop-less
     loop-again
-    same-length-3
     same-length-4
+    same-length-5
+    same-length-6
     returns-2)

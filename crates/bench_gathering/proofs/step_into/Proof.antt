@@ -18,17 +18,18 @@ part-put-start c = search needs
 
 part-put-end : tie.Need-part-put-end
 part-put-end c =
-    let done = c .before .before .before .before in
-    let start = done .before .before .before .before .before .before .before in
-    let a = start .args in
-    part-within (ringingAt (a .at) (a .m .now) (a .commands .now)) _ refl (done .step .ensures .0) (done .step .ensures .1 .0)
+    let done = c .before .before .before .before .before .before in
+    let known = done .before .before .before .before in
+    let a = known .before .before .before .before .before .args in
+    part-within (ringingAt (a .at) (a .m .now) (a .memory .now) (a .commands .now)) _ refl (done .step .ensures .0) (done .step .ensures .1 .0)
 
 put-requires : tie.Need-put-requires
 put-requires c κs =
-    let done = c .before .before .before .before .before in
-    let start = done .before .before .before .before .before .before .before in
+    let done = c .before .before .before .before .before .before .before in
+    let known = done .before .before .before .before in
+    let start = known .before .before .before .before .before in
     let a = start .args in
-    part-fits (ringingAt (a .at) (a .m .now) (a .commands .now)) _ refl (done .step .ensures .0) (done .step .ensures .1 .0) (a .at .length) _ (start .pre .0)
+    part-fits (ringingAt (a .at) (a .m .now) (a .memory .now) (a .commands .now)) _ refl (done .step .ensures .0) (done .step .ensures .1 .0) (a .at .length) _ (start .pre .0)
 
 same-length : tie.Need-same-length
 same-length c = search needs
@@ -36,13 +37,17 @@ same-length c = search needs
 same-length-2 : tie.Need-same-length-2
 same-length-2 c = search needs
 
+same-length-3 : tie.Need-same-length-3
+same-length-3 c = search needs
+
 returns : tie.Need-returns
 returns c =
     let puts = c .before .before in
-    let done = puts .before .before .before .before .before .before in
-    let start = done .before .before .before .before .before .before .before in
-    let a = start .args in
-    part-put (ringingAt (a .at) (a .m .now) (a .commands .now)) _ refl (done .step .ensures .0) (done .step .ensures .1 .0) (a .at .length) _ (a .at .taken) (puts .put .ensures) (done .step .ensures .1 .1)
+    let line = puts .before .before in
+    let done = line .before .before .before .before .before .before in
+    let known = done .before .before .before .before in
+    let a = known .before .before .before .before .before .args in
+    part-put (ringingAt (a .at) (a .m .now) (a .memory .now) (a .commands .now)) _ refl (done .step .ensures .0) (done .step .ensures .1 .0) (a .at .length) _ (a .at .taken) (puts .put .ensures) (done .step .ensures .1 .1)
 
 pub step-into-spec : {M : Type 1} → statement M
 step-into-spec =
@@ -55,4 +60,5 @@ step-into-spec =
     put-requires
     same-length
     same-length-2
+    same-length-3
     returns)

@@ -4,7 +4,7 @@ use native.Mathlib.Omega.{arith}
 use mathlib.Core.List.{[]}
 use Rattle.pass_model.proofs.Asked.{few-ticks}
 use Rattle.pass.proofs.Readiness.{is-ready}
-use Rattle.bench_pass.proofs.Asked.{refused-reads, refused-writes, goes}
+use Rattle.bench_pass.proofs.Asked.{data-reads, data-writes, data-none}
 use Rattle.bench_pass.proofs.data_refusal.Statement.{statement}
 use Rattle.bench_pass.proofs.data_refusal.Tie as tie
 
@@ -14,20 +14,17 @@ in-modes-requires c κs = let start = c .before in (is-ready _ (start .pre) .rea
 returns : tie.Need-returns
 returns c =
     let needed = c .before .before in
-    let start = needed .before .before in
-    refused-reads (start .args .m .now) (start .pre) (omega (arith, needed .in-modes .ensures .0))
+    data-reads (needed .before .before .args .m .now) (omega (arith, needed .in-modes .ensures .0))
 
 returns-2 : tie.Need-returns-2
 returns-2 c =
     let needed = c .before .before .before .before in
-    let start = needed .before .before in
-    refused-writes (start .args .m .now) (start .pre) (omega (arith, needed .in-modes .ensures .0)) (omega (arith, needed .in-modes .ensures .1))
+    data-writes (needed .before .before .args .m .now) (omega (arith, needed .in-modes .ensures .0)) (omega (arith, needed .in-modes .ensures .1))
 
 returns-3 : tie.Need-returns-3
 returns-3 c =
     let needed = c .before .before .before .before in
-    let start = needed .before .before in
-    goes (start .args .m .now) (start .pre) (omega (arith, needed .in-modes .ensures .0)) (omega (arith, needed .in-modes .ensures .1))
+    data-none (needed .before .before .args .m .now) (omega (arith, needed .in-modes .ensures .0)) (omega (arith, needed .in-modes .ensures .1))
 
 pub data-refusal-spec : {M : Type 1} → statement M
 data-refusal-spec = tie.close (tie.spec in-modes-requires returns returns-2 returns-3)

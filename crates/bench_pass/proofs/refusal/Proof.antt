@@ -1,6 +1,11 @@
--- `bench_pass::refusal` meets its contract: questions 1 and 2, and then the others.
+-- `bench_pass::refusal` meets its contract: each question where those before it are answered yes.
 -- Assumes nothing.
-use Rattle.bench_pass.proofs.Asked.{refused-machine}
+use mathlib.Core.Path.{sym, _∙_}
+use mathlib.Core.List.{[]}
+use borrow.Author.Tests.{not-true, not-false}
+use Rattle.pass_model.proofs.Asked.{few-ticks}
+use Rattle.pass.proofs.Readiness.{is-ready}
+use Rattle.bench_pass.proofs.Asked.{refused-machine, refused-data, refused-memory, units-decide}
 use borrow.Author.Needs.{needs}
 use Rattle.bench_pass.proofs.refusal.Statement.{statement}
 use Rattle.bench_pass.proofs.refusal.Tie as tie
@@ -9,13 +14,55 @@ refusal-requires : tie.Need-refusal-requires
 refusal-requires c κs = search needs
 
 returns : tie.Need-returns
-returns c = refused-machine _ (c .before .refusal .ensures) (c .if1 .taken)
+returns c = refused-machine _ _ (c .before .refusal .ensures) (c .if1 .taken)
 
 data-refusal-requires : tie.Need-data-refusal-requires
 data-refusal-requires c κs = search needs
 
 returns-2 : tie.Need-returns-2
-returns-2 c = search needs
+returns-2 c =
+    let lists = c .before in
+    let whole = lists .before in
+    refused-data _ _ (sym (whole .before .refusal .ensures) ∙ whole .if1 .left) (lists .data-refusal .ensures) (c .if2 .taken)
+
+memory-good-requires : tie.Need-memory-good-requires
+memory-good-requires c κs = search needs
+
+returns-3 : tie.Need-returns-3
+returns-3 c =
+    let memory = c .before in
+    let none = memory .before in
+    let lists = none .before in
+    let whole = lists .before in
+    refused-memory _ _ (sym (whole .before .refusal .ensures) ∙ whole .if1 .left) (sym (lists .data-refusal .ensures) ∙ none .if2 .left)
+    (sym (memory .memory-good .ensures) ∙ not-true _ (c .if3 .taken))
+
+delay-refusal-requires : tie.Need-delay-refusal-requires
+delay-refusal-requires c κs =
+    let whole = c .before .before .before .before in
+    let first = whole .before in
+    let passed = sym (first .refusal .ensures) ∙ whole .if1 .left in
+    (is-ready _ passed .reaches, few-ticks (first .before .before .before .args .m .now) [] passed)
+
+returns-4 : tie.Need-returns-4
+returns-4 c =
+    let good = c .before in
+    let memory = good .before in
+    let none = memory .before in
+    let lists = none .before in
+    let whole = lists .before in
+    units-decide _ _ (sym (whole .before .refusal .ensures) ∙ whole .if1 .left) (sym (lists .data-refusal .ensures) ∙ none .if2 .left)
+    (sym (memory .memory-good .ensures) ∙ not-false _ (good .if3 .left)) (c .delay-refusal .ensures)
 
 pub refusal-spec : {M : Type 1} → statement M
-refusal-spec = tie.close (tie.spec refusal-requires returns data-refusal-requires returns-2)
+refusal-spec =
+    tie.close
+    (tie.spec
+    refusal-requires
+    returns
+    data-refusal-requires
+    returns-2
+    memory-good-requires
+    returns-3
+    delay-refusal-requires
+    returns-4)

@@ -1,12 +1,12 @@
 -- `bench_pass::run` meets its contract: the first T entries of the order by number of 256 are that of T.
 -- Assumes nothing.
-use Rattle.bench_pass.proofs.Asked.{ready, ticks-most, entries-there, numbers, passed-machine}
+use Rattle.bench_pass.proofs.Asked.{ready, ticks-most, entries-there, numbers, passed-so}
 use borrow.Author.Needs.{needs}
 use Rattle.bench_pass.proofs.run.Statement.{statement}
 use Rattle.bench_pass.proofs.run.Tie as tie
 
 ticks-requires : tie.Need-ticks-requires
-ticks-requires c κs = ready _ (c .before .before .before .pre .0) .reaches
+ticks-requires c κs = ready _ _ (c .before .before .before .before .pre .0) .reaches
 
 sub-run : tie.Need-sub-run
 sub-run c = search needs
@@ -17,8 +17,8 @@ part-run-start c = search needs
 part-run-end : tie.Need-part-run-end
 part-run-end c =
     let ticks = c .before in
-    let start = ticks .before .before .before .before in
-    entries-there (start .args .m .now) (start .pre .0) (start .pre .1) (ticks .ticks .ensures)
+    let start = ticks .before .before .before .before .before in
+    entries-there (start .args .m .now) (start .args .memory .now) (start .pre .0) (start .pre .1) (ticks .ticks .ensures)
 
 sub-run-2 : tie.Need-sub-run-2
 sub-run-2 c = search needs
@@ -40,20 +40,24 @@ part-places-end c = search needs
 
 run-requires : tie.Need-run-requires
 run-requires c κs =
-    let ticks = c .before .before .before .before in
-    let start = ticks .before .before .before .before in
+    let ticks = c .before .before .before .before .before in
+    let start = ticks .before .before .before .before .before in
     let m = start .args .m .now in
-    (ready m (start .pre .0), (numbers m (start .pre .0) (start .pre .1) (ticks .ticks .ensures), ticks-most m (start .pre .0)))
+    let memory = start .args .memory .now in
+    (ready m memory (start .pre .0), (numbers m memory (start .pre .0) (start .pre .1) (ticks .ticks .ensures), ticks-most m memory (start .pre .0)))
 
 same-length : tie.Need-same-length
 same-length c = search needs
 
+same-length-2 : tie.Need-same-length-2
+same-length-2 c = search needs
+
 returns : tie.Need-returns
 returns c =
-    let ran = c .before .before .before in
-    let ticks = ran .before .before .before .before .before in
-    let start = ticks .before .before .before .before in
-    passed-machine (start .args .m .now) (start .pre .0) (start .pre .1) (ticks .ticks .ensures) (ran .run .ensures)
+    let ran = c .before .before .before .before .before in
+    let ticks = ran .before .before .before .before .before .before in
+    let start = ticks .before .before .before .before .before in
+    passed-so (start .args .m .now) (start .args .memory .now) (start .pre .0) (start .pre .1) (ticks .ticks .ensures) (ran .run .ensures)
 
 pub run-spec : {M : Type 1} → statement M
 run-spec =
@@ -71,4 +75,5 @@ run-spec =
     part-places-end
     run-requires
     same-length
+    same-length-2
     returns)

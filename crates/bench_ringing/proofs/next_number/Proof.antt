@@ -1,18 +1,20 @@
 -- `bench_ringing::next_number` meets its contract: what is known after a step.
 -- Assumes nothing.
-use borrow.Author.Needs.{needs}
-use borrow.Author.Needs.{needs}
+use Rattle.bench_pass.proofs.Asked.{again-decides}
 use Rattle.bench_ringing.proofs.next_number.Statement.{statement}
 use Rattle.bench_ringing.proofs.next_number.Tie as tie
 
-data-refusal-requires : tie.Need-data-refusal-requires
-data-refusal-requires c κs = c .before .before .pre .good (c .if1 .taken)
+refusal-again-requires : tie.Need-refusal-again-requires
+refusal-again-requires c κs = c .before .before .before .pre .good (c .if1 .taken)
 
 returns : tie.Need-returns
-returns c = search needs
+returns c =
+    let took = c .before in
+    let known = took .before .before .before .pre in
+    again-decides _ _ (known .good (took .if1 .taken)) (known .memory-good (took .if1 .taken)) (c .refusal-again .ensures)
 
 returns-2 : tie.Need-returns-2
-returns-2 c = c .before .before .pre .as-before (c .if1 .left)
+returns-2 c = c .before .before .before .pre .as-before (c .if1 .left)
 
 pub next-number-spec : {M : Type 1} → statement M
-next-number-spec = tie.close (tie.spec data-refusal-requires returns returns-2)
+next-number-spec = tie.close (tie.spec refusal-again-requires returns returns-2)

@@ -1,11 +1,11 @@
 -- `bench_ringing::step` meets its contract: the step ends with a refused pass, with a refused update, or with its line.
 -- Assumes nothing.
 use native.Mathlib.Omega.{arith}
+use mathlib.Core.Path.{sym, _∙_}
 use lib.ListN.{drop}
 use Rattle.bench_ringing.specs.Steps.{ringingAt}
 use Rattle.bench_ringing.proofs.Turns.{taken-most, lined, step-refused, step-update-refused, step-goes}
 use Rattle.bench_ringing.proofs.Keeping.{refused-stays, last-passes}
-use mathlib.Core.Path.{sym, _∙_}
 use borrow.Author.Needs.{needs}
 use Rattle.bench_ringing.proofs.step.Statement.{statement}
 use Rattle.bench_ringing.proofs.step.Tie as tie
@@ -16,26 +16,28 @@ refusal-line-requires c κs = search needs
 returns : tie.Need-returns
 returns c =
     let test = c .before .before in
-    let start = test .before .before .before .before in
+    let start = test .before .before .before .before .before in
     let a = start .args in
     let n = start .pre .1 .1 in
-    step-refused (ringingAt (a .at) (a .m .now) (a .commands .now)) (a .line .now) (a .at .taken) (start .pre .0) n (refused-stays (a .m .now) (λ e. test .if1 .taken (n ∙ e))) (test .if1 .taken) (c .refusal-line .ensures)
+    let stays = refused-stays (a .m .now) (a .memory .now) (λ e. test .if1 .taken (n ∙ e)) in
+    step-refused (ringingAt (a .at) (a .m .now) (a .memory .now) (a .commands .now)) (a .line .now) (a .at .taken) (start .pre .0) (start .pre .1 .1) (stays .0) (stays .1) (test .if1 .taken) (c .refusal-line .ensures)
 
 run-requires : tie.Need-run-requires
 run-requires c κs = search needs
 
 ring-update-requires : tie.Need-ring-update-requires
 ring-update-requires c κs =
-    let ran = c .before .before .before .before in
-    let passes = ran .before .before in
-    let start = passes .before .before .before .before in
-    rw (ran .run .ensures) (last-passes (start .args .m .now) (sym (start .pre .1 .1) ∙ passes .if1 .left))
+    let ran = c .before .before .before .before .before .before in
+    let passes = ran .before .before .before in
+    let start = passes .before .before .before .before .before in
+    rw (ran .run .ensures .0) (last-passes (start .args .m .now) (start .args .memory .now) (sym (start .pre .1 .1) ∙ passes .if1 .left))
 
 add-taken : tie.Need-add-taken
 add-taken c =
     let updated = c .before .before .before in
-    let ran = updated .before .before .before .before .before in
-    let start = ran .before .before .before .before .before .before in
+    let ran = updated .before .before .before .before .before .before .before in
+    let passes = ran .before .before .before in
+    let start = passes .before .before .before .before .before in
     let a = start .args in
     omega (arith, start .good .1 .1 .0 .0, taken-most _ (a .commands .now) (a .at .taken) (updated .ring-update .ensures .0))
 
@@ -45,42 +47,48 @@ refusal-line-requires-2 c κs = search needs
 same-length : tie.Need-same-length
 same-length c = search needs
 
+same-length-2 : tie.Need-same-length-2
+same-length-2 c = search needs
+
 returns-2 : tie.Need-returns-2
 returns-2 c =
     let test = c .before .before in
     let updated = test .before .before .before .before in
-    let ran = updated .before .before .before .before .before in
-    let passes = ran .before .before in
-    let start = passes .before .before .before .before in
+    let ran = updated .before .before .before .before .before .before .before in
+    let passes = ran .before .before .before in
+    let start = passes .before .before .before .before .before in
     let a = start .args in
-    step-update-refused (ringingAt (a .at) (a .m .now) (a .commands .now)) (a .line .now) (a .at .taken) (start .pre .0) (start .pre .1 .1) (ran .run .ensures) (passes .if1 .left) (updated .ring-update .ensures .1) (updated .ring-update .ensures .0) (test .if2 .taken) (c .refusal-line2 .ensures)
+    step-update-refused (ringingAt (a .at) (a .m .now) (a .memory .now) (a .commands .now)) (a .line .now) (a .at .taken) (start .pre .0) (start .pre .1 .1) (ran .run .ensures .0) (ran .run .ensures .1) (passes .if1 .left) (updated .ring-update .ensures .1) (updated .ring-update .ensures .0) (test .if2 .taken) (c .refusal-line2 .ensures)
 
 ring-line-requires : tie.Need-ring-line-requires
 ring-line-requires c κs =
     let test = c .before .before in
     let updated = test .before .before .before .before in
-    let ran = updated .before .before .before .before .before in
-    let passes = ran .before .before in
-    let start = passes .before .before .before .before in
+    let ran = updated .before .before .before .before .before .before .before in
+    let passes = ran .before .before .before in
+    let start = passes .before .before .before .before .before in
     let a = start .args in
-    lined _ (drop (a .at .taken) (a .commands .now)) (rw (ran .run .ensures) (last-passes (a .m .now) (sym (start .pre .1 .1) ∙ passes .if1 .left))) (updated .ring-update .ensures .1)
+    lined _ (drop (a .at .taken) (a .commands .now)) (rw (ran .run .ensures .0) (last-passes (a .m .now) (a .memory .now) (sym (start .pre .1 .1) ∙ passes .if1 .left))) (updated .ring-update .ensures .1)
 
 sub-passes : tie.Need-sub-passes
 sub-passes c = search needs
 
-same-length-2 : tie.Need-same-length-2
-same-length-2 c = search needs
+same-length-3 : tie.Need-same-length-3
+same-length-3 c = search needs
+
+same-length-4 : tie.Need-same-length-4
+same-length-4 c = search needs
 
 returns-3 : tie.Need-returns-3
 returns-3 c =
     let line = c .before in
     let test = line .before .before .before in
     let updated = test .before .before .before .before in
-    let ran = updated .before .before .before .before .before in
-    let passes = ran .before .before in
-    let start = passes .before .before .before .before in
+    let ran = updated .before .before .before .before .before .before .before in
+    let passes = ran .before .before .before in
+    let start = passes .before .before .before .before .before in
     let a = start .args in
-    step-goes (ringingAt (a .at) (a .m .now) (a .commands .now)) (a .line .now) (a .at .taken) (start .pre .0) (start .pre .1 .1) (ran .run .ensures) (passes .if1 .left) (updated .ring-update .ensures .1) (updated .ring-update .ensures .0) (test .if2 .left) (line .ring-line .ensures)
+    step-goes (ringingAt (a .at) (a .m .now) (a .memory .now) (a .commands .now)) (a .line .now) (a .at .taken) (start .pre .0) (start .pre .1 .1) (ran .run .ensures .0) (ran .run .ensures .1) (passes .if1 .left) (updated .ring-update .ensures .1) (updated .ring-update .ensures .0) (test .if2 .left) (line .ring-line .ensures)
 
 pub step-spec : {M : Type 1} → statement M
 step-spec =
@@ -93,8 +101,10 @@ step-spec =
     add-taken
     refusal-line-requires-2
     same-length
+    same-length-2
     returns-2
     ring-line-requires
     sub-passes
-    same-length-2
+    same-length-3
+    same-length-4
     returns-3)

@@ -1,6 +1,6 @@
 -- `command::perform` meets its contract: its arms by the code.
 -- Assumes nothing.
-use Rattle.command.proofs.Turns.{does-misc, does-timer, does-ticks, does-generator-load, does-modifier-load}
+use Rattle.command.proofs.Turns.{does-misc, does-delay, does-timer, does-ticks, does-generator-load, does-modifier-load}
 use borrow.Author.Needs.{needs}
 use Rattle.command.proofs.perform.Statement.{statement}
 use Rattle.command.proofs.perform.Tie as tie
@@ -22,8 +22,8 @@ returns c =
     let a = code .before .before .args in
     does-misc (a .m .now) (a .c) (code .field .ensures) (arm .if1 .taken) (done .miscellany .ensures)
 
-timer-requires : tie.Need-timer-requires
-timer-requires c κs = search needs
+load-requires : tie.Need-load-requires
+load-requires c κs = search needs
 
 same-length-2 : tie.Need-same-length-2
 same-length-2 c = search needs
@@ -34,10 +34,10 @@ returns-2 c =
     let arm = done .before .before in
     let code = arm .before .before in
     let a = code .before .before .args in
-    does-timer (a .m .now) (a .c) (code .field .ensures) (arm .if2 .taken) (done .timer .ensures)
+    does-delay (a .m .now) (a .c) (code .field .ensures) (arm .if2 .taken) (done .load .ensures)
 
-ticks-requires : tie.Need-ticks-requires
-ticks-requires c κs = search needs
+timer-requires : tie.Need-timer-requires
+timer-requires c κs = search needs
 
 same-length-3 : tie.Need-same-length-3
 same-length-3 c = search needs
@@ -48,10 +48,10 @@ returns-3 c =
     let arm = done .before .before in
     let code = arm .before .before .before in
     let a = code .before .before .args in
-    does-ticks (a .m .now) (a .c) (code .field .ensures) (arm .if3 .taken) (done .ticks .ensures)
+    does-timer (a .m .now) (a .c) (code .field .ensures) (arm .if3 .taken) (done .timer .ensures)
 
-load-requires : tie.Need-load-requires
-load-requires c κs = search needs
+ticks-requires : tie.Need-ticks-requires
+ticks-requires c κs = search needs
 
 same-length-4 : tie.Need-same-length-4
 same-length-4 c = search needs
@@ -62,7 +62,7 @@ returns-4 c =
     let arm = done .before .before in
     let code = arm .before .before .before .before in
     let a = code .before .before .args in
-    does-generator-load (a .m .now) (a .c) (code .field .ensures) (arm .before .before .before .if1 .left) (arm .before .before .if2 .left) (arm .before .if3 .left) (arm .if4 .taken) (done .load .ensures)
+    does-ticks (a .m .now) (a .c) (code .field .ensures) (arm .if4 .taken) (done .ticks .ensures)
 
 load-requires-2 : tie.Need-load-requires-2
 load-requires-2 c κs = search needs
@@ -74,9 +74,31 @@ returns-5 : tie.Need-returns-5
 returns-5 c =
     let done = c .before .before in
     let arm = done .before .before in
-    let code = arm .before .before .before .before in
+    let ticks = arm .before in
+    let timer = ticks .before in
+    let delay = timer .before in
+    let misc = delay .before in
+    let code = misc .before in
     let a = code .before .before .args in
-    does-modifier-load (a .m .now) (a .c) (code .field .ensures) (arm .before .before .before .if1 .left) (arm .before .before .if2 .left) (arm .before .if3 .left) (arm .if4 .left) (done .load2 .ensures)
+    does-generator-load (a .m .now) (a .c) (code .field .ensures) (misc .if1 .left) (delay .if2 .left) (timer .if3 .left) (ticks .if4 .left) (arm .if5 .taken) (done .load2 .ensures)
+
+load-requires-3 : tie.Need-load-requires-3
+load-requires-3 c κs = search needs
+
+same-length-6 : tie.Need-same-length-6
+same-length-6 c = search needs
+
+returns-6 : tie.Need-returns-6
+returns-6 c =
+    let done = c .before .before in
+    let arm = done .before .before in
+    let ticks = arm .before in
+    let timer = ticks .before in
+    let delay = timer .before in
+    let misc = delay .before in
+    let code = misc .before in
+    let a = code .before .before .args in
+    does-modifier-load (a .m .now) (a .c) (code .field .ensures) (misc .if1 .left) (delay .if2 .left) (timer .if3 .left) (ticks .if4 .left) (arm .if5 .left) (done .load3 .ensures)
 
 pub perform-spec : {M : Type 1} → statement M
 perform-spec =
@@ -86,15 +108,18 @@ perform-spec =
     miscellany-requires
     same-length
     returns
-    timer-requires
+    load-requires
     same-length-2
     returns-2
-    ticks-requires
+    timer-requires
     same-length-3
     returns-3
-    load-requires
+    ticks-requires
     same-length-4
     returns-4
     load-requires-2
     same-length-5
-    returns-5)
+    returns-5
+    load-requires-3
+    same-length-6
+    returns-6)

@@ -17,6 +17,9 @@ field-requires-2 c κs = search needs
 flag-requires : tie.Need-flag-requires
 flag-requires c κs = search needs
 
+built-dly-requires : tie.Need-built-dly-requires
+built-dly-requires c κs = search needs
+
 flag-requires-2 : tie.Need-flag-requires-2
 flag-requires-2 c κs = search needs
 
@@ -36,7 +39,9 @@ returns c =
     asks-misc (arm .before .before .args .c) (arm .before .field .ensures) (arm .match .keys1) (rr .field2 .ensures) (c .flag .ensures)
 
 returns-2 : tie.Need-returns-2
-returns-2 c = asks-delay (c .before .before .args .c) (c .before .field .ensures) (c .match .keys2)
+returns-2 c =
+    let arm = c .before in
+    asks-delay (arm .before .before .args .c) (arm .before .field .ensures) (arm .match .keys2) (c .built-dly .ensures)
 
 returns-3 : tie.Need-returns-3
 returns-3 c =
@@ -86,6 +91,7 @@ built-spec =
     field-requires
     field-requires-2
     flag-requires
+    built-dly-requires
     flag-requires-2
     built-mmode-requires
     built-mrm-requires

@@ -13,8 +13,11 @@ same-length c = search needs
 same-length-2 : tie.Need-same-length-2
 same-length-2 c = search needs
 
+same-length-3 : tie.Need-same-length-3
+same-length-3 c = search needs
+
 returns : tie.Need-returns
-returns c = c .before .before .before .before .pass .ensures
+returns c = c .before .before .before .before .before .before .pass .ensures
 
 pub karvelorn-pass-spec : {M : Type 1} → statement M
-karvelorn-pass-spec = tie.close (tie.spec pass-requires same-length same-length-2 returns)
+karvelorn-pass-spec = tie.close (tie.spec pass-requires same-length same-length-2 same-length-3 returns)

@@ -21,9 +21,13 @@ modifiers-within-requires c κs = search needs
 controls-within-requires : tie.Need-controls-within-requires
 controls-within-requires c κs = search needs
 
+delays-within-requires : tie.Need-delays-within-requires
+delays-within-requires c κs = search needs
+
 returns : tie.Need-returns
 returns c =
-    let modifiers = c .before in
+    let controls = c .before in
+    let modifiers = controls .before in
     let generators = modifiers .before in
     let dacs = generators .before in
     let sums = dacs .before in
@@ -32,7 +36,8 @@ returns c =
       modifiers .modifiers-within .ensures,
       sums .words-below .ensures,
       dacs .words-below2 .ensures,
-      c .controls-within .ensures,
+      controls .controls-within .ensures,
+      c .delays-within .ensures,
     )
     (sym (sound-swept (sums .before .before .args .m .now)))
 
@@ -45,4 +50,5 @@ sound-spec =
     generators-within-requires
     modifiers-within-requires
     controls-within-requires
+    delays-within-requires
     returns)

@@ -21,6 +21,9 @@ latch-requires c κs = search needs
 threshold-requires : tie.Need-threshold-requires
 threshold-requires c κs = search needs
 
+invoke-delay-requires : tie.Need-invoke-delay-requires
+invoke-delay-requires c κs = search needs
+
 two-poles-requires : tie.Need-two-poles-requires
 two-poles-requires c κs = search needs
 
@@ -90,77 +93,82 @@ returns-4 c = rw (← (c .before .before .function .ensures), c .before .match .
 
 returns-5 : tie.Need-returns-5
 unfolding turnOf
-returns-5 c = rw (← (c .before .before .function .ensures), c .before .match .keys5) (c .two-poles .ensures)
+returns-5 c = rw (← (c .before .before .function .ensures), c .before .match .keys5) (c .invoke-delay .ensures)
 
 returns-6 : tie.Need-returns-6
 unfolding turnOf
-returns-6 c = rw (← (c .before .before .function .ensures), c .before .match .keys6) (c .two-poles-m0-variable .ensures)
+returns-6 c = rw (← (c .before .before .function .ensures), c .before .match .keys6) (c .two-poles .ensures)
 
 returns-7 : tie.Need-returns-7
 unfolding turnOf
-returns-7 c = rw (← (c .before .before .function .ensures), c .before .match .keys7) (c .two-poles-m1-variable .ensures)
+returns-7 c = rw (← (c .before .before .function .ensures), c .before .match .keys7) (c .two-poles-m0-variable .ensures)
 
 returns-8 : tie.Need-returns-8
 unfolding turnOf
-returns-8 c = rw (← (c .before .before .function .ensures), c .before .match .keys8) (c .two-zeros .ensures)
+returns-8 c = rw (← (c .before .before .function .ensures), c .before .match .keys8) (c .two-poles-m1-variable .ensures)
 
 returns-9 : tie.Need-returns-9
 unfolding turnOf
-returns-9 c = rw (← (c .before .before .function .ensures), c .before .match .keys9) (c .two-zeros-m0-variable .ensures)
+returns-9 c = rw (← (c .before .before .function .ensures), c .before .match .keys9) (c .two-zeros .ensures)
 
 returns-10 : tie.Need-returns-10
 unfolding turnOf
-returns-10 c = rw (← (c .before .before .function .ensures), c .before .match .keys10) (c .two-zeros-m1-variable .ensures)
+returns-10 c = rw (← (c .before .before .function .ensures), c .before .match .keys10) (c .two-zeros-m0-variable .ensures)
 
 returns-11 : tie.Need-returns-11
 unfolding turnOf
-returns-11 c = rw (← (c .before .before .function .ensures), c .before .match .keys11) (c .integer-mixing .ensures)
+returns-11 c = rw (← (c .before .before .function .ensures), c .before .match .keys11) (c .two-zeros-m1-variable .ensures)
 
 returns-12 : tie.Need-returns-12
 unfolding turnOf
-returns-12 c = rw (← (c .before .before .function .ensures), c .before .match .keys12) (c .one-pole .ensures)
+returns-12 c = rw (← (c .before .before .function .ensures), c .before .match .keys12) (c .integer-mixing .ensures)
 
 returns-13 : tie.Need-returns-13
 unfolding turnOf
-returns-13 c = rw (← (c .before .before .function .ensures), c .before .match .keys13) (c .mixing .ensures)
+returns-13 c = rw (← (c .before .before .function .ensures), c .before .match .keys13) (c .one-pole .ensures)
 
 returns-14 : tie.Need-returns-14
 unfolding turnOf
-returns-14 c = rw (← (c .before .before .function .ensures), c .before .match .keys14) (c .one-zero .ensures)
+returns-14 c = rw (← (c .before .before .function .ensures), c .before .match .keys14) (c .mixing .ensures)
 
 returns-15 : tie.Need-returns-15
 unfolding turnOf
-returns-15 c = rw (← (c .before .before .function .ensures), c .before .match .keys15) (c .four-quadrant .ensures)
+returns-15 c = rw (← (c .before .before .function .ensures), c .before .match .keys15) (c .one-zero .ensures)
 
 returns-16 : tie.Need-returns-16
 unfolding turnOf
-returns-16 c = rw (← (c .before .before .function .ensures), c .before .match .keys16) (c .amplitude-modulation .ensures)
+returns-16 c = rw (← (c .before .before .function .ensures), c .before .match .keys16) (c .four-quadrant .ensures)
 
 returns-17 : tie.Need-returns-17
 unfolding turnOf
-returns-17 c = rw (← (c .before .before .function .ensures), c .before .match .keys17) (c .maximum .ensures)
+returns-17 c = rw (← (c .before .before .function .ensures), c .before .match .keys17) (c .amplitude-modulation .ensures)
 
 returns-18 : tie.Need-returns-18
 unfolding turnOf
-returns-18 c = rw (← (c .before .before .function .ensures), c .before .match .keys18) (c .minimum .ensures)
+returns-18 c = rw (← (c .before .before .function .ensures), c .before .match .keys18) (c .maximum .ensures)
 
 returns-19 : tie.Need-returns-19
 unfolding turnOf
-returns-19 c = rw (← (c .before .before .function .ensures), c .before .match .keys19) (c .signum .ensures)
+returns-19 c = rw (← (c .before .before .function .ensures), c .before .match .keys19) (c .minimum .ensures)
 
 returns-20 : tie.Need-returns-20
 unfolding turnOf
-returns-20 c = rw (← (c .before .before .function .ensures), c .before .match .keys20) (c .pulser .ensures)
+returns-20 c = rw (← (c .before .before .function .ensures), c .before .match .keys20) (c .signum .ensures)
 
 returns-21 : tie.Need-returns-21
 unfolding turnOf
-returns-21 c =
+returns-21 c = rw (← (c .before .before .function .ensures), c .before .match .keys21) (c .pulser .ensures)
+
+returns-22 : tie.Need-returns-22
+unfolding turnOf
+returns-22 c =
     let p = c .before .match .rest in
     let q = p .0 .0 .0 .0 .0 in
     let r = q .0 .0 .0 .0 .0 in
     let s = r .0 .0 .0 .0 .0 in
+    let t = s .0 .0 .0 .0 .0 in
     rw (← (c .before .before .function .ensures))
-    (simp (ne-eqb _ _ (p .1), ne-eqb _ _ (p .0 .1), ne-eqb _ _ (p .0 .0 .1), ne-eqb _ _ (p .0 .0 .0 .1), ne-eqb _ _ (p .0 .0 .0 .0 .1), ne-eqb _ _ (q .1), ne-eqb _ _ (q .0 .1), ne-eqb _ _ (q .0 .0 .1), ne-eqb _ _ (q .0 .0 .0 .1), ne-eqb _ _ (q .0 .0 .0 .0 .1), ne-eqb _ _ (r .1), ne-eqb _ _ (r .0 .1), ne-eqb _ _ (r .0 .0 .1), ne-eqb _ _ (r .0 .0 .0 .1), ne-eqb _ _ (r .0 .0 .0 .0 .1), ne-eqb _ _ (s .1), ne-eqb _ _ (s .0 .1), ne-eqb _ _ (s .0 .0 .1), ne-eqb _ _ (s .0 .0 .0 .1), ne-eqb _ _ (s .0 .0 .0 .0 .1)) (c .inactive .ensures))
+    (simp (ne-eqb _ _ (p .1), ne-eqb _ _ (p .0 .1), ne-eqb _ _ (p .0 .0 .1), ne-eqb _ _ (p .0 .0 .0 .1), ne-eqb _ _ (p .0 .0 .0 .0 .1), ne-eqb _ _ (q .1), ne-eqb _ _ (q .0 .1), ne-eqb _ _ (q .0 .0 .1), ne-eqb _ _ (q .0 .0 .0 .1), ne-eqb _ _ (q .0 .0 .0 .0 .1), ne-eqb _ _ (r .1), ne-eqb _ _ (r .0 .1), ne-eqb _ _ (r .0 .0 .1), ne-eqb _ _ (r .0 .0 .0 .1), ne-eqb _ _ (r .0 .0 .0 .0 .1), ne-eqb _ _ (s .1), ne-eqb _ _ (s .0 .1), ne-eqb _ _ (s .0 .0 .1), ne-eqb _ _ (s .0 .0 .0 .1), ne-eqb _ _ (s .0 .0 .0 .0 .1), ne-eqb _ _ (t .1)) (c .inactive .ensures))
 
 pub turn-spec : {M : Type 1} → statement M
 turn-spec =
@@ -171,6 +179,7 @@ turn-spec =
     triggered-noise-requires
     latch-requires
     threshold-requires
+    invoke-delay-requires
     two-poles-requires
     two-poles-m0-variable-requires
     two-poles-m1-variable-requires
@@ -208,4 +217,5 @@ turn-spec =
     returns-18
     returns-19
     returns-20
-    returns-21)
+    returns-21
+    returns-22)

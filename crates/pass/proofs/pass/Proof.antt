@@ -17,33 +17,38 @@ same-length c = search needs
 same-length-2 : tie.Need-same-length-2
 same-length-2 c = search needs
 
+same-length-3 : tie.Need-same-length-3
+same-length-3 c = search needs
+
 returns : tie.Need-returns
 unfolding passOf refused
 returns c = rw (← (c .before .refusal .ensures), ne-eqb _ 0 (c .if1 .taken))
 
 run-requires : tie.Need-run-requires
 run-requires c κs =
-    let let-through = c .before .before in
+    let let-through = c .before .before .before in
     let asked = let-through .before in
-    let known = asked .before .before .before in
-    let a = known .before .before .before .before .args in
+    let a = asked .before .before .before .before .before .before .before .before .before .args in
     let m = a .m .now in
     let o = a .order .now in
-    let call : Call = record { order = o; items = a .items .now; places = a .places .now } in
+    let call : Call = record { order = o; items = a .items .now; places = a .places .now; memory = a .memory .now } in
     let p = passes m call (sym (asked .refusal .ensures) ∙ let-through .if1 .left) in
-    (is-ready m (p .0), (are-numbers m o (p .0) (p .1), few-ticks m o (p .0)))
-
-same-length-3 : tie.Need-same-length-3
-same-length-3 c = c .before .before .before .before .run .kept .0
+    (is-ready m (p .whole), (are-numbers m o (p .whole) (p .ordered), few-ticks m o (p .whole)))
 
 same-length-4 : tie.Need-same-length-4
-same-length-4 c = c .before .before .before .before .run .kept .1 .1 .1 .0
+same-length-4 c = c .before .before .before .before .before .before .run .kept .0
+
+same-length-5 : tie.Need-same-length-5
+same-length-5 c = c .before .before .before .before .before .before .run .kept .1 .1 .1 .0
+
+same-length-6 : tie.Need-same-length-6
+same-length-6 c = c .before .before .before .before .before .before .run .kept .1 .1 .1 .1 .0
 
 returns-2 : tie.Need-returns-2
 unfolding passOf
 returns-2 c =
-    let run = c .before .before .before .before in
-    let let-through = run .before .before .before in
+    let run = c .before .before .before .before .before .before in
+    let let-through = run .before .before .before .before in
     let e = sym (let-through .before .refusal .ensures) ∙ let-through .if1 .left in
     rw e (run .run .ensures)
 
@@ -54,8 +59,10 @@ pass-spec =
     refusal-requires
     same-length
     same-length-2
+    same-length-3
     returns
     run-requires
-    same-length-3
     same-length-4
+    same-length-5
+    same-length-6
     returns-2)

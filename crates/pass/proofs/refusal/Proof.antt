@@ -1,7 +1,8 @@
 -- `refusal` meets its contract: the questions by pairs, each asked where those before it are answered yes.
 use native.Mathlib.Omega.{arith}
 use mathlib.Core.Path.{sym, _∙_}
-use Rattle.pass_model.proofs.Asked.{refused-first, refused-second, refused-7, refused-8, not-refused, few-ticks}
+use borrow.Author.Tests.{not-true, not-false}
+use Rattle.pass_model.proofs.Asked.{refused-first, refused-second, refused-7, refused-8, refused-10, past-memory, few-ticks}
 use Rattle.pass.proofs.Readiness.{is-ready}
 use borrow.Author.Needs.{needs}
 use Rattle.pass.proofs.refusal.Statement.{statement}
@@ -20,7 +21,7 @@ order-refusal-requires : tie.Need-order-refusal-requires
 order-refusal-requires c κs =
     let whole = c .before in
     let first = whole .before in
-    let a = first .before .before .before .before .before .args in
+    let a = first .before .before .before .before .before .before .args in
     rw (c .ticks .ensures) (few-ticks (a .m .now) (a .order .now) (sym (first .refusal .ensures) ∙ whole .if1 .left))
 
 returns-2 : tie.Need-returns-2
@@ -34,7 +35,7 @@ in-modes-requires : tie.Need-in-modes-requires
 in-modes-requires c κs =
     let whole = c .before .before .before in
     let first = whole .before in
-    let a = first .before .before .before .before .before .args in
+    let a = first .before .before .before .before .before .before .args in
     let passed = sym (first .refusal .ensures) ∙ whole .if1 .left in
     (is-ready _ passed .reaches, few-ticks (a .m .now) (a .order .now) passed)
 
@@ -58,15 +59,39 @@ returns-4 c =
     refused-8 _ _ (sym (whole .before .refusal .ensures) ∙ whole .if1 .left) (sym (rw (ticks .ticks .ensures) at (second .order-refusal .ensures)) ∙ ordered .if2 .left)
     (omega (arith, needed .in-modes .ensures .0)) (omega (arith, needed .in-modes .ensures .1))
 
+memory-good-requires : tie.Need-memory-good-requires
+memory-good-requires c κs = search needs
+
 returns-5 : tie.Need-returns-5
 returns-5 c =
-    let needed = c .before .before .before .before in
+    let good = c .before in
+    let needed = good .before .before .before .before .before in
     let ordered = needed .before in
     let second = ordered .before in
     let ticks = second .before in
     let whole = ticks .before in
-    not-refused _ _ (sym (whole .before .refusal .ensures) ∙ whole .if1 .left) (sym (rw (ticks .ticks .ensures) at (second .order-refusal .ensures)) ∙ ordered .if2 .left)
-    (omega (arith, needed .in-modes .ensures .0)) (omega (arith, needed .in-modes .ensures .1))
+    refused-10 _ _ (sym (whole .before .refusal .ensures) ∙ whole .if1 .left) (sym (rw (ticks .ticks .ensures) at (second .order-refusal .ensures)) ∙ ordered .if2 .left)
+    (omega (arith, needed .in-modes .ensures .0)) (omega (arith, needed .in-modes .ensures .1)) (sym (good .memory-good .ensures) ∙ not-true _ (c .if5 .taken))
+
+delay-refusal-requires : tie.Need-delay-refusal-requires
+delay-refusal-requires c κs =
+    let whole = c .before .before .before .before .before .before .before .before .before .before in
+    let first = whole .before in
+    let a = first .before .before .before .before .before .before .args in
+    let passed = sym (first .refusal .ensures) ∙ whole .if1 .left in
+    (is-ready _ passed .reaches, few-ticks (a .m .now) (a .order .now) passed)
+
+returns-6 : tie.Need-returns-6
+returns-6 c =
+    let good = c .before .before in
+    let needed = good .before .before .before .before .before in
+    let ordered = needed .before in
+    let second = ordered .before in
+    let ticks = second .before in
+    let whole = ticks .before in
+    c .delay-refusal .ensures
+    ∙ sym (past-memory _ _ (sym (whole .before .refusal .ensures) ∙ whole .if1 .left) (sym (rw (ticks .ticks .ensures) at (second .order-refusal .ensures)) ∙ ordered .if2 .left)
+    (omega (arith, needed .in-modes .ensures .0)) (omega (arith, needed .in-modes .ensures .1)) (sym (good .memory-good .ensures) ∙ not-false _ (c .before .if5 .left)))
 
 pub refusal-spec : {M : Type 1} → statement M
 refusal-spec =
@@ -80,4 +105,7 @@ refusal-spec =
     in-modes-requires
     returns-3
     returns-4
-    returns-5)
+    memory-good-requires
+    returns-5
+    delay-refusal-requires
+    returns-6)

@@ -1,4 +1,4 @@
--- `modifier_at` meets its contract: the part of the machine that is lent runs to its end.
+-- `modifier_at` meets its contract: the part of the machine that is handed on runs to its end.
 use Rattle.lists.proofs.Parts.{part-from}
 use Rattle.pass_model.specs.Modifiers.{modifierOf}
 use borrow.Author.Needs.{needs}

@@ -4,18 +4,19 @@ use Prim.Native.Nat.{_≤_, _-_}
 use native.Mathlib.Omega.{arith}
 use lib.ListN.{length}
 use borrow.Author.Needs.{needs}
+use Rattle.layout.proofs.Reach.{same-reach}
 use Rattle.pass_modifiers.specs.Loops.{lagged}
 use Rattle.pass_modifiers.proofs.Lags.{lagged-on, stage-end}
 use Rattle.pass_modifiers.proofs.modifiers.Statement.{statement}
-use Rattle.layout.proofs.Reach.{same-reach}
 use Rattle.pass_modifiers.proofs.modifiers.Tie as tie
 
 abbrev Inv-loop : tie.InvT-loop
-Inv-loop m₀ s₀ n early₀ first msums₀ lefts₀ k₀ m s early msums lefts k =
-    (k ≤ n) × (length m ≡ length m₀) × (record { words = m; sums = s; early = early; msums = msums; lefts = lefts } ≡ lagged m₀ s₀ k)
+Inv-loop m₀ s₀ memory₀ t n early₀ first msums₀ lefts₀ k₀ m s memory early msums lefts k =
+    (k ≤ n) × (length m ≡ length m₀) × (length memory ≡ length memory₀)
+    × (record { held = record { words = m; memory = memory }; sums = s; early = early; msums = msums; lefts = lefts } ≡ lagged t (record { words = m₀; memory = memory₀ }) s₀ k)
 
 abbrev μ-loop : tie.MeasureT-loop
-μ-loop m₀ s₀ n early₀ first msums₀ lefts₀ k₀ m s early msums lefts k = n - k
+μ-loop m₀ s₀ memory₀ t n early₀ first msums₀ lefts₀ k₀ m s memory early msums lefts k = n - k
 
 element-copy-out-early : tie.Need-element-copy-out-early Inv-loop μ-loop
 element-copy-out-early c = search needs
@@ -25,12 +26,12 @@ array-read-first c = search needs
 
 loop-holds : tie.Need-loop-holds Inv-loop μ-loop
 unfolding lagged
-loop-holds c = (omega arith, refl, refl)
+loop-holds c = (omega arith, refl, refl, refl)
 
 step-requires : tie.Need-step-requires Inv-loop μ-loop
 step-requires c κs =
-    let z = c .before .before .before .before .before .before in
-    (same-reach (z .loop .inv .1) (z .before .before .before .pre .0), omega arith)
+    let z = c .before .before .before .before .before .before .before in
+    (same-reach (z .loop .inv .1) (z .before .before .before .before .pre .0), omega arith)
 
 add-k : tie.Need-add-k Inv-loop μ-loop
 add-k c = search needs
@@ -40,23 +41,26 @@ loop-less c = search needs
 
 loop-again : tie.Need-loop-again Inv-loop μ-loop
 loop-again c =
-    let p = c .before .before in
-    let array = p .before .before .before .before in
-    let z = array .before .before .before in
-    let a = z .before .before .before .args in (
+    let p = c .before .before .before .before in
+    let z = p .before .before .before .before .before .before .before .before in
+    let a = z .before .before .before .before .args in (
       omega arith,
       p .step .kept .0 ∙ z .loop .inv .1,
-      lagged-on (a .m .now) (a .s .now) (z .loop .k) (p .step .ensures) (z .loop .inv .2),
+      p .step .kept .1 .1 .0 ∙ z .loop .inv .2,
+      lagged-on (a .t) (record { words = a .m .now; memory = a .memory .now }) (a .s .now) (z .loop .k) (p .step .ensures) (z .loop .inv .3),
     )
 
 same-length : tie.Need-same-length Inv-loop μ-loop
 same-length c = search needs
 
+same-length-2 : tie.Need-same-length-2 Inv-loop μ-loop
+same-length-2 c = search needs
+
 returns : tie.Need-returns Inv-loop μ-loop
 returns c =
     let z = c .before in
-    let a = z .before .before .before .args in
-    stage-end (a .m .now) (a .s .now) (a .n) (z .loop .k) (omega arith) (z .loop .inv .2)
+    let a = z .before .before .before .before .args in
+    stage-end (a .t) (record { words = a .m .now; memory = a .memory .now }) (a .s .now) (a .n) (z .loop .k) (omega arith) (z .loop .inv .3)
 
 pub modifiers-spec : {M : Type 1} → statement M
 modifiers-spec =
@@ -72,4 +76,5 @@ modifiers-spec =
     loop-less
     loop-again
     same-length
+    same-length-2
     returns)

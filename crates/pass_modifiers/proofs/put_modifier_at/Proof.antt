@@ -1,4 +1,4 @@
--- `put_modifier_at` meets its contract: what is written in the part that is lent is written in the machine.
+-- `put_modifier_at` meets its contract: what is written in the part that is handed on is written in the machine.
 use native.Mathlib.Omega.{arith}
 use Rattle.pass_model.proofs.Registers.{put-back}
 use borrow.Author.Needs.{needs}

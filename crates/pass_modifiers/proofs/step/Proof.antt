@@ -1,5 +1,8 @@
 -- `step` meets its contract: the promises of its calls, one after the other.
+use native.Mathlib.Omega.{arith}
+use Rattle.modifier.specs.Modifier.{Ranged}
 use Rattle.modifier.proofs.Low.{loaded-ranged}
+use Rattle.layout.proofs.Reach.{same-reach}
 use Rattle.pass_model.specs.Modifiers.{modifierOf}
 use Rattle.pass_modifiers.specs.Loops.{lagStep}
 use Rattle.pass_model.proofs.Modifiers.{turn-seen-low}
@@ -15,15 +18,26 @@ modifier-at-requires c κs = search needs
 
 turned-requires : tie.Need-turned-requires
 unfolding modifierOf
-turned-requires c κs = rw (c .before .before .modifier-at .ensures) (loaded-ranged _)
+turned-requires c κs = (search needs, rw (c .before .before .before .modifier-at .ensures) (loaded-ranged _))
 
 put-modifier-at-requires : tie.Need-put-modifier-at-requires
 put-modifier-at-requires c κs = search needs
 
+delay-turn-requires : tie.Need-delay-turn-requires
+delay-turn-requires c κs =
+    let p = c .before .before .before .before in
+    let t = p .before .before .before in
+    let u = t .before .before .before .before in
+    let start = u .before .before .before .before .before .before .before .before in
+    let low : Ranged (t .turned .result .unit) = rw (t .turned .ensures, u .modifier-at .ensures) (turn-seen-low _ _ _ _ _ _ .ranged) in
+    (same-reach (p .put-modifier-at .kept .0) (start .pre .0), omega (arith, low))
+
 put-requires : tie.Need-put-requires
 put-requires c κs =
-    let t = c .before .before .before .before .before .before in
-    rw (t .turned .ensures, t .before .before .before .modifier-at .ensures) (turn-seen-low _ _ _ _ _ .s-low)
+    let d = c .before .before .before .before .before in
+    let p = d .before .before .before .before .before in
+    let t = p .before .before .before in
+    rw (t .turned .ensures, t .before .before .before .before .modifier-at .ensures) (turn-seen-low _ _ _ _ _ _ .s-low)
 
 mul-msums : tie.Need-mul-msums
 mul-msums c = search needs
@@ -40,13 +54,18 @@ element-write-lefts c = search needs
 same-length : tie.Need-same-length
 same-length c = search needs
 
+same-length-2 : tie.Need-same-length-2
+same-length-2 c = search needs
+
 returns : tie.Need-returns
 unfolding lagStep
 returns c =
-    let p = c .before .before .before .before in
+    let d = c .before .before .before .before .before .before in
+    let p = d .before .before .before .before .before in
     let t = p .before .before .before in
-    let u = t .before .before .before in
+    let u = t .before .before .before .before in
     rw (
+      d .delay-turn .ensures,
       c .put .ensures .1,
       c .put .ensures .0,
       p .put-modifier-at .ensures,
@@ -63,10 +82,12 @@ step-spec =
     modifier-at-requires
     turned-requires
     put-modifier-at-requires
+    delay-turn-requires
     put-requires
     mul-msums
     element-write-msums
     mul-lefts
     element-write-lefts
     same-length
+    same-length-2
     returns)

@@ -7,8 +7,8 @@ use Rattle.pass_modifiers.proofs.turned.Tie as tie
 index-1-late : tie.Need-index-1-late
 index-1-late c = search needs
 
-look-requires : tie.Need-look-requires
-look-requires c κs = search needs
+beside-requires : tie.Need-beside-requires
+beside-requires c κs = search needs
 
 function-requires : tie.Need-function-requires
 function-requires c κs = search needs
@@ -16,8 +16,8 @@ function-requires c κs = search needs
 reads-late-requires : tie.Need-reads-late-requires
 reads-late-requires c κs = search needs
 
-look-requires-2 : tie.Need-look-requires-2
-look-requires-2 c κs = search needs
+look-requires : tie.Need-look-requires
+look-requires c κs = search needs
 
 turn-requires : tie.Need-turn-requires
 turn-requires c κs = search needs
@@ -27,10 +27,10 @@ unfolding turnSeen
 returns c =
     let l = c .before in
     let r = l .before .before in
-    rw (c .turn .ensures, l .look2 .ensures .is, r .before .before .look .ensures .is, ← (r .before .function .ensures), ← (r .reads-late .ensures), l .before .if1 .taken)
+    rw (c .turn .ensures, l .look .ensures .is, r .before .before .beside .ensures .is, ← (r .before .function .ensures), ← (r .reads-late .ensures), l .before .if1 .taken)
 
-look-requires-3 : tie.Need-look-requires-3
-look-requires-3 c κs = search needs
+look-requires-2 : tie.Need-look-requires-2
+look-requires-2 c κs = search needs
 
 turn-requires-2 : tie.Need-turn-requires-2
 turn-requires-2 c κs = search needs
@@ -40,19 +40,19 @@ unfolding turnSeen
 returns-2 c =
     let l = c .before in
     let r = l .before .before in
-    rw (c .turn2 .ensures, l .look3 .ensures .is, r .before .before .look .ensures .is, ← (r .before .function .ensures), ← (r .reads-late .ensures), l .before .if1 .left)
+    rw (c .turn2 .ensures, l .look2 .ensures .is, r .before .before .beside .ensures .is, ← (r .before .function .ensures), ← (r .reads-late .ensures), l .before .if1 .left)
 
 pub turned-spec : {M : Type 1} → statement M
 turned-spec =
     tie.close
     (tie.spec
     index-1-late
-    look-requires
+    beside-requires
     function-requires
     reads-late-requires
-    look-requires-2
+    look-requires
     turn-requires
     returns
-    look-requires-3
+    look-requires-2
     turn-requires-2
     returns-2)

@@ -1,4 +1,4 @@
--- `ring` meets its contract: what was read has the lengths that the parts lent need.
+-- `ring` meets its contract: what was read has the lengths that the parts handed over need.
 -- Assumes nothing.
 use Prim.Native.Nat.{ℕ}
 use lib.ListN.{replicate, length-replicate}
@@ -34,6 +34,9 @@ part-ring-all-end c =
     let file = c .before .before .before .before in
     read-within (file .before .before .before .before .args .text .now) (replicate machineLength 0) (replicate commandPlaces 0) (length-replicate {A = ℕ} commandPlaces 0) (file .read .ensures)
 
+slice-aggregate-ring-all-2 : tie.Need-slice-aggregate-ring-all-2
+slice-aggregate-ring-all-2 c = search needs
+
 ring-all-requires : tie.Need-ring-all-requires
 ring-all-requires c κs = search needs
 
@@ -51,5 +54,6 @@ ring-spec =
     sub-ring-all
     part-ring-all-start
     part-ring-all-end
+    slice-aggregate-ring-all-2
     ring-all-requires
     returns-2)

@@ -1,47 +1,56 @@
--- `ring_all` meets its contract: each part leaves fewer passes.
+-- `ring_all` meets its contract: each part leaves fewer passes, and the machine and delay memory keep their lengths.
 -- Assumes nothing.
 use mathlib.Core.Path.{_≡_, refl, _∙_}
 use lib.ListN.{length}
-use borrow.Author.Needs.{needs}
 use Rattle.bench_ringing.specs.Steps.{ringingAt}
 use Rattle.ring.proofs.Parts.{part-falls}
+use borrow.Author.Needs.{needs}
 use Rattle.ring.proofs.ring_all.Statement.{statement}
 use Rattle.ring.proofs.ring_all.Tie as tie
 
 abbrev Inv-loop : tie.InvT-loop
-Inv-loop m₀ commands passes at₀ m at = length m ≡ length m₀
+Inv-loop m₀ commands memory₀ passes at₀ m memory at = (length m ≡ length m₀) × (length memory ≡ length memory₀)
 
 abbrev μ-loop : tie.MeasureT-loop
-μ-loop m₀ commands passes at₀ m at = at .passes
+μ-loop m₀ commands memory₀ passes at₀ m memory at = at .passes
 
 loop-holds : tie.Need-loop-holds Inv-loop μ-loop
-loop-holds c = refl
+loop-holds c = (refl, refl)
 
 ring-part-requires : tie.Need-ring-part-requires Inv-loop μ-loop
 ring-part-requires c κs = search needs
 
 same-length : tie.Need-same-length Inv-loop μ-loop
 same-length c =
-    let part = c .before .before .before .before in
-    part .ring-part .kept .1 .0 ∙ part .before .before .before .before .loop .inv
+    let part = c .before .before .before .before .before .before in
+    part .ring-part .kept .1 .0 ∙ part .before .before .before .before .before .loop .inv .0
+
+same-length-2 : tie.Need-same-length-2 Inv-loop μ-loop
+same-length-2 c =
+    let part = c .before .before .before .before .before .before in
+    part .ring-part .kept .1 .1 .1 .0 ∙ part .before .before .before .before .before .loop .inv .1
 
 returns : tie.Need-returns Inv-loop μ-loop
 returns c = search needs
 
 loop-less : tie.Need-loop-less Inv-loop μ-loop
 loop-less c =
-    let part = c .before .before .before .before .before in
-    let test = part .before .before in
+    let part = c .before .before .before .before .before .before .before in
+    let test = part .before .before .before in
     let turn = test .before .before in
-    part-falls (ringingAt (turn .loop .at) (turn .loop .m) (turn .before .before .before .args .commands .now)) (test .if1 .taken) (part .ring-part .ensures)
+    part-falls (ringingAt (turn .loop .at) (turn .loop .m) (turn .loop .memory) (turn .before .before .before .before .args .commands .now)) (test .if1 .taken) (part .ring-part .ensures)
 
 loop-again : tie.Need-loop-again Inv-loop μ-loop
 loop-again c =
-    let part = c .before .before .before .before .before in
-    part .ring-part .kept .1 .0 ∙ part .before .before .before .before .loop .inv
+    let part = c .before .before .before .before .before .before .before in
+    let turn = part .before .before .before .before .before in
+    (part .ring-part .kept .1 .0 ∙ turn .loop .inv .0, part .ring-part .kept .1 .1 .1 .0 ∙ turn .loop .inv .1)
 
-same-length-2 : tie.Need-same-length-2 Inv-loop μ-loop
-same-length-2 c = c .before .before .loop .inv
+same-length-3 : tie.Need-same-length-3 Inv-loop μ-loop
+same-length-3 c = c .before .before .loop .inv .0
+
+same-length-4 : tie.Need-same-length-4 Inv-loop μ-loop
+same-length-4 c = c .before .before .loop .inv .1
 
 returns-2 : tie.Need-returns-2 Inv-loop μ-loop
 returns-2 c = search needs
@@ -55,8 +64,10 @@ ring-all-spec =
     loop-holds
     ring-part-requires
     same-length
+    same-length-2
     returns
     loop-less
     loop-again
-    same-length-2
+    same-length-3
+    same-length-4
     returns-2)

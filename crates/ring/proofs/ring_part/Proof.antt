@@ -21,15 +21,19 @@ part-write-all-start c = search needs
 
 part-write-all-end : tie.Need-part-write-all-end
 part-write-all-end c =
-    let part = c .before .before .before .before in
-    let a = part .before .before .before .before .before .args in
-    gathered-within (replicate 8192 0) (ringingAt (a .at) (a .m .now) (a .commands .now)) (part .gather .ensures .0) (part .gather .ensures .1 .0)
+    let part = c .before .before .before .before .before .before in
+    let known = part .before .before .before .before in
+    let a = known .before .before .before .args in
+    gathered-within (replicate 8192 0) (ringingAt (a .at) (a .m .now) (a .memory .now) (a .commands .now)) (part .gather .ensures .0) (part .gather .ensures .1 .0)
 
 write-all-requires : tie.Need-write-all-requires
 write-all-requires c κs = search needs
 
 same-length : tie.Need-same-length
 same-length c = search needs
+
+same-length-2 : tie.Need-same-length-2
+same-length-2 c = search needs
 
 returns : tie.Need-returns
 returns c = search needs
@@ -45,4 +49,5 @@ ring-part-spec =
     part-write-all-end
     write-all-requires
     same-length
+    same-length-2
     returns)

@@ -1,0 +1,36 @@
+-- `delay::Delay::address` meets its contract: the argument fits, and the rest is the definition.
+-- Assumes nothing.
+use borrow.Author.Needs.{needs}
+use native.Mathlib.Omega.{arith}
+use lib.Pow.{shr-le}
+use Prim.Native.Nat.{_%_, _^_}
+use Rattle.delay.specs.Delay.{address}
+use Rattle.delay.proofs.Rounding.{rounding-low}
+use Rattle.delay.proofs.Delay.address.Statement.{statement}
+use Rattle.delay.proofs.Delay.address.Tie as tie
+
+shifted-requires : tie.Need-shifted-requires
+shifted-requires c κs = search needs
+
+rounding-requires : tie.Need-rounding-requires
+rounding-requires c κs = search needs
+
+add-argument : tie.Need-add-argument
+add-argument c =
+    let a = c .before .before .before .args in
+    omega (arith, c .before .shifted .ensures, shr-le (a .w) (a .self .z % 2 ^ 4), c .rounding .ensures, rounding-low (a .self) (a .w))
+
+add-wide : tie.Need-add-wide
+add-wide c = search needs
+
+wide-requires : tie.Need-wide-requires
+wide-requires c κs = search needs
+
+returns : tie.Need-returns
+unfolding address
+returns c = rw (c .wide .ensures, c .before .before .before .shifted .ensures, c .before .before .rounding .ensures)
+
+pub address-spec : {M : Type 1} → statement M
+address-spec =
+    tie.close
+    (tie.spec shifted-requires rounding-requires add-argument add-wide wide-requires returns)

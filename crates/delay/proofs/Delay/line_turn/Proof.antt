@@ -1,0 +1,43 @@
+-- `delay::Delay::line_turn` meets its contract: its callees' promises, put together.
+-- Assumes nothing.
+use borrow.Author.Needs.{needs}
+use Rattle.delay.specs.Delay.{lineTurn}
+use Rattle.delay.proofs.Delay.line_turn.Statement.{statement}
+use Rattle.delay.proofs.Delay.line_turn.Tie as tie
+
+slot-requires : tie.Need-slot-requires
+slot-requires c κs = search needs
+
+word-at-requires : tie.Need-word-at-requires
+word-at-requires c κs = search needs
+
+put-requires : tie.Need-put-requires
+put-requires c κs = search needs
+
+stepped-requires : tie.Need-stepped-requires
+stepped-requires c κs = search needs
+
+updated-requires : tie.Need-updated-requires
+updated-requires c κs = search needs
+
+same-length : tie.Need-same-length
+same-length c = search needs
+
+returns : tie.Need-returns
+unfolding lineTurn
+returns c =
+    let put = c .before .before .before .before in
+    let at = put .before .before .before .before in
+    rw (c .updated .ensures, c .before .stepped .ensures, put .put .ensures, put .before .before .word-at .ensures, at .slot .ensures)
+
+pub line-turn-spec : {M : Type 1} → statement M
+line-turn-spec =
+    tie.close
+    (tie.spec
+    slot-requires
+    word-at-requires
+    put-requires
+    stepped-requires
+    updated-requires
+    same-length
+    returns)

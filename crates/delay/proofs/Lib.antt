@@ -1,0 +1,4 @@
+pub mod Rounding
+pub mod Turn
+pub mod Low
+pub mod Returns

@@ -1,0 +1,19 @@
+-- `delay::built_mode` meets its contract: one test over the 16 numbers.
+-- Assumes nothing.
+use borrow.Author.Needs.{needs}
+use mathlib.Core.List.{[], _∷_}
+use Rattle.lists.specs.Lists.{isOneOf}
+use Rattle.lists.proofs.Masks.{tells, bit-tells}
+use Rattle.delay.specs.Delay.{inactive, line, table, roundedTable, builtMode}
+use Rattle.delay.proofs.built_mode.Statement.{statement}
+use Rattle.delay.proofs.built_mode.Tie as tie
+
+shr-result : tie.Need-shr-result
+shr-result c = search needs
+
+returns : tie.Need-returns
+unfolding builtMode tells isOneOf
+returns c = bit-tells _ (inactive ∷ line ∷ table ∷ roundedTable ∷ []) 16 tt (c .args .p) (c .pre)
+
+pub built-mode-spec : {M : Type 1} → statement M
+built-mode-spec = tie.close (tie.spec shr-result returns)

@@ -1,0 +1,42 @@
+-- `delay_questions::mark` meets its contract: the mark is read and set as the definition says.
+-- Assumes nothing.
+use borrow.Author.Needs.{needs}
+use mathlib.Core.Path.{sym, _∙_}
+use borrow.Author.Tests.{not-true, not-false}
+use Rattle.delay_questions.specs.Loops.{unmarked, marked}
+use Rattle.delay_questions.proofs.mark.Statement.{statement}
+use Rattle.delay_questions.proofs.mark.Tie as tie
+
+invokes-requires : tie.Need-invokes-requires
+invokes-requires c κs = search needs
+
+returns : tie.Need-returns
+unfolding unmarked marked
+returns c = let no = sym (c .before .invokes .ensures) ∙ not-true _ (c .if1 .taken) in (rw no, rw no)
+
+named-by-requires : tie.Need-named-by-requires
+named-by-requires c κs = search needs
+
+element-copy-out-free : tie.Need-element-copy-out-free
+element-copy-out-free c = search needs
+
+element-write-marks : tie.Need-element-write-marks
+element-write-marks c = search needs
+
+returns-2 : tie.Need-returns-2
+unfolding unmarked marked
+returns-2 c =
+    let yes = sym (c .before .before .before .invokes .ensures) ∙ not-false _ (c .before .before .if1 .left) in
+    let unit = c .before .named-by .ensures in
+    (rw (unit, yes), rw (unit, yes))
+
+pub mark-spec : {M : Type 1} → statement M
+mark-spec =
+    tie.close
+    (tie.spec
+    invokes-requires
+    returns
+    named-by-requires
+    element-copy-out-free
+    element-write-marks
+    returns-2)

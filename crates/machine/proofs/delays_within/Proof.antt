@@ -1,0 +1,58 @@
+-- `machine::delays_within` meets its contract: the flags are those of the built modes.
+-- Assumes nothing.
+use Prim.Native.Nat.{_+_, _%_}
+use Rattle.lists.specs.Lists.{isOneOf}
+use Rattle.lists.proofs.Below.{both}
+use Rattle.layout.specs.Layout.{delayAt, delayWords, delayP}
+use Rattle.delay.specs.Delay.{builtMode}
+use Rattle.machine_sweep.proofs.Words.{fields-tested}
+use Rattle.machine.specs.Questions.{delayRegisters}
+use Rattle.machine.specs.Loops.{limitsOf, repeated, delaysWithin}
+use Rattle.machine.proofs.Limits.{limits-swept}
+use borrow.Author.Needs.{needs}
+use Rattle.machine.proofs.delays_within.Statement.{statement}
+use Rattle.machine.proofs.delays_within.Tie as tie
+
+delay-limits-requires : tie.Need-delay-limits-requires
+delay-limits-requires c κs = search needs
+
+mul-flags : tie.Need-mul-flags
+mul-flags c = search needs
+
+flags-requires : tie.Need-flags-requires
+flags-requires c κs = search needs
+
+slice-aggregate-swept : tie.Need-slice-aggregate-swept
+slice-aggregate-swept c = search needs
+
+swept-requires : tie.Need-swept-requires
+swept-requires c κs = search needs
+
+add-fields-flagged : tie.Need-add-fields-flagged
+add-fields-flagged c = search needs
+
+fields-flagged-requires : tie.Need-fields-flagged-requires
+fields-flagged-requires c κs = search needs
+
+returns : tie.Need-returns
+unfolding delaysWithin builtMode isOneOf
+returns c =
+    let sweep = c .before .before in
+    let flags = sweep .before .before in
+    let m = flags .before .before .before .args .m .now in
+    both
+    (limits-swept (flags .before .delay-limits .result) (repeated (limitsOf delayRegisters) 28) m (delayAt 0) 1 (sweep .swept .result) (flags .before .delay-limits .ensures) (sweep .swept .ensures))
+    (fields-tested _ (flags .flags .result) (flags .flags .ensures) (λ k. builtMode (k % 16)) tt 0 m (delayAt 0 + delayP) delayWords 32 (c .fields-flagged .result) (c .fields-flagged .ensures))
+
+pub delays-within-spec : {M : Type 1} → statement M
+delays-within-spec =
+    tie.close
+    (tie.spec
+    delay-limits-requires
+    mul-flags
+    flags-requires
+    slice-aggregate-swept
+    swept-requires
+    add-fields-flagged
+    fields-flagged-requires
+    returns)
