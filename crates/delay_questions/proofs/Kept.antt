@@ -1,22 +1,19 @@
--- Questions 11 and 12 ask of T, of the modifiers' MRM and MMODE, and of the units' X, Z, P and Y alone: what keeps them answered yes, and what a yes tells.
+-- Questions 11 and 12 ask of T, of the modifiers' MRM and MMODE, and of the units' X, Z, P and Y alone: what keeps them answered yes.
 -- Assumes nothing.
-use mathlib.Core.Path.{_≡_, refl, sym, _∙_}
+use mathlib.Core.Path.{_≡_, refl}
 use mathlib.Core.Bool.{Bool, true, false, cond, _&&_}
-use mathlib.Core.Logic.{_≢_}
 use Prim.Native.Nat.{ℕ, _+_, _/_, _≤_, _<_}
 use native.Mathlib.Omega.{arith}
-use borrow.Author.Tests.{ltb-true, leb-true, le-leb, eq-eqb}
+use borrow.Author.Tests.{leb-true, le-leb}
 use lib.Dec.{eqb, leb, ltb}
 use lib.ListN.{getD}
 use Rattle.lists.specs.Lists.{allBelow}
 use Rattle.lists.proofs.Below.{and-first, and-second, and-both, below-at, below-from, below-same}
 use Rattle.layout.specs.Layout.{modifierAt, MMODE, memoryWords}
-use Rattle.layout.specs.Machine.{Machine, Memory, ticksOf}
+use Rattle.layout.specs.Machine.{Machine, mrmAt, ticksOf}
 use Rattle.delay.specs.declared.Delay.{Delay}
-use Rattle.delay.specs.Delay.{line, runs, turnOf}
-use Rattle.delay.proofs.Turn.{x-kept, z-kept, y-within}
-use Rattle.delay_questions.specs.Questions.{mrmAt, invokes, namedBy, delayOf, fits, goodLine, linesGood, apart, namedOnce}
-use Rattle.delay_questions.proofs.Lines.{line-runs}
+use Rattle.delay.specs.Delay.{line, runs}
+use Rattle.delay_questions.specs.Questions.{invokes, namedBy, delayOf, fits, goodLine, linesGood, apart, namedOnce}
 
 -- Two machines with the same T, and the same MRM and MMODE in every modifier that a pass takes.
 pub record SameModifiers (m n : Machine) : Type 0 where
@@ -29,16 +26,13 @@ pub runs-by-mode : (t u : ℕ) (d e : Delay) → e .p ≡ d .p → runs t u e �
 unfolding runs
 runs-by-mode t u d e p = rw p
 
--- A line still fits where X and Z are the same, and Y is still at most Z; so it does after a turn.
+-- A line still fits where X and Z are the same, and Y is still at most Z.
 pub fits-kept : (d e : Delay) → e .x ≡ d .x → e .z ≡ d .z → (d .y ≤ d .z → e .y ≤ d .z) → fits d ≡ true → fits e ≡ true
 fits-kept d e x z y h =
     rw (x, z)
     (and-both (ltb (d .x + d .z) memoryWords) (leb (e .y) (d .z))
     (and-first (ltb (d .x + d .z) memoryWords) (leb (d .y) (d .z)) h)
     (le-leb (e .y) (d .z) (y (leb-true (d .y) (d .z) (and-second (ltb (d .x + d .z) memoryWords) (leb (d .y) (d .z)) h)))))
-
-pub turn-fits : (d : Delay) (memory : Memory) (w : ℕ) → fits d ≡ true → fits (turnOf d memory w .unit) ≡ true
-turn-fits d memory w h = fits-kept d (turnOf d memory w .unit) (x-kept d memory w) (z-kept d memory w) (y-within d memory w) h
 
 module _ (m n : Machine) (s : SameModifiers m n) where
   -- Question 12 is answered alike.
@@ -80,29 +74,3 @@ module _ (m n : Machine) (s : SameModifiers m n) where
       rw (s .ticks)
       (below-from (goodLine n) (ticksOf m / 2)
       (λ k h. good-line-kept k h (p (namedBy m k) (omega arith)) (f (namedBy m k) (omega arith)) (below-at (goodLine m) (ticksOf m / 2) e k h)))
-
--- What a yes tells: a line that runs fits, and two modifiers that invoke units invoke two units.
-pub line-fits : (m : Machine) → linesGood m ≡ true → (k : ℕ) → k < ticksOf m / 2 → invokes m k ≡ true → delayOf m (namedBy m k) .p ≡ line
-    → runs (ticksOf m) (namedBy m k) (delayOf m (namedBy m k)) ≡ true → fits (delayOf m (namedBy m k)) ≡ true
-unfolding linesGood
-line-fits m e k h i p r = sym (line-runs m k i p r) ∙ below-at (goodLine m) (ticksOf m / 2) e k h
-
-pub fits-tells : (d : Delay) → fits d ≡ true → (d .x + d .z < memoryWords) × (d .y ≤ d .z)
-fits-tells d e = (
-  ltb-true (d .x + d .z) memoryWords (and-first (ltb (d .x + d .z) memoryWords) (leb (d .y) (d .z)) e),
-  leb-true (d .y) (d .z) (and-second (ltb (d .x + d .z) memoryWords) (leb (d .y) (d .z)) e),
-)
-
-pub named-apart : (m : Machine) → namedOnce m ≡ true → (j k : ℕ) → j < k → k < ticksOf m / 2 → invokes m j ≡ true → invokes m k ≡ true
-    → namedBy m j ≢ namedBy m k
-unfolding namedOnce apart
-named-apart m e j k l h ij ik q = absurd (never (sym both-named ∙ passes))
-  where
-    passes : apart m j k ≡ true
-    passes = below-at (λ j. apart m j k) k (below-at (λ k. allBelow (λ j. apart m j k) k) (ticksOf m / 2) e k h) j l
-
-    both-named : apart m j k ≡ false
-    both-named = rw (ij, ik, eq-eqb (namedBy m j) (namedBy m k) q)
-
-    never : false ≡ true → ⊥
-    never f = let z : _≡_ {A = ℕ} 0 1 = cc in omega arith

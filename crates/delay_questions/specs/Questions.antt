@@ -5,9 +5,9 @@ use mathlib.Core.Bool.{Bool, true, cond, not, _&&_}
 use lib.Dec.{eqb, leb, ltb}
 use lib.ListN.{length, getD, drop}
 use Rattle.lists.specs.Lists.{allBelow}
-use Rattle.layout.specs.Layout.{modifierAt, MRM, MMODE, delayAt, memoryWords}
+use Rattle.layout.specs.Layout.{delayAt, memoryWords}
 use Rattle.layout.specs.Widths.{wordBits}
-use Rattle.layout.specs.Machine.{Machine, Memory, ticksOf}
+use Rattle.layout.specs.Machine.{Machine, Memory, ticksOf, mrmAt, functionAt}
 use Rattle.questions.specs.Questions.{Question}
 use Rattle.delay.specs.declared.Delay.{Delay}
 use Rattle.delay.specs.Delay.{loaded, line, runs}
@@ -19,13 +19,6 @@ memoryGood memory = eqb (length memory) memoryWords && allBelow (λ i. ltb (getD
 -- Question 10.
 abbrev pub question10 : Memory → Question
 question10 memory = record { number = 10; yes = memoryGood memory }
-
--- MRM of modifier k, and its function, the left 5 of MMODE's 9 bits.
-abbrev pub mrmAt : Machine → ℕ → ℕ
-mrmAt m k = getD m (modifierAt k + MRM) 0
-
-abbrev pub functionAt : Machine → ℕ → ℕ
-functionAt m k = getD m (modifierAt k + MMODE) 0 / 2 ^ 4
 
 -- Whether modifier k invokes a delay unit, and the unit that it names: MRM's low 5 bits.
 abbrev pub invokes : Machine → ℕ → Bool

@@ -3,7 +3,7 @@
 use Prim.Native.Nat.{ℕ, _+_, _/_, _%_, _^_, _≤_}
 use mathlib.Core.List.{List}
 use lib.ListN.{length, getD}
-use Rattle.layout.specs.Layout.{machineLength, generatorAt, tAt, GSUM, GFM, GMODE}
+use Rattle.layout.specs.Layout.{machineLength, generatorAt, modifierAt, tAt, GSUM, GFM, GMODE, MRM, MMODE}
 
 -- The words of a machine; an order of the generators, by number; read items; places for written items; commands.
 abbrev pub Machine : Type 0
@@ -52,3 +52,10 @@ runModeAt m g = gmodeAt m g / 2 ^ 6
 
 abbrev pub dacNumberAt : Machine → ℕ → ℕ
 dacNumberAt m g = getD m (generatorAt g) 0 % 2 ^ 4
+
+-- MRM of modifier k, and its function, the left 5 of MMODE's 9 bits.
+abbrev pub mrmAt : Machine → ℕ → ℕ
+mrmAt m k = getD m (modifierAt k + MRM) 0
+
+abbrev pub functionAt : Machine → ℕ → ℕ
+functionAt m k = getD m (modifierAt k + MMODE) 0 / 2 ^ 4

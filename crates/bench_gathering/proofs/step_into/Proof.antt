@@ -25,7 +25,8 @@ part-put-end c =
 
 put-requires : tie.Need-put-requires
 put-requires c κs =
-    let done = c .before .before .before .before .before .before .before in
+    let line = c .before in
+    let done = line .before .before .before .before .before .before in
     let known = done .before .before .before .before in
     let start = known .before .before .before .before .before in
     let a = start .args in

@@ -23,8 +23,8 @@ delay-at-requires c κs = search needs
 
 returns-2 : tie.Need-returns-2
 returns-2 c =
-    let a = c .before .before .before .before .before .before .before .args in
     let unit = c .before .before in
+    let a = unit .before .before .before .before .before .args in
     let is = unit-is (a .m .now) (a .k) (unit .before .named-by .ensures) (unit .delay-at .ensures) in
     sym (no-line (a .m .now) (a .k) (λ e. c .if2 .taken (ap (λ (d : Delay). d .p) is ∙ e)))
 
@@ -36,8 +36,8 @@ runs-requires c κs = search needs
 
 returns-3 : tie.Need-returns-3
 returns-3 c =
-    let a = c .before .before .before .before .before .before .before .before .before .before .args in
     let unit = c .before .before .before .before .before in
+    let a = unit .before .before .before .before .before .args in
     let named = unit .before .named-by .ensures in
     let is = unit-is (a .m .now) (a .k) named (unit .delay-at .ensures) in
     sym (acts-inactive (a .m .now) (a .k) (runs-is (a .m .now) (a .k) (c .before .before .ticks .ensures) named is (c .before .runs .ensures) ∙ not-true _ (c .if3 .taken)))
@@ -47,8 +47,8 @@ fits-requires c κs = rw (c .before .before .before .before .before .delay-at .e
 
 returns-4 : tie.Need-returns-4
 returns-4 c =
-    let a = c .before .before .before .before .before .before .before .before .before .before .before .args in
     let unit = c .before .before .before .before .before .before in
+    let a = unit .before .before .before .before .before .args in
     let named = unit .before .named-by .ensures in
     let is = unit-is (a .m .now) (a .k) named (unit .delay-at .ensures) in
     let invoked = sym (unit .before .before .before .invokes .ensures) ∙ not-false _ (unit .before .before .if1 .left) in

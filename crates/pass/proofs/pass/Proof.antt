@@ -28,7 +28,8 @@ run-requires : tie.Need-run-requires
 run-requires c κs =
     let let-through = c .before .before .before in
     let asked = let-through .before in
-    let a = asked .before .before .before .before .before .before .before .before .before .args in
+    let known = asked .before .before .before .before in
+    let a = known .before .before .before .before .before .args in
     let m = a .m .now in
     let o = a .order .now in
     let call : Call = record { order = o; items = a .items .now; places = a .places .now; memory = a .memory .now } in

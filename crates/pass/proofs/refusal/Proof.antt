@@ -75,7 +75,8 @@ returns-5 c =
 
 delay-refusal-requires : tie.Need-delay-refusal-requires
 delay-refusal-requires c κs =
-    let whole = c .before .before .before .before .before .before .before .before .before .before in
+    let needed = c .before .before .before .before .before .before in
+    let whole = needed .before .before .before .before in
     let first = whole .before in
     let a = first .before .before .before .before .before .before .args in
     let passed = sym (first .refusal .ensures) ∙ whole .if1 .left in

@@ -12,63 +12,81 @@ ticks-requires c κs = c .before .before .before .before .before .before .pre .0
 load-requires : tie.Need-load-requires
 load-requires c κs =
     let ticks = c .before in
-    ticks .before .before .before .before .before .before .before .pre .0 .reaches
+    let known = ticks .before in
+    known .before .before .before .before .before .before .pre .0 .reaches
 
 generators-requires : tie.Need-generators-requires
 generators-requires c κs =
     let ticks = c .before .before .before .before .before in
-    let start = ticks .before .before .before .before .before .before .before in
+    let known = ticks .before in
+    let start = known .before .before .before .before .before .before in
     (start .pre .0, start .pre .1 .0)
 
 modifiers-requires : tie.Need-modifiers-requires
 modifiers-requires c κs =
-    let generators = c .before .before .before .before .before .before .before in
+    let handed = c .before .before .before in
+    let generators = handed .before .before .before .before in
     let ticks = generators .before .before .before .before .before .before in
-    let start = ticks .before .before .before .before .before .before .before in
+    let known = ticks .before in
+    let start = known .before .before .before .before .before .before in
     (same-reach (generators .generators .kept .0) (start .pre .0 .reaches), omega (arith, ticks .ticks .ensures, start .pre .1 .1))
 
 close-requires : tie.Need-close-requires
 close-requires c κs =
     let modifiers = c .before .before .before .before .before .before in
-    let generators = modifiers .before .before .before .before .before .before .before .before in
+    let handed = modifiers .before .before .before .before in
+    let generators = handed .before .before .before .before in
     let ticks = generators .before .before .before .before .before .before in
-    let start = ticks .before .before .before .before .before .before .before in
+    let known = ticks .before in
+    let start = known .before .before .before .before .before .before in
     same-reach (modifiers .modifiers .kept .0 ∙ generators .generators .kept .0) (start .pre .0 .reaches)
 
 count-requires : tie.Need-count-requires
 count-requires c κs =
     let close = c .before .before .before in
-    let modifiers = close .before .before .before .before .before .before .before in
-    let generators = modifiers .before .before .before .before .before .before .before .before in
+    let called = close .before .before .before in
+    let modifiers = called .before .before .before .before in
+    let handed = modifiers .before .before .before .before in
+    let generators = handed .before .before .before .before in
     let ticks = generators .before .before .before .before .before .before in
-    let start = ticks .before .before .before .before .before .before .before in
+    let known = ticks .before in
+    let start = known .before .before .before .before .before .before in
     same-reach (close .close .kept .0 ∙ (modifiers .modifiers .kept .0 ∙ generators .generators .kept .0)) (start .pre .0 .reaches)
 
 same-length : tie.Need-same-length
 same-length c =
     let count = c .before .before in
     let close = count .before .before .before .before in
-    let modifiers = close .before .before .before .before .before .before .before in
-    let generators = modifiers .before .before .before .before .before .before .before .before in
+    let called = close .before .before .before in
+    let modifiers = called .before .before .before .before in
+    let handed = modifiers .before .before .before .before in
+    let generators = handed .before .before .before .before in
     count .count .kept .0 ∙ (close .close .kept .0 ∙ (modifiers .modifiers .kept .0 ∙ generators .generators .kept .0))
 
 same-length-2 : tie.Need-same-length-2
 same-length-2 c =
-    let modifiers = c .before .before .before .before .before .before .before .before .before .before .before .before .before in
-    let generators = modifiers .before .before .before .before .before .before .before .before in
+    let close = c .before .before .before .before .before .before in
+    let called = close .before .before .before in
+    let modifiers = called .before .before .before .before in
+    let handed = modifiers .before .before .before .before in
+    let generators = handed .before .before .before .before in
     generators .generators .kept .1 .1 .1 .1 .0
 
 same-length-3 : tie.Need-same-length-3
 same-length-3 c =
-    let modifiers = c .before .before .before .before .before .before .before .before .before .before .before .before .before in
+    let close = c .before .before .before .before .before .before in
+    let called = close .before .before .before in
+    let modifiers = called .before .before .before .before in
     modifiers .modifiers .kept .1 .1 .0
 
 returns : tie.Need-returns
 returns c =
     let count = c .before .before in
     let close = count .before .before .before .before in
-    let modifiers = close .before .before .before .before .before .before .before in
-    let generators = modifiers .before .before .before .before .before .before .before .before in
+    let called = close .before .before .before in
+    let modifiers = called .before .before .before .before in
+    let handed = modifiers .before .before .before .before in
+    let generators = handed .before .before .before .before in
     let load = generators .before .before .before .before in
     let ticks = load .before .before in
     ran-by _ _ _ _ _ (ticks .ticks .ensures) (load .load .ensures) (generators .generators .ensures) (modifiers .modifiers .ensures) (close .close .ensures) (count .count .ensures)

@@ -30,7 +30,8 @@ loop-holds c = (omega arith, refl, refl, refl)
 
 step-requires : tie.Need-step-requires Inv-loop μ-loop
 step-requires c κs =
-    let z = c .before .before .before .before .before .before .before in
+    let called = c .before .before .before in
+    let z = called .before .before .before .before in
     (same-reach (z .loop .inv .1) (z .before .before .before .before .pre .0), omega arith)
 
 add-k : tie.Need-add-k Inv-loop μ-loop
@@ -42,7 +43,8 @@ loop-less c = search needs
 loop-again : tie.Need-loop-again Inv-loop μ-loop
 loop-again c =
     let p = c .before .before .before .before in
-    let z = p .before .before .before .before .before .before .before .before in
+    let handed = p .before .before .before .before in
+    let z = handed .before .before .before .before in
     let a = z .before .before .before .before .args in (
       omega arith,
       p .step .kept .0 ∙ z .loop .inv .1,

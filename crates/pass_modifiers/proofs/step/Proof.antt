@@ -28,7 +28,8 @@ delay-turn-requires c κs =
     let p = c .before .before .before .before in
     let t = p .before .before .before in
     let u = t .before .before .before .before in
-    let start = u .before .before .before .before .before .before .before .before in
+    let known = u .before .before .before in
+    let start = known .before .before .before .before .before in
     let low : Ranged (t .turned .result .unit) = rw (t .turned .ensures, u .modifier-at .ensures) (turn-seen-low _ _ _ _ _ _ .ranged) in
     (same-reach (p .put-modifier-at .kept .0) (start .pre .0), omega (arith, low))
 

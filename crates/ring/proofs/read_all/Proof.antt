@@ -47,13 +47,15 @@ same-length-2 c = search needs
 
 returns-2 : tie.Need-returns-2 Inv-loop μ-loop
 returns-2 c =
-    let loop = c .before .before .before .before .before .before .before .before .before .loop in
+    let part = c .before .before .before .before .before .before in
+    let loop = part .before .before .before .loop in
     bytes-within (omega (arith, loop .inv .1, c .before .before .before .before .before .buffer .given .1))
 
 add-n : tie.Need-add-n Inv-loop μ-loop
 add-n c =
-    let loop = c .before .before .before .before .before .before .before .before .before .loop in
-    let read = c .before .before .before .before .before .before .read-some in
+    let part = c .before .before .before .before .before .before in
+    let loop = part .before .before .before .loop in
+    let read = part .read-some in
     let back = c .before .before .before .before .before .buffer .given in
     let got = c .before .before .got .given in
     let more = more-within (loop .buffer) (read .last .0) (loop .n) (got .0 .0) (loop .inv .1) (back .0) (read .ensures (got .0 .0) (got .1)) in
@@ -64,8 +66,9 @@ loop-less c = omega (arith, c .before .before .before .before .before .buffer .g
 
 loop-again : tie.Need-loop-again Inv-loop μ-loop
 loop-again c =
-    let loop = c .before .before .before .before .before .before .before .before .before .loop in
-    let read = c .before .before .before .before .before .before .read-some in
+    let part = c .before .before .before .before .before .before in
+    let loop = part .before .before .before .loop in
+    let read = part .read-some in
     let back = c .before .before .before .before .before .buffer .given in
     let got = c .before .before .got .given in
     let more = more-within (loop .buffer) (read .last .0) (loop .n) (got .0 .0) (loop .inv .1) (back .0) (read .ensures (got .0 .0) (got .1)) in

@@ -35,14 +35,16 @@ returns c = search needs
 
 loop-less : tie.Need-loop-less Inv-loop μ-loop
 loop-less c =
-    let part = c .before .before .before .before .before .before .before in
+    let next = c .before in
+    let part = next .before .before .before .before .before .before in
     let test = part .before .before .before in
     let turn = test .before .before in
     part-falls (ringingAt (turn .loop .at) (turn .loop .m) (turn .loop .memory) (turn .before .before .before .before .args .commands .now)) (test .if1 .taken) (part .ring-part .ensures)
 
 loop-again : tie.Need-loop-again Inv-loop μ-loop
 loop-again c =
-    let part = c .before .before .before .before .before .before .before in
+    let next = c .before in
+    let part = next .before .before .before .before .before .before in
     let turn = part .before .before .before .before .before in
     (part .ring-part .kept .1 .0 ∙ turn .loop .inv .0, part .ring-part .kept .1 .1 .1 .0 ∙ turn .loop .inv .1)
 

@@ -27,21 +27,24 @@ most-commands-requires c κs = let test = c .before .before in passes-reach _ (t
 
 slice-write-m : tie.Need-slice-write-m
 slice-write-m c =
-    let start = c .before .before .before .before .before .before .before in
+    let going = c .before .before in
+    let start = going .before .before .before .before .before in
     let r = passes-reach (start .args .m .now) (start .pre) in
     omega (arith, r .all)
 
 run-requires : tie.Need-run-requires
 run-requires c κs =
     let most = c .before .before in
-    let start = most .before .before .before .before .before .before .before in
+    let going = most .before .before in
+    let start = going .before .before .before .before .before in
     same-reach (length-set (start .args .m .now) lingeringAt 0) (passes-reach (start .args .m .now) (start .pre))
 
 same-length-2 : tie.Need-same-length-2
 same-length-2 c =
     let ran = c .before .before in
     let most = ran .before .before .before in
-    let start = most .before .before .before .before .before .before .before in
+    let going = most .before .before in
+    let start = going .before .before .before .before .before in
     ran .run .kept .0 ∙ length-set (start .args .m .now) lingeringAt 0
 
 returns-2 : tie.Need-returns-2
