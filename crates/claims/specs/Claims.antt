@@ -13,7 +13,8 @@ use Rattle.questions.specs.Questions.{asked}
 use Rattle.modes.specs.Modes.{readData, writeData}
 use Rattle.machine.specs.Questions.{freshMachine}
 use Rattle.delay.specs.declared.Delay.{Delay}
-use Rattle.delay.specs.Delay.{line, due, slot, address}
+use Rattle.built_codes.specs.BuiltCodes.{line}
+use Rattle.delay.specs.Delay.{due, slot, address}
 use Rattle.delay.specs.Turns.{Turns, OnlyTurnsWrite}
 use Rattle.delay_questions.specs.Questions.{memoryGood, question11, question12}
 use Rattle.order.specs.Order.{question5, question6, inMode}

@@ -6,7 +6,7 @@ use Prim.Native.Nat.{ℕ, _/_, _%_}
 use native.Mathlib.Omega.{arith}
 use borrow.Author.Tests.{lt-ltb}
 use Rattle.modes.specs.Modes.{builtRun, builtOscillator}
-use Rattle.modifier_turn.specs.Turn.{builtFunction}
+use Rattle.built_codes.specs.BuiltCodes.{builtFunction}
 use Rattle.machine.specs.Questions.{goodAddress}
 use Rattle.command_fields.specs.Fields.{field, flag}
 use Rattle.command_built.specs.Built.{builtGMODE, builtMMODE, builtMRM}

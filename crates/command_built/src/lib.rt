@@ -16,7 +16,7 @@ fn built_gmode(c: u32) -> bool
 fn built_mmode(c: u32) -> bool
     ensures { λ r. ⌜ r ≡ builtMMODE c ⌝ }
 {
-    flag(c, 4) | modifier_turn::built_function(field(c, 8, 12))
+    flag(c, 4) | built_codes::built_function(field(c, 8, 12))
 }
 
 // MRM and MIN, each disabled or without top bits 11.

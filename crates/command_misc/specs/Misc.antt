@@ -6,8 +6,7 @@ use lib.Dec.{eqb}
 use lib.ListN.{set}
 use Rattle.layout.specs.Layout.{generatorAt, dxAt, GMODE}
 use Rattle.layout.specs.Machine.{Machine, gmodeAt, runModeAt}
-use Rattle.modes.specs.Modes.{pause, wait, runningA}
-use Rattle.generator.specs.Generator.{withRunMode}
+use Rattle.modes.specs.Modes.{pause, wait, runningA, withRunMode}
 use Rattle.command_fields.specs.Fields.{field, flag, dataOf}
 
 -- Generator g goes to 1111 if it is in run mode r, its other mode bits kept.

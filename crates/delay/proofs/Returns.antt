@@ -12,7 +12,8 @@ use lib.ListN.{length, getD}
 use lib.Seq.{getD-set-same, getD-set-other}
 use Rattle.layout.specs.Machine.{Memory}
 use Rattle.delay.specs.declared.Delay.{Delay}
-use Rattle.delay.specs.Delay.{line, due, slot, address}
+use Rattle.built_codes.specs.BuiltCodes.{line}
+use Rattle.delay.specs.Delay.{due, slot, address}
 use Rattle.delay.specs.Turns.{Turns, OnlyTurnsWrite}
 use Rattle.delay.proofs.Turn.{x-kept, z-kept, p-kept, second-moves, line-y, line-second, line-memory, table-second, table-third}
 

@@ -9,7 +9,8 @@ use borrow.Author.Tests.{eq-eqb, ne-eqb}
 use lib.Dec.{eqb, lit<}
 use Rattle.lists.proofs.Choices.{of-cond}
 use Rattle.delay.specs.declared.Delay.{Delay}
-use Rattle.delay.specs.Delay.{roundedTable, places, rounding}
+use Rattle.built_codes.specs.BuiltCodes.{roundedTable}
+use Rattle.delay.specs.Delay.{places, rounding}
 
 module _ (d : Delay) (w : ℕ) where
   -- Nothing where nothing is shifted out, and nothing where the table isn't rounded.

@@ -10,7 +10,8 @@ use lib.ListN.{length, getD, set, length-set}
 use Rattle.lists.proofs.Choices.{of-cond, of-test}
 use Rattle.layout.specs.Machine.{Memory}
 use Rattle.delay.specs.declared.Delay.{Delay}
-use Rattle.delay.specs.Delay.{line, slot, stepped, address, After, lineTurn, tableTurn, turnOf}
+use Rattle.built_codes.specs.BuiltCodes.{line}
+use Rattle.delay.specs.Delay.{slot, stepped, address, After, lineTurn, tableTurn, turnOf}
 
 module _ (d : Delay) (memory : Memory) (w : ℕ) where
   -- A line's turn is that of mode 1000, and every other mode's is a table's.

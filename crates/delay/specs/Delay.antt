@@ -5,28 +5,11 @@ use mathlib.Core.Bool.{Bool, cond, not, _&&_}
 use mathlib.Core.List.{List, [], _∷_}
 use lib.Dec.{eqb, leb, ltb}
 use lib.ListN.{getD, set}
-use Rattle.lists.specs.Lists.{isOneOf}
 use Rattle.layout.specs.Layout.{delayX, delayY, delayZ, delayP, delayFirst, delaySecond, delayThird, memoryWords}
 use Rattle.layout.specs.Widths.{delayBits, delayModeBits, wordBits}
 use Rattle.layout.specs.Machine.{Machine, Memory}
+use Rattle.built_codes.specs.BuiltCodes.{inactive, line, roundedTable}
 use Rattle.delay.specs.declared.Delay.{Delay}
-
--- The modes P.
-abbrev pub inactive : ℕ
-inactive = 0b0000
-
-abbrev pub line : ℕ
-line = 0b1000
-
-abbrev pub table : ℕ
-table = 0b1010
-
-abbrev pub roundedTable : ℕ
-roundedTable = 0b1011
-
--- Whether a mode is built.
-unfoldable pub builtMode : ℕ → Bool
-builtMode p = isOneOf p (inactive ∷ line ∷ table ∷ roundedTable ∷ [])
 
 -- The delay unit whose seven words a part of the machine starts with, each register at its width.
 unfoldable pub loaded : List ℕ → Delay

@@ -1,8 +1,8 @@
 // One delay unit by value: its registers, and its turn on delay memory.
 ghost use mathlib.Core.Path.{_≡_};
 ghost use Prim.Native.Nat.{_≤_, _<_, _/_, _^_};
-ghost use lib.ListN.{length, getD, set};
-ghost use Rattle.delay.specs.Delay.{builtMode, loaded, stored, updated, Ranged, runs, slot, stepped, lineTurn, rounding, address, tableTurn, turnOf};
+ghost use lib.ListN.{length};
+ghost use Rattle.delay.specs.Delay.{loaded, stored, updated, Ranged, runs, slot, stepped, lineTurn, rounding, address, tableTurn, turnOf};
 
 // The modes P.
 pub const INACTIVE: u32 = 0b0000;
@@ -13,9 +13,6 @@ pub const TABLE: u32 = 0b1010;
 
 pub const ROUNDED_TABLE: u32 = 0b1011;
 
-// The built modes: bit p is 1 where mode p is built.
-pub const BUILT_MODE: u32 = 0b0000_1101_0000_0001;
-
 pub struct Delay {
     pub x: u32,
     pub y: u32,
@@ -24,30 +21,6 @@ pub struct Delay {
     pub first: u32,
     pub second: u32,
     pub third: u32,
-}
-
-// Whether a mode is built.
-pub fn built_mode(p: u32) -> bool
-    requires { ⌜ p < 16 ⌝ }
-    ensures { λ r. ⌜ r ≡ builtMode p ⌝ }
-{
-    (BUILT_MODE >> p) % 2 == 1
-}
-
-// A word of delay memory, and 0 past its end.
-fn word_at(memory: &[u32], at: usize) -> u32
-    ensures { λ r. ⌜ r ≡ getD (now (memory .entry)) at 0 ⌝ }
-{
-    if at < memory.len() { memory[at] } else { 0 }
-}
-
-// Puts a word into delay memory; past its end nothing is written.
-fn put(memory: &mut [u32], at: usize, w: u32)
-    ensures { λ _. ⌜ now (memory .exit) ≡ set (now (memory .entry)) at w ⌝ }
-{
-    if at < memory.len() {
-        memory[at] = w;
-    }
 }
 
 // A word shifted to the right, bringing in zeros.
@@ -143,8 +116,8 @@ impl Delay {
         ensures { λ r. ⌜ record { unit = r; memory = now (memory .exit) } ≡ lineTurn self (now (memory .entry)) w ⌝ }
     {
         let at = self.slot();
-        let leaving = word_at(memory, at);
-        put(memory, at, w);
+        let leaving = guarded::word_at(memory, at);
+        guarded::put(memory, at, w);
         self.updated(self.stepped(), self.second, leaving, 0)
     }
 
@@ -180,7 +153,7 @@ impl Delay {
         ensures { λ r. ⌜ record { unit = r; memory = now (memory .entry) } ≡ tableTurn self (now (memory .entry)) w ⌝ }
     {
         let at = self.address(w);
-        let answer = word_at(memory, at);
+        let answer = guarded::word_at(memory, at);
         self.updated(self.y, self.second, self.third, answer)
     }
 

@@ -12,7 +12,8 @@ use Rattle.lists.proofs.Below.{and-first, and-second, and-both, below-at, below
 use Rattle.layout.specs.Layout.{modifierAt, MMODE, memoryWords}
 use Rattle.layout.specs.Machine.{Machine, mrmAt, ticksOf}
 use Rattle.delay.specs.declared.Delay.{Delay}
-use Rattle.delay.specs.Delay.{line, runs}
+use Rattle.built_codes.specs.BuiltCodes.{line}
+use Rattle.delay.specs.Delay.{runs}
 use Rattle.delay_questions.specs.Questions.{invokes, namedBy, delayOf, fits, goodLine, linesGood, apart, namedOnce}
 
 -- Two machines with the same T, and the same MRM and MMODE in every modifier that a pass takes.

@@ -10,7 +10,8 @@ use Rattle.layout.specs.Widths.{wordBits}
 use Rattle.layout.specs.Machine.{Machine, Memory, ticksOf, mrmAt, functionAt}
 use Rattle.questions.specs.Questions.{Question}
 use Rattle.delay.specs.declared.Delay.{Delay}
-use Rattle.delay.specs.Delay.{loaded, line, runs}
+use Rattle.built_codes.specs.BuiltCodes.{line}
+use Rattle.delay.specs.Delay.{loaded, runs}
 
 -- Delay memory has 65,536 words, and no word above 20 bits.
 unfoldable pub memoryGood : Memory → Bool

@@ -9,7 +9,7 @@ use borrow.Author.Tests.{eqb-true, ltb-true, ltb-false, lt-ltb, le-ltb}
 use lib.Dec.{eqb, ltb, lit<, lit≤}
 use lib.ListN.{length, getD}
 use Rattle.lists.specs.Lists.{isOneOf}
-use Rattle.modifier_turn.specs.Turn.{builtFunctions, builtFunction}
+use Rattle.built_codes.specs.BuiltCodes.{builtFunctions, builtFunction}
 use Rattle.lists.proofs.Tables.{tabulate-length, tabulate-at}
 use Rattle.layout.specs.Layout.{machineLength, generatorAt, modifierAt, quadrantAt, tAt, MMODE, GO, GSUM, GFM, GMODE}
 use Rattle.layout.specs.Machine.{Machine, ticksOf, gmodeAt, gsumAt, gfmAt}

@@ -7,10 +7,10 @@ use native.Mathlib.Omega.{arith}
 use borrow.Author.Tests.{eqb-true}
 use lib.Dec.{eqb}
 use Rattle.layout.specs.Machine.{Machine, ticksOf, runModeAt}
-use Rattle.modes.specs.Modes.{wait, runningC}
+use Rattle.modes.specs.Modes.{wait, runningC, withRunMode}
 use Rattle.machine.proofs.SoundMachine.{sound-controls}
 use Rattle.generator.specs.declared.Generator.{Generator}
-use Rattle.generator.specs.Generator.{runMode, withRunMode, gmodeAfter, after}
+use Rattle.generator.specs.Generator.{runMode, gmodeAfter, after}
 use Rattle.pass_model.specs.Generators.{generatorOf, turn1978, of1978}
 use Rattle.pass_laws.specs.Good.{Good}
 use Rattle.pass_laws.proofs.PassCounts.{run-mode-loaded}

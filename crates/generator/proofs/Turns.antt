@@ -9,14 +9,14 @@ use borrow.Author.Tests.{ne-eqb}
 use Rattle.words.specs.declared.SignMagnitude.{SignMagnitude}
 use Rattle.words.specs.Words.{lowBits, sum, sumInto, valueOf}
 use Rattle.modes.specs.declared.Switches.{Switches}
-use Rattle.modes.specs.Modes.{oscillatorOn, envelopeOn, free, wait, runningC, switchesOf}
+use Rattle.modes.specs.Modes.{oscillatorOn, envelopeOn, free, wait, runningC, switchesOf, withRunMode}
 use Rattle.modes.proofs.RunModes.{oscillator-tells, free-tells}
 use Rattle.modes.proofs.Exclusions.{quiet, off-not-on, on-not-off}
 use Rattle.oscillator.specs.Oscillator.{Wave, waveOf, sineWave}
 use Rattle.envelope.specs.Envelope.{overflows, decayed, enveloped}
 use Rattle.lists.specs.Lists.{isOneOf}
 use Rattle.generator.specs.declared.Generator.{Generator}
-use Rattle.generator.specs.Generator.{updated, Ranged, runMode, oscillatorMode, withRunMode, jOf, kOf, leftRange, wOf, vOf, pOf, gjAfter, gkAfter, gqAfter, gmodeAfter, triggers, after, soundedOf}
+use Rattle.generator.specs.Generator.{updated, Ranged, runMode, oscillatorMode, jOf, kOf, leftRange, wOf, vOf, pOf, gjAfter, gkAfter, gqAfter, gmodeAfter, triggers, after, soundedOf}
 use Rattle.generator.specs.Steps.{oscillated, kBy, leftBy, outputBy, endedOf}
 
 -- P, of J and the oscillator's switch.

@@ -9,7 +9,7 @@ use lib.ListN.{getD, set}
 use Rattle.layout.specs.Layout.{GO, GJ, GK, GN, GM, GP, GQ, GL, GSUM, GFM, GMODE}
 use Rattle.layout.specs.Widths.{goBits, gjBits, gkBits, gnBits, gmBits, gpBits, gqBits, glBits, gsumBits, gfmBits, gmodeBits}
 use Rattle.words.specs.Words.{lowBits, sum, sumInto, leaves}
-use Rattle.modes.specs.Modes.{oscillatorOn, envelopeOn, free, wait, runningC}
+use Rattle.modes.specs.Modes.{oscillatorOn, envelopeOn, free, wait, runningC, withRunMode}
 use Rattle.oscillator.specs.Oscillator.{waveOf}
 use Rattle.envelope.specs.Envelope.{overflows, decayed, level, enveloped}
 use Rattle.generator.specs.declared.Generator.{Generator}
@@ -116,10 +116,6 @@ pOf g f = lowBits 20 (enveloped (wOf g f) (vOf g))
 -- A free overflow is a trigger.
 unfoldable pub triggers : Generator → Bool
 triggers g = free (runMode g) && overflows (g .gq) (g .gp)
-
--- GMODE with another run mode, its other bits kept.
-abbrev pub withRunMode : ℕ → ℕ → ℕ
-withRunMode r gmode = r * 2 ^ 6 + gmode % 2 ^ 6
 
 -- GMODE afterwards: 1101 goes to 1001 as it triggers; 1001 goes to 1101 where it is told that its lower neighbour was taken earlier in this pass and triggered.
 unfoldable pub gmodeAfter : Generator → Bool → ℕ

@@ -4,11 +4,11 @@ use Prim.Native.Nat.{ℕ, _/_, _^_}
 use mathlib.Core.Bool.{Bool, cond, _&&_, _||_}
 use lib.Dec.{eqb}
 use Rattle.words.specs.Words.{lowBits, sum, sumInto, leaves}
-use Rattle.modes.specs.Modes.{wait, runningC}
+use Rattle.modes.specs.Modes.{wait, runningC, withRunMode}
 use Rattle.oscillator.specs.Oscillator.{waveOf}
 use Rattle.envelope.specs.Envelope.{enveloped}
 use Rattle.generator.specs.declared.Generator.{Generator}
-use Rattle.generator.specs.Generator.{updated, runMode, oscillatorMode, withRunMode, vOf}
+use Rattle.generator.specs.Generator.{updated, runMode, oscillatorMode, vOf}
 
 -- Steps 2 and 4.
 unfoldable pub oscillated : Bool → Generator → ℕ → Generator

@@ -9,7 +9,7 @@ use borrow.Author.Tests.{ltb-true, ltb-false, lt-ltb, eq-eqb, ne-eqb}
 use lib.Dec.{eqb, ltb}
 use Rattle.lists.proofs.Below.{and-second, and-both}
 use Rattle.modes.specs.Modes.{builtRun, builtOscillator}
-use Rattle.delay.specs.Delay.{builtMode}
+use Rattle.built_codes.specs.BuiltCodes.{builtMode}
 use Rattle.machine.specs.Questions.{bits, builtModes, goodGmode, builtSource, goodAddress, builtMmode, goodMmode, test, delayMode}
 use Rattle.machine.specs.Loops.{runField, oscillatorField, functionField, delayField}
 

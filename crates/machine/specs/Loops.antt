@@ -7,8 +7,7 @@ use lib.Dec.{leb, ltb}
 use lib.ListN.{length, getD}
 use Rattle.lists.specs.Lists.{tabulate}
 use Rattle.modes.specs.Modes.{builtRun, builtOscillator}
-use Rattle.modifier_turn.specs.Turn.{builtFunction}
-use Rattle.delay.specs.Delay.{builtMode}
+use Rattle.built_codes.specs.BuiltCodes.{builtFunction, builtMode}
 use Rattle.layout.specs.Layout.{generatorWords, GMODE, modifierAt, modifierWords, MIN, MRM, MMODE, dxAt, tAt, nAt, counterAt, lingeringAt, lingerPassAt, overrunAt, delayAt, delayWords, delayP}
 use Rattle.layout.specs.Widths.{wordBits, counterBits, lingerBits}
 use Rattle.machine_sweep.specs.Columns.{everyWord, swept}

@@ -156,7 +156,7 @@ fn modifiers_within(m: &[u32]) -> bool
     ensures { λ r. ⌜ r ≡ modifiersWithin (now (m .entry)) ⌝ }
 {
     let limits = modifier_limits();
-    let functions = machine_sweep::flags(modifier_turn::BUILT_FUNCTION);
+    let functions = machine_sweep::flags(built_codes::BUILT_FUNCTION);
     let at = layout::MODIFIERS_AT;
     let n = layout::MODIFIERS;
     let step = layout::MODIFIER_WORDS;
@@ -193,7 +193,7 @@ fn delays_within(m: &[u32]) -> bool
     ensures { λ r. ⌜ r ≡ delaysWithin (now (m .entry)) ⌝ }
 {
     let limits = delay_limits();
-    let built = machine_sweep::flags(65537 * delay::BUILT_MODE);
+    let built = machine_sweep::flags(65537 * built_codes::BUILT_MODE);
     let at = layout::DELAYS_AT;
     let n = layout::DELAYS;
     let step = layout::DELAY_WORDS;

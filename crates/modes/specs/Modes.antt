@@ -1,6 +1,6 @@
 -- The run modes, by the 1978 text's names, and their switches (document 01: "The built run modes, and whether oscillator, envelope and adding are on").
 -- Assumes nothing.
-use Prim.Native.Nat.{ℕ}
+use Prim.Native.Nat.{ℕ, _+_, _*_, _%_, _^_}
 use mathlib.Core.Bool.{Bool, cond}
 use mathlib.Core.List.{List, [], _∷_}
 use Rattle.lists.specs.Lists.{isOneOf, tabulate}
@@ -92,3 +92,7 @@ row r = switchesOf r .oscillator ∷ switchesOf r .envelope ∷ switchesOf r .fr
 -- The rows of the 16 run modes.
 unfoldable pub rows : List (List ℕ)
 rows = tabulate row 0 16
+
+-- GMODE with another run mode, its other bits kept.
+abbrev pub withRunMode : ℕ → ℕ → ℕ
+withRunMode r gmode = r * 2 ^ 6 + gmode % 2 ^ 6

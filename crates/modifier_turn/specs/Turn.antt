@@ -48,11 +48,3 @@ lateFunctions = 0b00100 ∷ 0b00111 ∷ 0b01000 ∷ 0b01001 ∷ 0b01011 ∷ 0b01
 -- Whether a function is one of those.
 unfoldable pub readsLate : ℕ → Bool
 readsLate f = isOneOf f lateFunctions
-
--- The functions that are built: those of the 1978 text's list.
-unfoldable pub builtFunctions : List ℕ
-builtFunctions = 0b00000 ∷ 0b00010 ∷ 0b00011 ∷ 0b00100 ∷ 0b00110 ∷ 0b00111 ∷ 0b01000 ∷ 0b01001 ∷ 0b01011 ∷ 0b01100 ∷ 0b01101 ∷ 0b01111 ∷ 0b10000 ∷ 0b10001 ∷ 0b10100 ∷ 0b10110 ∷ 0b11000 ∷ 0b11001 ∷ 0b11010 ∷ 0b11011 ∷ 0b11100 ∷ 0b11101 ∷ []
-
--- Whether a function is built.
-unfoldable pub builtFunction : ℕ → Bool
-builtFunction f = isOneOf f builtFunctions

@@ -2,15 +2,12 @@
 ghost use mathlib.Core.Path.{_≡_};
 ghost use Prim.Native.Nat.{_<_, _^_};
 ghost use Rattle.modifier.specs.Modifier.{Ranged};
-ghost use Rattle.modifier_turn.specs.Turn.{turnOf, readsLate, builtFunction};
+ghost use Rattle.modifier_turn.specs.Turn.{turnOf, readsLate};
 use modifier::Modifier;
 use modifier::Turned;
 
 // Bit f is 1 where function f reads A late.
 const LATE: u32 = 0b0000_0000_0100_0000_1011_1011_1001_0000;
-
-// Bit f is 1 where function f is built.
-pub const BUILT_FUNCTION: u32 = 0b0011_1111_0101_0011_1011_1011_1101_1101;
 
 // The turn by the function's code: the registers afterwards, and S. b is B, or DM in 00111, where B is not read.
 pub fn turn(u: Modifier, a: u32, b: u32) -> Turned
@@ -51,12 +48,4 @@ pub fn reads_late(f: u32) -> bool
     ensures { λ r. ⌜ r ≡ readsLate f ⌝ }
 {
     (LATE >> f) % 2 == 1
-}
-
-// Whether a function is built.
-pub fn built_function(f: u32) -> bool
-    requires { ⌜ f < 32 ⌝ }
-    ensures { λ r. ⌜ r ≡ builtFunction f ⌝ }
-{
-    (BUILT_FUNCTION >> f) % 2 == 1
 }

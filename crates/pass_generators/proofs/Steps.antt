@@ -21,7 +21,8 @@ use Rattle.generator.specs.Generator.{runMode, stored, triggers, after, sounded
 use Rattle.generator.proofs.Turns.{rests, after-untold}
 use Rattle.pass_model.specs.Generators.{of1978, generatorOf, turn1978, State, told, fed, summed, step}
 use Rattle.pass_model.proofs.Turns.{waits-silent}
-use Rattle.pass_generators.specs.Loops.{WithinWidths, Sounding, heard, sounded, Sending, sent}
+use Rattle.pass_outputs.specs.Outputs.{heard, Sending, sent}
+use Rattle.pass_generators.specs.Loops.{WithinWidths, Sounding, sounded}
 use Rattle.pass_generators.proofs.Words.{put-same}
 
 -- A choice by what is not, first or alone, is one by what is.

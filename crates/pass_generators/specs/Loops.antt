@@ -1,18 +1,16 @@
--- What the code of the generators' stage asks, and a turn by the ways that the code takes: envelope on, and nothing on.
+-- What the code of the generators' stage asks, and the turn of a generator whose envelope is on.
 -- Laws join them to a step, which alone a reader has to believe. Assumes nothing.
-use Prim.Native.Nat.{ℕ, suc, _+_, _%_, _^_, _<_, _≤_}
-use mathlib.Core.Bool.{Bool, false, cond}
+use Prim.Native.Nat.{ℕ, _+_, _^_, _<_, _≤_}
+use mathlib.Core.Bool.{false, cond}
 use mathlib.Core.List.{List}
-use lib.Dec.{eqb}
 use lib.ListN.{length, getD, set}
-use Rattle.words.specs.Words.{sum}
-use Rattle.layout.specs.Layout.{generatorAt, dacAt, GJ, GK, GQ, GMODE}
+use Rattle.layout.specs.Layout.{generatorAt, GJ, GK, GQ, GMODE}
 use Rattle.layout.specs.Widths.{gjBits, gkBits, gqBits, gmodeBits}
-use Rattle.layout.specs.Machine.{Machine, Order, Items, Places, Sums, Reaches}
-use Rattle.modes.specs.Modes.{adds, writeData, writeDAC}
-use Rattle.sums.specs.Sums.{sumAt, putSum}
+use Rattle.layout.specs.Machine.{Machine, Order, Items, Sums, Reaches}
+use Rattle.modes.specs.Modes.{adds}
 use Rattle.generator.specs.declared.Generator.{Generator}
 use Rattle.generator.specs.Generator.{stored, runMode, pOf, triggers, after}
+use Rattle.pass_outputs.specs.Outputs.{heard}
 
 -- The registers of generator g that a turn can change are within their widths.
 pub record WithinWidths (words : Machine) (g : ℕ) : Type 0 where
@@ -38,10 +36,6 @@ pub record Sounding : Type 0 where
   pub triggered : List ℕ
   pub reads : ℕ
 
--- What is heard in sum memory: P is added, or replaces the word together with a read item.
-unfoldable pub heard : Sums → Bool → ℕ → ℕ → ℕ → Sums
-heard s adding gsum p item = cond adding (putSum s gsum (sum 20 (sumAt s gsum) p)) (putSum s gsum (sum 20 p (item % 2 ^ 20)))
-
 -- Generator g, u with its envelope on, is taken.
 unfoldable pub sounded : Items → Sounding → ℕ → Generator → ℕ → Sounding
 sounded items v g u f =
@@ -50,19 +44,4 @@ sounded items v g u f =
       sums = heard (v .sums) (adds (runMode u)) (u .gsum) (pOf u f) (getD items (v .reads) 0);
       triggered = cond (triggers u) (set (v .triggered) g 1) (v .triggered);
       reads = cond (adds (runMode u)) (v .reads) (v .reads + 1);
-    }
-
--- What a generator with nothing on can change: the machine's words, the places for written items, how many were written.
-pub record Sending : Type 0 where
-  pub words : Machine
-  pub places : Places
-  pub writes : ℕ
-
--- A generator with nothing on is taken: it may send F.
-unfoldable pub sent : Sending → Generator → ℕ → Sending
-sent v u f =
-    record {
-      words = cond (eqb (runMode u) writeDAC) (set (v .words) (dacAt (u .go % 2 ^ 4)) f) (v .words);
-      places = cond (eqb (runMode u) writeData) (set (v .places) (v .writes) f) (v .places);
-      writes = cond (eqb (runMode u) writeData) (suc (v .writes)) (v .writes);
     }

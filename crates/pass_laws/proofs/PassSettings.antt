@@ -11,7 +11,7 @@ use lib.Dec.{eqb, ltb, lit<, lit≤}
 use lib.ListN.{length, getD}
 use Rattle.lists.proofs.Below.{and-first}
 use Rattle.layout.specs.Layout.{generatorAt, modifierAt, dxAt, tAt, nAt, counterAt, lingeringAt, lingerPassAt, overrunAt, delayAt, delayX, delayY, delayZ, delayP, GN, GM, GP, GL, GSUM, GFM, GMODE, MIN, MRM, MSUM, MMODE}
-use Rattle.modes.specs.Modes.{wait, runningC}
+use Rattle.modes.specs.Modes.{wait, runningC, withRunMode}
 use Rattle.machine.specs.Questions.{sound}
 use Rattle.machine.proofs.SoundMachine.{reaches}
 use Rattle.layout.specs.Machine.{Machine, Order, Items, ticksOf, runModeAt}
@@ -19,7 +19,7 @@ use Rattle.sums.specs.Sums.{sumsOf}
 use Rattle.sums.proofs.Blocks.{Outside, outside-before, outside-after}
 use Rattle.sums.proofs.Memory.{sums-quadrants}
 use Rattle.generator.specs.declared.Generator.{Generator}
-use Rattle.generator.specs.Generator.{runMode, withRunMode, triggers, gmodeAfter, after}
+use Rattle.generator.specs.Generator.{runMode, triggers, gmodeAfter, after}
 use Rattle.pass_model.specs.Generators.{generatorOf, turn1978, of1978, State, told, step, steps, begun}
 use Rattle.pass_model.specs.Pass.{Call, Outcome, ran, passOf}
 use Rattle.pass_model.proofs.Delays.{OffUnits, off-below, off-setting}

@@ -13,7 +13,7 @@ use lib.Seq.{getD-drop}
 use Rattle.lists.specs.Lists.{isOneOf}
 use Rattle.lists.proofs.Below.{and-second}
 use Rattle.lists.proofs.Choices.{of-cond}
-use Rattle.modes.specs.Modes.{builtRun, builtOscillator, wait, runningC}
+use Rattle.modes.specs.Modes.{builtRun, builtOscillator, wait, runningC, withRunMode}
 use Rattle.layout.specs.Layout.{machineLength, generatorAt, modifierAt, quadrantAt, dacAt, counterAt, delayAt, delayY, delayFirst, delaySecond, delayThird, GJ, GK, GQ, GMODE, M1, L0, L1}
 use Rattle.machine.specs.Questions.{goodGmode, regions, testAt, sound}
 use Rattle.machine.proofs.Words.{gmode-from, gmode-oscillator}
@@ -24,7 +24,7 @@ use Rattle.sums.proofs.Blocks.{Outside, outside-before, outside-after}
 use Rattle.sums.proofs.Memory.{Quadrants, word-low}
 use Rattle.sums.proofs.Closing.{closed-outside, closed-generator-this, closed-generator-last, closed-modifier-this, closed-modifier-last}
 use Rattle.generator.specs.declared.Generator.{Generator}
-use Rattle.generator.specs.Generator.{loaded, stored, runMode, withRunMode, triggers, gmodeAfter}
+use Rattle.generator.specs.Generator.{loaded, stored, runMode, triggers, gmodeAfter}
 use Rattle.modifier.specs.declared.Modifier.{Modifier}
 use Rattle.modifier.specs.Modifier.{Ranged as RangedModifier, stored as storedModifier}
 use Rattle.delay.specs.declared.Delay.{Delay}

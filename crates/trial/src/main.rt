@@ -137,7 +137,7 @@ fn built(x: &[u32; 16]) -> [u32; 16] {
     let mut r = [0u32; 16];
     r[0] = flag(modes::built_run(x[1] / 64 % 16));
     r[1] = flag(modes::built_oscillator(x[1] % 16));
-    r[2] = flag(modifier_turn::built_function(x[2] / 16 % 32));
+    r[2] = flag(built_codes::built_function(x[2] / 16 % 32));
     r
 }
 

@@ -9,7 +9,7 @@ use borrow.Author.Tests.{eqb-true, leb-true, ne-eqb}
 use lib.Dec.{eqb, leb}
 use Rattle.lists.proofs.Below.{and-first, and-second}
 use Rattle.questions.proofs.Asked.{both-yes}
-use Rattle.delay.specs.Delay.{builtMode}
+use Rattle.built_codes.specs.BuiltCodes.{builtMode}
 use Rattle.machine.specs.Questions.{goodGmode, goodMmode, goodAddress}
 use Rattle.command_fields.specs.Fields.{field, flag, code4, code5}
 use Rattle.command_timer.specs.Timer.{ticksData}

@@ -13,11 +13,10 @@ use Rattle.lists.proofs.Choices.{of-cond, of-test}
 use Rattle.layout.specs.Layout.{GMODE, dxAt, tAt, nAt, counterAt, lingeringAt, lingerPassAt, overrunAt}
 use Rattle.layout.specs.Machine.{gmodeAt, runModeAt}
 use Rattle.layout.specs.Widths.{gmodeBits, wordBits, counterBits, lingerBits}
-use Rattle.modes.specs.Modes.{builtRun, builtOscillator, pause, wait, runningA}
+use Rattle.modes.specs.Modes.{builtRun, builtOscillator, pause, wait, runningA, withRunMode}
 use Rattle.machine.specs.Questions.{between, goodGmode, regions, sound}
 use Rattle.machine.proofs.Words.{gmode-from}
 use Rattle.machine.proofs.SoundMachine.{sound-generator}
-use Rattle.generator.specs.Generator.{withRunMode}
 use Rattle.command_fields.specs.Fields.{field, flag, dataOf, code5}
 use Rattle.command_misc.specs.Misc.{releasedOne, releasedBelow, released, miscellany}
 use Rattle.command_timer.specs.Timer.{counterSet, behind, waitsFor, lingered, ttOf, timed, ticksData, ticksSet}

@@ -14,8 +14,7 @@ use Rattle.lists.proofs.Below.{and-second, and-both}
 use Rattle.lists.proofs.Choices.{of-cond, of-test}
 use Rattle.layout.specs.Layout.{machineLength, generatorAt, modifierAt, dxAt, delayAt, delayX, delayY, delayZ, delayP, GO, GJ, GK, GN, GM, GP, GQ, GL, GSUM, GFM, GMODE, M0, M1, L0, L1, MIN, MRM, MSUM, MMODE}
 use Rattle.layout.specs.Widths.{gjBits, gnBits, gmBits, gqBits, glBits, gsumBits, gfmBits, coefficientBits, msumBits, mmodeBits, wordBits, delayBits, delayModeBits}
-use Rattle.modifier_turn.specs.Turn.{builtFunction}
-use Rattle.delay.specs.Delay.{builtMode}
+use Rattle.built_codes.specs.BuiltCodes.{builtFunction, builtMode}
 use Rattle.machine.specs.Questions.{bits, goodMmode, regions, testAt, sound}
 use Rattle.machine.proofs.Regions.{region, start, unit-test}
 use Rattle.machine.proofs.SoundMachine.{sound-set, sound-modifier, sound-controls}

@@ -4,7 +4,7 @@ use Prim.Native.Nat.{_+_, _%_}
 use Rattle.lists.specs.Lists.{isOneOf}
 use Rattle.lists.proofs.Below.{both}
 use Rattle.layout.specs.Layout.{delayAt, delayWords, delayP}
-use Rattle.delay.specs.Delay.{builtMode}
+use Rattle.built_codes.specs.BuiltCodes.{builtMode}
 use Rattle.machine_sweep.proofs.Words.{fields-tested}
 use Rattle.machine.specs.Questions.{delayRegisters}
 use Rattle.machine.specs.Loops.{limitsOf, repeated, delaysWithin}

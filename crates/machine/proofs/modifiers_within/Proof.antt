@@ -4,7 +4,7 @@ use Prim.Native.Nat.{_+_}
 use Rattle.lists.specs.Lists.{isOneOf}
 use Rattle.lists.proofs.Below.{both}
 use Rattle.layout.specs.Layout.{modifierAt, modifierWords, MMODE}
-use Rattle.modifier_turn.specs.Turn.{builtFunctions, builtFunction}
+use Rattle.built_codes.specs.BuiltCodes.{builtFunctions, builtFunction}
 use Rattle.machine_sweep.proofs.Words.{fields-tested}
 use Rattle.machine.specs.Questions.{modifierRegisters}
 use Rattle.machine.specs.Loops.{limitsOf, repeated, modifiersWithin}

@@ -2,8 +2,8 @@
 use borrow.Author.Needs.{needs}
 use borrow.Author.Tests.{le-leb, lt-leb}
 use Rattle.pass_model.specs.Generators.{told}
-use Rattle.pass_generators.proofs.told.Statement.{statement}
-use Rattle.pass_generators.proofs.told.Tie as tie
+use Rattle.pass_outputs.proofs.told.Statement.{statement}
+use Rattle.pass_outputs.proofs.told.Tie as tie
 
 returns : tie.Need-returns
 unfolding told

@@ -1,12 +1,12 @@
--- `delay::built_mode` meets its contract: one test over the 16 numbers.
+-- `built_codes::built_mode` meets its contract: one test over the 16 numbers.
 -- Assumes nothing.
 use borrow.Author.Needs.{needs}
 use mathlib.Core.List.{[], _∷_}
 use Rattle.lists.specs.Lists.{isOneOf}
 use Rattle.lists.proofs.Masks.{tells, bit-tells}
-use Rattle.delay.specs.Delay.{inactive, line, table, roundedTable, builtMode}
-use Rattle.delay.proofs.built_mode.Statement.{statement}
-use Rattle.delay.proofs.built_mode.Tie as tie
+use Rattle.built_codes.specs.BuiltCodes.{inactive, line, table, roundedTable, builtMode}
+use Rattle.built_codes.proofs.built_mode.Statement.{statement}
+use Rattle.built_codes.proofs.built_mode.Tie as tie
 
 shr-result : tie.Need-shr-result
 shr-result c = search needs

@@ -1,11 +1,11 @@
--- `modifier_turn::built_function` meets its contract: one test over the 32 codes.
+-- `built_codes::built_function` meets its contract: one test over the 32 codes.
 -- Assumes nothing.
 use borrow.Author.Needs.{needs}
 use Rattle.lists.proofs.Masks.{tells, bit-tells}
 use Rattle.lists.specs.Lists.{isOneOf}
-use Rattle.modifier_turn.specs.Turn.{builtFunctions, builtFunction}
-use Rattle.modifier_turn.proofs.built_function.Statement.{statement}
-use Rattle.modifier_turn.proofs.built_function.Tie as tie
+use Rattle.built_codes.specs.BuiltCodes.{builtFunctions, builtFunction}
+use Rattle.built_codes.proofs.built_function.Statement.{statement}
+use Rattle.built_codes.proofs.built_function.Tie as tie
 
 shr-result : tie.Need-shr-result
 shr-result c = search needs

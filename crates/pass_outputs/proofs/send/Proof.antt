@@ -1,10 +1,10 @@
 -- `send` meets its contract by the run mode: 0010, 0011 and all others.
 use borrow.Author.Tests.{ne-eqb}
-use Rattle.pass_generators.specs.Loops.{sent}
+use Rattle.pass_outputs.specs.Outputs.{sent}
 use native.Mathlib.Numerals.{add-one}
 use borrow.Author.Needs.{needs}
-use Rattle.pass_generators.proofs.send.Statement.{statement}
-use Rattle.pass_generators.proofs.send.Tie as tie
+use Rattle.pass_outputs.proofs.send.Statement.{statement}
+use Rattle.pass_outputs.proofs.send.Tie as tie
 
 add-at : tie.Need-add-at
 add-at c = search needs
@@ -25,8 +25,8 @@ returns : tie.Need-returns
 unfolding sent
 returns c = rw (c .before .if1 .taken)
 
-put-item-requires : tie.Need-put-item-requires
-put-item-requires c κs = search needs
+put-requires : tie.Need-put-requires
+put-requires c κs = search needs
 
 add-result : tie.Need-add-result
 add-result c = search needs
@@ -38,7 +38,7 @@ returns-2 : tie.Need-returns-2
 unfolding sent
 returns-2 c =
     let put = c .before .before in
-    rw (put .before .before .if2 .taken, put .put-item .ensures, add-one)
+    rw (put .before .before .if2 .taken, put .put .ensures, add-one)
 
 returns-3 : tie.Need-returns-3
 unfolding sent
@@ -54,7 +54,7 @@ send-spec =
     slice-write-m
     same-length
     returns
-    put-item-requires
+    put-requires
     add-result
     same-length-2
     returns-2

@@ -1,9 +1,9 @@
 -- `hear` meets its contract by the output: P is added, or replaces a word.
 use borrow.Author.Tests.{eq-eqb, ne-eqb}
-use Rattle.pass_generators.specs.Loops.{heard}
+use Rattle.pass_outputs.specs.Outputs.{heard}
 use borrow.Author.Needs.{needs}
-use Rattle.pass_generators.proofs.hear.Statement.{statement}
-use Rattle.pass_generators.proofs.hear.Tie as tie
+use Rattle.pass_outputs.proofs.hear.Statement.{statement}
+use Rattle.pass_outputs.proofs.hear.Tie as tie
 
 add-requires : tie.Need-add-requires
 add-requires c κs = search needs
@@ -14,8 +14,8 @@ returns c =
     let adds = eq-eqb _ 1 (c .before .before .if1 .taken) in
     (rw adds (c .add .ensures), rw adds)
 
-item-at-requires : tie.Need-item-at-requires
-item-at-requires c κs = search needs
+word-at-requires : tie.Need-word-at-requires
+word-at-requires c κs = search needs
 
 add20-requires : tie.Need-add20-requires
 add20-requires c κs = search needs
@@ -32,7 +32,7 @@ returns-2 c =
     let sum = c .before in
     let item = sum .before .before in
     let replaces = ne-eqb _ 1 (item .before .if1 .left) in
-    (rw (replaces, c .replace .ensures, sum .add20 .ensures, item .item-at .ensures), rw replaces)
+    (rw (replaces, c .replace .ensures, sum .add20 .ensures, item .word-at .ensures), rw replaces)
 
 pub hear-spec : {M : Type 1} → statement M
 hear-spec =
@@ -40,7 +40,7 @@ hear-spec =
     (tie.spec
     add-requires
     returns
-    item-at-requires
+    word-at-requires
     add20-requires
     replace-requires
     add-result

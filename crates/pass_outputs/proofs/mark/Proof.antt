@@ -1,7 +1,7 @@
 -- `mark` meets its contract by whether the generator triggers.
 use borrow.Author.Needs.{needs}
-use Rattle.pass_generators.proofs.mark.Statement.{statement}
-use Rattle.pass_generators.proofs.mark.Tie as tie
+use Rattle.pass_outputs.proofs.mark.Statement.{statement}
+use Rattle.pass_outputs.proofs.mark.Tie as tie
 
 element-write-triggered : tie.Need-element-write-triggered
 element-write-triggered c = search needs

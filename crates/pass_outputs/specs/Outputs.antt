@@ -1,0 +1,32 @@
+-- What a generator's turn brings, by the ways that the code takes: heard in sum memory, or sent to a DAC or a place.
+-- Laws join them to a step, which alone a reader has to believe. Assumes nothing.
+use Prim.Native.Nat.{ℕ, suc, _%_, _^_}
+use mathlib.Core.Bool.{Bool, cond}
+use lib.Dec.{eqb}
+use lib.ListN.{set}
+use Rattle.words.specs.Words.{sum}
+use Rattle.layout.specs.Layout.{dacAt}
+use Rattle.layout.specs.Machine.{Machine, Places, Sums}
+use Rattle.modes.specs.Modes.{writeData, writeDAC}
+use Rattle.sums.specs.Sums.{sumAt, putSum}
+use Rattle.generator.specs.declared.Generator.{Generator}
+use Rattle.generator.specs.Generator.{runMode}
+
+-- What is heard in sum memory: P is added, or replaces the word together with a read item.
+unfoldable pub heard : Sums → Bool → ℕ → ℕ → ℕ → Sums
+heard s adding gsum p item = cond adding (putSum s gsum (sum 20 (sumAt s gsum) p)) (putSum s gsum (sum 20 p (item % 2 ^ 20)))
+
+-- What a generator with nothing on can change: the machine's words, the places for written items, how many were written.
+pub record Sending : Type 0 where
+  pub words : Machine
+  pub places : Places
+  pub writes : ℕ
+
+-- A generator with nothing on is taken: it may send F.
+unfoldable pub sent : Sending → Generator → ℕ → Sending
+sent v u f =
+    record {
+      words = cond (eqb (runMode u) writeDAC) (set (v .words) (dacAt (u .go % 2 ^ 4)) f) (v .words);
+      places = cond (eqb (runMode u) writeData) (set (v .places) (v .writes) f) (v .places);
+      writes = cond (eqb (runMode u) writeData) (suc (v .writes)) (v .writes);
+    }

@@ -1,0 +1,72 @@
+// What a generator's turn brings beside its registers: P in sum memory, items read and written, a DAC, a trigger.
+ghost use mathlib.Core.Path.{_≡_};
+ghost use mathlib.Core.Bool.{cond};
+ghost use lib.Dec.{eqb};
+ghost use Prim.Native.Nat.{_+_, _<_, _^_};
+ghost use lib.ListN.{getD, set};
+ghost use Rattle.layout.specs.Machine.{Reaches};
+ghost use Rattle.pass_model.specs.Generators.{of1978, told};
+ghost use Rattle.pass_outputs.specs.Outputs.{heard, sent};
+use generator::Generator;
+use sums::Sums;
+
+// A 1 for each generator that was taken and triggered.
+pub type Triggered = [u8; layout::GENERATORS];
+
+// How far below a generator its lower neighbour stands.
+const DISTANCE: usize = 1;
+
+// Whether the lower neighbour of g has triggered.
+pub fn told(triggered: &Triggered, g: usize) -> bool
+    requires { ⌜ g < 256 ⌝ }
+    ensures { λ r. ⌜ r ≡ told (of1978 .distance) (now (triggered .entry)) g ⌝ }
+{
+    if g < DISTANCE {
+        return false;
+    }
+    triggered[g - DISTANCE] == 1
+}
+
+// Generator g is marked where it triggers.
+pub fn mark(triggered: &mut Triggered, g: usize, triggers: bool)
+    requires { ⌜ g < 256 ⌝ }
+    ensures { λ r. ⌜ now (triggered .exit) ≡ cond triggers (set (now (triggered .entry)) g 1) (now (triggered .entry)) ⌝ }
+{
+    if triggers {
+        triggered[g] = 1;
+        return;
+    }
+}
+
+// P goes into sum memory: where the output is 1 it is added, else it replaces a word together with the next read item.
+pub fn hear(s: &mut Sums, items: &[u32], reads: usize, output: u8, gsum: u32, p: u32) -> usize
+    requires { ⌜ (gsum < 2 ^ 6) × (p < 2 ^ 20) × (reads < 256) ⌝ }
+    ensures { λ r. ⌜ (now (s .exit) ≡ heard (now (s .entry)) (eqb output 1) gsum p (getD (now (items .entry)) reads 0)) × (r ≡ cond (eqb output 1) reads (reads + 1)) ⌝ }
+{
+    if output == 1 {
+        sums::add(s, gsum, p);
+        return reads;
+    }
+    let item = guarded::word_at(items, reads) % layout::WORD_LIMIT;
+    sums::replace(s, gsum, words::add20(p, item));
+    reads + 1
+}
+
+// A generator with nothing on is taken: 0010 feeds its DAC, 0011 writes an item. The answer is how many items were written.
+pub fn send(m: &mut [u32], places: &mut [u32], writes: usize, unit: Generator, f: u32) -> usize
+    requires { ⌜ Reaches (now m) ⌝ }
+    requires { ⌜ writes < 256 ⌝ }
+    ensures { λ r. ⌜ record { words = now (m .exit); places = now (places .exit); writes = r } ≡ sent (record { words = now (m .entry); places = now (places .entry); writes = writes }) unit f ⌝ }
+{
+    let run = unit.gmode / 64;
+    if run == modes::WRITE_DAC {
+        let at = layout::DACS_AT + (unit.go % 16) as usize;
+        m[at] = f;
+        return writes;
+    }
+    if run == modes::WRITE_DATA {
+        guarded::put(places, writes, f);
+        return writes + 1;
+    }
+    writes
+}
