@@ -4,11 +4,15 @@ ghost use mathlib.Core.Logic.{_≢_};
 ghost use Prim.Native.Nat.{_+_, _≤_};
 ghost use lib.ListN.{length};
 ghost use lib.Seq.{sets};
+ghost use Rattle.sine.specs.Sine.{quarter};
+ghost use Rattle.exponential.specs.Exponential.{tableSize, entries};
 ghost use Rattle.bench_text.specs.Text.{lineBytes};
 ghost use Rattle.bench_pass.specs.ByNumber.{byNumber, passed};
 ghost use Rattle.bench_ringing.specs.Steps.{ringingAt, stepOf, commandsTaken};
 ghost use Rattle.bench_gathering.specs.Gathering.{gathered};
 use bench_ringing::Progress;
+use exponential::Entries;
+use sine::Quarter;
 
 // One step, its line put after the bytes that a buffer has. A pass is left, and which question refuses it is known.
 fn step_into(
@@ -19,11 +23,14 @@ fn step_into(
     order: &[u32],
     number: u32,
     out: &mut [u8],
+    sine: &Quarter,
+    decay: &Entries,
 ) -> Progress
     requires { ⌜ at .length + lineBytes ≤ length (now out) ⌝ }
     requires { ⌜ at .passes ≢ 0 ⌝ }
     requires { ⌜ now order ≡ byNumber 256 ⌝ }
     requires { ⌜ number ≡ passed (now m) (now memory) .number ⌝ }
+    requires { ⌜ (now sine ≡ quarter) × (now decay ≡ entries tableSize) ⌝ }
     ensures { λ r. ⌜ r .length ≡ at .length + length (stepOf (ringingAt at (now (m .entry)) (now (memory .entry)) (now (commands .entry))) .bytes) ⌝ }
     ensures { λ _. ⌜ now (out .exit) ≡ sets (now (out .entry)) (at .length) (stepOf (ringingAt at (now (m .entry)) (now (memory .entry)) (now (commands .entry))) .bytes) ⌝ }
     ensures { λ r. ⌜ ringingAt r (now (m .exit)) (now (memory .exit)) (now (commands .entry)) ≡ stepOf (ringingAt at (now (m .entry)) (now (memory .entry)) (now (commands .entry))) .next ⌝ }
@@ -31,7 +38,17 @@ fn step_into(
 {
     let start = at.length;
     let mut line = [0u8; bench_text::LINE_BYTES];
-    let next = bench_ringing::step(at, m, commands, memory, order, number, &mut line);
+    let next = bench_ringing::step(
+        at,
+        m,
+        commands,
+        memory,
+        order,
+        number,
+        &mut line,
+        sine,
+        decay,
+    );
     let passes = next.passes;
     let taken = next.taken;
     let size = next.length;
@@ -51,8 +68,11 @@ fn gather_by(
     memory: &mut [u32],
     order: &[u32],
     out: &mut [u8],
+    sine: &Quarter,
+    decay: &Entries,
 ) -> Progress
     requires { ⌜ now order ≡ byNumber 256 ⌝ }
+    requires { ⌜ (now sine ≡ quarter) × (now decay ≡ entries tableSize) ⌝ }
     ensures { λ r. ⌜ r .length ≡ length (gathered (length (now (out .entry))) (ringingAt at (now (m .entry)) (now (memory .entry)) (now (commands .entry))) .bytes) ⌝ }
     ensures { λ _. ⌜ now (out .exit) ≡ sets (now (out .entry)) 0 (gathered (length (now (out .entry))) (ringingAt at (now (m .entry)) (now (memory .entry)) (now (commands .entry))) .bytes) ⌝ }
     ensures { λ r. ⌜ ringingAt r (now (m .exit)) (now (memory .exit)) (now (commands .entry)) ≡ gathered (length (now (out .entry))) (ringingAt at (now (m .entry)) (now (memory .entry)) (now (commands .entry))) .next ⌝ }
@@ -70,7 +90,7 @@ fn gather_by(
         if out.len() < here.length + bench_text::LINE_BYTES {
             return here;
         }
-        let next = step_into(here, m, commands, memory, order, number, out);
+        let next = step_into(here, m, commands, memory, order, number, out, sine, decay);
         let took = next.taken != here.taken;
         number = bench_ringing::next_number(m, memory, number, took);
         here = next;
@@ -93,5 +113,7 @@ pub fn gather(
 {
     let mut order = [0u32; layout::GENERATORS];
     bench_pass::by_number(&mut order);
-    gather_by(at, m, commands, memory, &order, out)
+    let sine = sine::table();
+    let decay = exponential::table();
+    gather_by(at, m, commands, memory, &order, out, &sine, &decay)
 }

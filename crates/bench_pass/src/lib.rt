@@ -2,10 +2,14 @@
 ghost use mathlib.Core.Path.{_≡_};
 ghost use mathlib.Core.List.{[], _∷_};
 ghost use lib.ListN.{length};
+ghost use Rattle.sine.specs.Sine.{quarter};
+ghost use Rattle.exponential.specs.Exponential.{tableSize, entries};
 ghost use Rattle.questions.specs.Questions.{asked};
 ghost use Rattle.machine.specs.Questions.{question1, question2};
 ghost use Rattle.order.specs.Order.{question7, question8};
 ghost use Rattle.bench_pass.specs.ByNumber.{byNumber, passed, refusedAgain};
+use exponential::Entries;
+use sine::Quarter;
 
 // Fills the order by number of 256 generators.
 pub fn by_number(order: &mut [u32; layout::GENERATORS])
@@ -65,12 +69,21 @@ pub fn refusal(m: &[u32], memory: &[u32]) -> u32
 }
 
 // A pass that no question refuses, by the first entries of the order by number.
-pub fn run(m: &mut [u32], memory: &mut [u32], order: &[u32])
+pub fn run(m: &mut [u32], memory: &mut [u32], order: &[u32], sine: &Quarter, decay: &Entries)
     requires { ⌜ passed (now m) (now memory) .number ≡ 0 ⌝ }
     requires { ⌜ now order ≡ byNumber 256 ⌝ }
+    requires { ⌜ (now sine ≡ quarter) × (now decay ≡ entries tableSize) ⌝ }
     ensures { λ _. ⌜ (now (m .exit) ≡ passed (now (m .entry)) (now (memory .entry)) .machine) × (now (memory .exit) ≡ passed (now (m .entry)) (now (memory .entry)) .memory) ⌝ }
 {
     let t = layout::ticks(m);
     let mut places = [0u32; 1];
-    pass::run(m, &order[0..t], &order[0..0], &mut places[0..0], memory);
+    pass::run(
+        m,
+        &order[0..t],
+        &order[0..0],
+        &mut places[0..0],
+        memory,
+        sine,
+        decay,
+    );
 }

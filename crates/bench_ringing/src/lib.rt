@@ -5,12 +5,16 @@ ghost use mathlib.Core.List.{[], _∷_};
 ghost use Prim.Native.Nat.{_+_, _≤_};
 ghost use lib.ListN.{length, drop};
 ghost use lib.Seq.{sets};
+ghost use Rattle.sine.specs.Sine.{quarter};
+ghost use Rattle.exponential.specs.Exponential.{tableSize, entries};
 ghost use Rattle.questions.specs.Questions.{asked};
 ghost use Rattle.machine.specs.Questions.{question1, question2};
 ghost use Rattle.bench_pass.specs.ByNumber.{byNumber, passed};
 ghost use Rattle.update.specs.Update.{updateOf, takenCount};
 ghost use Rattle.bench_ringing.specs.Ringing.{lineAfter};
 ghost use Rattle.bench_ringing.specs.Steps.{Lined, Known, ringingAt, stepOf, commandsTaken};
+use exponential::Entries;
+use sine::Quarter;
 
 // How far a ringing is: the passes left, the commands taken so far, and the length of the last step's line.
 pub struct Progress {
@@ -60,10 +64,13 @@ pub fn step(
     order: &[u32],
     number: u32,
     line: &mut [u8; bench_text::LINE_BYTES],
+    sine: &Quarter,
+    decay: &Entries,
 ) -> Progress
     requires { ⌜ at .passes ≢ 0 ⌝ }
     requires { ⌜ now order ≡ byNumber 256 ⌝ }
     requires { ⌜ number ≡ passed (now m) (now memory) .number ⌝ }
+    requires { ⌜ (now sine ≡ quarter) × (now decay ≡ entries tableSize) ⌝ }
     ensures { λ r. ⌜ r .length ≡ length (stepOf (ringingAt at (now (m .entry)) (now (memory .entry)) (now (commands .entry))) .bytes) ⌝ }
     ensures { λ _. ⌜ now (line .exit) ≡ sets (now (line .entry)) 0 (stepOf (ringingAt at (now (m .entry)) (now (memory .entry)) (now (commands .entry))) .bytes) ⌝ }
     ensures { λ r. ⌜ ringingAt r (now (m .exit)) (now (memory .exit)) (now (commands .entry)) ≡ stepOf (ringingAt at (now (m .entry)) (now (memory .entry)) (now (commands .entry))) .next ⌝ }
@@ -80,7 +87,7 @@ pub fn step(
             length,
         };
     }
-    bench_pass::run(m, memory, order);
+    bench_pass::run(m, memory, order, sine, decay);
     let mut refused: u32 = 0;
     let count = ring_update(m, commands, from, &mut refused);
     let taken = at.taken + count;

@@ -1,16 +1,17 @@
 // The modifiers' turn that invokes a delay unit.
 ghost use mathlib.Core.Path.{_≡_};
 ghost use Prim.Native.Nat.{_<_, _^_};
+ghost use lib.Dec.{eqb};
 ghost use Rattle.modifier.specs.Modifier.{Ranged};
-ghost use Rattle.modifier_delay.specs.Invoke.{invoking, unitOf, invokeDelay};
+ghost use Rattle.modifier_delay.specs.Invoke.{unitOf, invokeDelay};
 use modifier::Modifier;
 use modifier::Turned;
 
-// Whether a modifier invokes a delay unit.
-pub fn invoking(u: Modifier) -> bool
-    ensures { λ r. ⌜ r ≡ invoking u ⌝ }
+// Whether a function invokes a delay unit.
+pub fn invoking(f: u32) -> bool
+    ensures { λ r. ⌜ r ≡ eqb f 0b00111 ⌝ }
 {
-    u.function() == 0b00111
+    f == 0b00111
 }
 
 // The unit's number: the low 5 bits of MRM.

@@ -2,9 +2,13 @@
 ghost use mathlib.Core.Path.{_≡_};
 ghost use Prim.Native.Nat.{_≤_};
 ghost use Rattle.layout.specs.Machine.{Reaches, ticksOf};
+ghost use Rattle.sine.specs.Sine.{quarter};
+ghost use Rattle.exponential.specs.Exponential.{tableSize, entries};
 ghost use Rattle.pass_model.specs.Pass.{counted, ran, passRefusal, passOf};
 ghost use Rattle.pass_generators.specs.Loops.{Ready, Numbers};
+use exponential::Entries;
 use pass_generators::Items;
+use sine::Quarter;
 
 // What a pass answers: the number of the refusing question or 0, and the items read and written.
 pub struct Passed {
@@ -29,15 +33,18 @@ pub fn run(
     items: &[u32],
     places: &mut [u32],
     memory: &mut [u32],
+    sine: &Quarter,
+    decay: &Entries,
 ) -> Items
     requires { ⌜ Ready (now m) ⌝ }
     requires { ⌜ Numbers (now order) ⌝ }
     requires { ⌜ ticksOf (now m) ≤ 256 ⌝ }
+    requires { ⌜ (now sine ≡ quarter) × (now decay ≡ entries tableSize) ⌝ }
     ensures { λ r. ⌜ record { number = 0; read = r .reads; written = r .writes; machine = now (m .exit); places = now (places .exit); memory = now (memory .exit) } ≡ ran (now (m .entry)) (record { order = now (order .entry); items = now (items .entry); places = now (places .entry); memory = now (memory .entry) }) ⌝ }
 {
     let t = layout::ticks(m);
     let mut s = sums::load(m);
-    let done = pass_generators::generators(m, &mut s, order, items, places);
+    let done = pass_generators::generators(m, &mut s, order, items, places, sine, decay);
     pass_modifiers::modifiers(m, &mut s, memory, t, t / 2);
     sums::close(m, &s);
     count(m);
@@ -87,7 +94,9 @@ pub fn pass(
             written: 0,
         };
     }
-    let done = run(m, order, items, places, memory);
+    let sine = sine::table();
+    let decay = exponential::table();
+    let done = run(m, order, items, places, memory, &sine, &decay);
     Passed {
         number: 0,
         read: done.reads,

@@ -140,21 +140,22 @@ fn step(
     }
 }
 
-// The generators of an order are taken one after the other, from nothing triggered, read and written.
+// The generators of an order are taken one after the other, from nothing triggered, read and written. The tables are handed on, so that a caller of many passes copies them once.
 pub fn generators(
     m: &mut [u32],
     s: &mut Sums,
     order: &[u32],
     items: &[u32],
     places: &mut [u32],
+    sine: &Quarter,
+    decay: &Entries,
 ) -> Items
     requires { ⌜ Ready (now m) ⌝ }
     requires { ⌜ Numbers (now order) ⌝ }
+    requires { ⌜ (now sine ≡ quarter) × (now decay ≡ entries tableSize) ⌝ }
     ensures { λ r. ⌜ record { words = now (m .exit); sums = now (s .exit); places = now (places .exit); reads = r .reads; writes = r .writes } ≡ takenBy of1978 (now (items .entry)) (begun (now (m .entry)) (now (s .entry)) (now (places .entry))) (now (order .entry)) ⌝ }
 {
     let switches = modes::table();
-    let sine = sine::table();
-    let decay = exponential::table();
     let mut triggered = [0u8; layout::GENERATORS];
     let mut done = Items {
         reads: 0,
@@ -168,8 +169,8 @@ pub fn generators(
             s,
             &mut triggered,
             &switches,
-            &sine,
-            &decay,
+            sine,
+            decay,
             items,
             places,
             done,

@@ -1,3 +1,3 @@
 pub mod Ring
 pub mod Lags
-pub mod Units
+pub mod Turns

@@ -1,20 +1,14 @@
 -- The stage as the code takes it: sum memory in place, with the late view as its modifier-this, and the early view beside it, which lags by a ring of the last four writes.
 -- Laws join it to `modifiedBy`, which alone a reader has to believe. Assumes nothing.
-use Prim.Native.Nat.{ℕ, zero, suc, _/_, _%_}
-use mathlib.Core.Bool.{cond}
+use Prim.Native.Nat.{ℕ, zero, suc, _%_}
 use mathlib.Core.List.{List, [], _∷_}
-use lib.Dec.{eqb}
 use lib.ListN.{getD, set}
-use Rattle.words.specs.Words.{sum}
 use Rattle.layout.specs.Layout.{modifierAt}
 use Rattle.layout.specs.Machine.{Sums}
 use Rattle.modifier.specs.Modifier.{stored}
-use Rattle.sums.specs.Sums.{modifierThis, wordAt}
+use Rattle.sums.specs.Sums.{modifierThis}
 use Rattle.pass_model.specs.Modifiers.{Write, withWrite, turnSeen, modifierOf, Held, delayed}
-
--- The word that a write leaves at its place of a quadrant.
-unfoldable pub wordLeft : List ℕ → Write → ℕ
-wordLeft q w = cond (eqb (w .msum / 64) 0) (sum 20 (wordAt q (w .msum % 64)) (w .s)) (w .s)
+use Rattle.modifier_views.specs.Views.{wordLeft, caughtUp}
 
 -- The machine's words and delay memory, sum memory, the early view; and of the last four writes, modifier k's in slot k mod 4, MSUM and the word left.
 pub record Lagging : Type 0 where
@@ -23,10 +17,6 @@ pub record Lagging : Type 0 where
   pub early : List ℕ
   pub msums : List ℕ
   pub lefts : List ℕ
-
--- The early view with the write of slot j.
-unfoldable pub caughtUp : List ℕ → List ℕ → List ℕ → ℕ → List ℕ
-caughtUp early msums lefts j = set early (getD msums j 0 % 64) (getD lefts j 0)
 
 -- Modifier m is taken, and its delay unit, in a pass of T processing ticks.
 unfoldable pub lagStep : ℕ → Lagging → ℕ → Lagging

@@ -40,8 +40,8 @@ pub read-whole : (text m room : List ℕ) {number passes count : ℕ} {m' room' 
 read-whole text m room h e = sym (ap (λ (a : Answer). length (a .machine)) e ∙ read-machine text m room h)
 
 -- Each part leaves fewer passes.
-pub part-falls : (r : Ringing) {next : Ringing} → r .passes ≢ 0 → next ≡ gathered 8192 r .next → next .passes < r .passes
-part-falls r n e = rw e (gathered-falls 8192 r (lit≤ tt) n)
+pub part-falls : (r : Ringing) {next : Ringing} → r .passes ≢ 0 → next ≡ gathered 65536 r .next → next .passes < r .passes
+part-falls r n e = rw e (gathered-falls 65536 r (lit≤ tt) n)
 
 -- So many bytes that were read lie within a buffer; where a read failed there are none.
 pub bytes-within : {k m : ℕ} → k ≤ m → (n : ℕ) → Bytes k ≡ Bytes n → n ≤ m

@@ -11,7 +11,7 @@ use libc::STDIN_FILENO;
 use libc::STDOUT_FILENO;
 
 // The buffer for lines that are printed together.
-const OUTPUT_BYTES: usize = 8192;
+const OUTPUT_BYTES: usize = 65536;
 
 // What was read: so many bytes, or a read failed.
 enum Input {
@@ -34,7 +34,7 @@ fn refuse(n: u32) -> bool {
 
 // Rings as many passes as the buffer has room for, and prints them; says whether they were written.
 fn ring_part(at: Progress, m: &mut [u32], commands: &[u32], memory: &mut [u32]) -> Part
-    ensures { λ r. ⌜ ringingAt (r .next) (now (m .exit)) (now (memory .exit)) (now (commands .entry)) ≡ gathered 8192 (ringingAt at (now (m .entry)) (now (memory .entry)) (now (commands .entry))) .next ⌝ }
+    ensures { λ r. ⌜ ringingAt (r .next) (now (m .exit)) (now (memory .exit)) (now (commands .entry)) ≡ gathered 65536 (ringingAt at (now (m .entry)) (now (memory .entry)) (now (commands .entry))) .next ⌝ }
 {
     let mut out = [0u8; OUTPUT_BYTES];
     let next = bench_gathering::gather(at, m, commands, memory, &mut out);

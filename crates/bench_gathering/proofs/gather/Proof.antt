@@ -10,9 +10,16 @@ use Rattle.bench_gathering.proofs.gather.Tie as tie
 by-number-requires : tie.Need-by-number-requires
 by-number-requires c κs = search needs
 
+table-requires : tie.Need-table-requires
+table-requires c κs = search needs
+
+table-requires-2 : tie.Need-table-requires-2
+table-requires-2 c κs = search needs
+
 slice-aggregate-gather-by : tie.Need-slice-aggregate-gather-by
 slice-aggregate-gather-by c =
-    let filled = c .before .before .before in
+    let tables = c .before .before .before in
+    let filled = tables .before .before in
     sym (by-number-length 256) ∙ ap length (sym (filled .by-number .ensures))
 
 gather-by-requires : tie.Need-gather-by-requires
@@ -35,6 +42,8 @@ gather-spec =
     tie.close
     (tie.spec
     by-number-requires
+    table-requires
+    table-requires-2
     slice-aggregate-gather-by
     gather-by-requires
     same-length

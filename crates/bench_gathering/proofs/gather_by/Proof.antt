@@ -11,14 +11,14 @@ use Rattle.bench_gathering.proofs.gather_by.Statement.{statement}
 use Rattle.bench_gathering.proofs.gather_by.Tie as tie
 
 abbrev Inv-loop : tie.InvT-loop
-Inv-loop m₀ commands memory₀ order out₀ passes taken number₀ here₀ m memory out number here =
+Inv-loop m₀ commands memory₀ order out₀ sine decay passes taken number₀ here₀ m memory out number here =
     (length m ≡ length m₀)
     × ((length memory ≡ length memory₀)
     × ((number ≡ passed m memory .number)
     × Gathering out₀ (record { passes = passes; machine = m₀; memory = memory₀; commands = drop taken commands }) taken out (here .length) (ringingAt here m memory commands) (here .taken)))
 
 abbrev μ-loop : tie.MeasureT-loop
-μ-loop m₀ commands memory₀ order out₀ passes taken number₀ here₀ m memory out number here = here .passes
+μ-loop m₀ commands memory₀ order out₀ sine decay passes taken number₀ here₀ m memory out number here = here .passes
 
 refusal-requires : tie.Need-refusal-requires Inv-loop μ-loop
 refusal-requires c κs = search needs
@@ -49,7 +49,7 @@ step-into-requires c κs =
     let asked = turn .before in
     let known = asked .before .before .before in
     let start = known .before .before .before .before .before in
-    (free .if2 .left, (test .if1 .taken, (start .pre, turn .loop .inv .1 .1 .0)))
+    (free .if2 .left, (test .if1 .taken, (start .pre .0, (turn .loop .inv .1 .1 .0, start .pre .1))))
 
 next-number-requires : tie.Need-next-number-requires Inv-loop μ-loop
 next-number-requires c κs =

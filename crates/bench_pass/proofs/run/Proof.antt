@@ -18,7 +18,7 @@ part-run-end : tie.Need-part-run-end
 part-run-end c =
     let ticks = c .before in
     let start = ticks .before .before .before .before .before in
-    entries-there (start .args .m .now) (start .args .memory .now) (start .pre .0) (start .pre .1) (ticks .ticks .ensures)
+    entries-there (start .args .m .now) (start .args .memory .now) (start .pre .0) (start .pre .1 .0) (ticks .ticks .ensures)
 
 sub-run-2 : tie.Need-sub-run-2
 sub-run-2 c = search needs
@@ -44,7 +44,7 @@ run-requires c κs =
     let start = ticks .before .before .before .before .before in
     let m = start .args .m .now in
     let memory = start .args .memory .now in
-    (ready m memory (start .pre .0), (numbers m memory (start .pre .0) (start .pre .1) (ticks .ticks .ensures), ticks-most m memory (start .pre .0)))
+    (ready m memory (start .pre .0), (numbers m memory (start .pre .0) (start .pre .1 .0) (ticks .ticks .ensures), (ticks-most m memory (start .pre .0), start .pre .1 .1)))
 
 same-length : tie.Need-same-length
 same-length c = search needs
@@ -57,7 +57,7 @@ returns c =
     let ran = c .before .before .before .before .before in
     let ticks = ran .before .before .before .before .before .before in
     let start = ticks .before .before .before .before .before in
-    passed-so (start .args .m .now) (start .args .memory .now) (start .pre .0) (start .pre .1) (ticks .ticks .ensures) (ran .run .ensures)
+    passed-so (start .args .m .now) (start .args .memory .now) (start .pre .0) (start .pre .1 .0) (ticks .ticks .ensures) (ran .run .ensures)
 
 pub run-spec : {M : Type 1} → statement M
 run-spec =

@@ -18,9 +18,9 @@ returns c =
     let test = c .before .before in
     let start = test .before .before .before .before .before in
     let a = start .args in
-    let n = start .pre .1 .1 in
+    let n = start .pre .1 .1 .0 in
     let stays = refused-stays (a .m .now) (a .memory .now) (λ e. test .if1 .taken (n ∙ e)) in
-    step-refused (ringingAt (a .at) (a .m .now) (a .memory .now) (a .commands .now)) (a .line .now) (a .at .taken) (start .pre .0) (start .pre .1 .1) (stays .0) (stays .1) (test .if1 .taken) (c .refusal-line .ensures)
+    step-refused (ringingAt (a .at) (a .m .now) (a .memory .now) (a .commands .now)) (a .line .now) (a .at .taken) (start .pre .0) (start .pre .1 .1 .0) (stays .0) (stays .1) (test .if1 .taken) (c .refusal-line .ensures)
 
 run-requires : tie.Need-run-requires
 run-requires c κs = search needs
@@ -30,7 +30,7 @@ ring-update-requires c κs =
     let ran = c .before .before .before .before .before .before in
     let passes = ran .before .before .before in
     let start = passes .before .before .before .before .before in
-    rw (ran .run .ensures .0) (last-passes (start .args .m .now) (start .args .memory .now) (sym (start .pre .1 .1) ∙ passes .if1 .left))
+    rw (ran .run .ensures .0) (last-passes (start .args .m .now) (start .args .memory .now) (sym (start .pre .1 .1 .0) ∙ passes .if1 .left))
 
 add-taken : tie.Need-add-taken
 add-taken c =
@@ -60,7 +60,7 @@ returns-2 c =
     let passes = ran .before .before .before in
     let start = passes .before .before .before .before .before in
     let a = start .args in
-    step-update-refused (ringingAt (a .at) (a .m .now) (a .memory .now) (a .commands .now)) (a .line .now) (a .at .taken) (start .pre .0) (start .pre .1 .1) (ran .run .ensures .0) (ran .run .ensures .1) (passes .if1 .left) (updated .ring-update .ensures .1) (updated .ring-update .ensures .0) (test .if2 .taken) (c .refusal-line2 .ensures)
+    step-update-refused (ringingAt (a .at) (a .m .now) (a .memory .now) (a .commands .now)) (a .line .now) (a .at .taken) (start .pre .0) (start .pre .1 .1 .0) (ran .run .ensures .0) (ran .run .ensures .1) (passes .if1 .left) (updated .ring-update .ensures .1) (updated .ring-update .ensures .0) (test .if2 .taken) (c .refusal-line2 .ensures)
 
 ring-line-requires : tie.Need-ring-line-requires
 ring-line-requires c κs =
@@ -71,7 +71,7 @@ ring-line-requires c κs =
     let passes = ran .before .before .before in
     let start = passes .before .before .before .before .before in
     let a = start .args in
-    lined _ (drop (a .at .taken) (a .commands .now)) (rw (ran .run .ensures .0) (last-passes (a .m .now) (a .memory .now) (sym (start .pre .1 .1) ∙ passes .if1 .left))) (updated .ring-update .ensures .1)
+    lined _ (drop (a .at .taken) (a .commands .now)) (rw (ran .run .ensures .0) (last-passes (a .m .now) (a .memory .now) (sym (start .pre .1 .1 .0) ∙ passes .if1 .left))) (updated .ring-update .ensures .1)
 
 sub-passes : tie.Need-sub-passes
 sub-passes c = search needs
@@ -92,7 +92,7 @@ returns-3 c =
     let passes = ran .before .before .before in
     let start = passes .before .before .before .before .before in
     let a = start .args in
-    step-goes (ringingAt (a .at) (a .m .now) (a .memory .now) (a .commands .now)) (a .line .now) (a .at .taken) (start .pre .0) (start .pre .1 .1) (ran .run .ensures .0) (ran .run .ensures .1) (passes .if1 .left) (updated .ring-update .ensures .1) (updated .ring-update .ensures .0) (test .if2 .left) (line .ring-line .ensures)
+    step-goes (ringingAt (a .at) (a .m .now) (a .memory .now) (a .commands .now)) (a .line .now) (a .at .taken) (start .pre .0) (start .pre .1 .1 .0) (ran .run .ensures .0) (ran .run .ensures .1) (passes .if1 .left) (updated .ring-update .ensures .1) (updated .ring-update .ensures .0) (test .if2 .left) (line .ring-line .ensures)
 
 pub step-spec : {M : Type 1} → statement M
 step-spec =

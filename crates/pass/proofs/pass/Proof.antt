@@ -24,9 +24,17 @@ returns : tie.Need-returns
 unfolding passOf refused
 returns c = rw (← (c .before .refusal .ensures), ne-eqb _ 0 (c .if1 .taken))
 
+table-requires : tie.Need-table-requires
+table-requires c κs = search needs
+
+table-requires-2 : tie.Need-table-requires-2
+table-requires-2 c κs = search needs
+
 run-requires : tie.Need-run-requires
 run-requires c κs =
-    let let-through = c .before .before .before in
+    let decay = c .before .before .before .before .before in
+    let sine = decay .before in
+    let let-through = sine .before in
     let asked = let-through .before in
     let known = asked .before .before .before .before in
     let a = known .before .before .before .before .before .args in
@@ -34,7 +42,7 @@ run-requires c κs =
     let o = a .order .now in
     let call : Call = record { order = o; items = a .items .now; places = a .places .now; memory = a .memory .now } in
     let p = passes m call (sym (asked .refusal .ensures) ∙ let-through .if1 .left) in
-    (is-ready m (p .whole), (are-numbers m o (p .whole) (p .ordered), few-ticks m o (p .whole)))
+    (is-ready m (p .whole), (are-numbers m o (p .whole) (p .ordered), (few-ticks m o (p .whole), (sine .table .ensures, decay .table2 .ensures))))
 
 same-length-4 : tie.Need-same-length-4
 same-length-4 c = c .before .before .before .before .before .before .run .kept .0
@@ -49,7 +57,8 @@ returns-2 : tie.Need-returns-2
 unfolding passOf
 returns-2 c =
     let run = c .before .before .before .before .before .before in
-    let let-through = run .before .before .before .before in
+    let tables = run .before .before .before .before .before .before in
+    let let-through = tables .before .before in
     let e = sym (let-through .before .refusal .ensures) ∙ let-through .if1 .left in
     rw e (run .run .ensures)
 
@@ -62,6 +71,8 @@ pass-spec =
     same-length-2
     same-length-3
     returns
+    table-requires
+    table-requires-2
     run-requires
     same-length-4
     same-length-5

@@ -20,7 +20,7 @@ generators-requires c κs =
     let ticks = c .before .before .before .before .before in
     let known = ticks .before in
     let start = known .before .before .before .before .before .before in
-    (start .pre .0, start .pre .1 .0)
+    (start .pre .0, (start .pre .1 .0, start .pre .1 .1 .1))
 
 modifiers-requires : tie.Need-modifiers-requires
 modifiers-requires c κs =
@@ -29,7 +29,7 @@ modifiers-requires c κs =
     let ticks = generators .before .before .before .before .before .before in
     let known = ticks .before in
     let start = known .before .before .before .before .before .before in
-    (same-reach (generators .generators .kept .0) (start .pre .0 .reaches), omega (arith, ticks .ticks .ensures, start .pre .1 .1))
+    (same-reach (generators .generators .kept .0) (start .pre .0 .reaches), omega (arith, ticks .ticks .ensures, start .pre .1 .1 .0))
 
 close-requires : tie.Need-close-requires
 close-requires c κs =

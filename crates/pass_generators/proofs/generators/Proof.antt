@@ -12,7 +12,7 @@ use Rattle.pass_generators.proofs.generators.Statement.{statement}
 use Rattle.pass_generators.proofs.generators.Tie as tie
 
 abbrev Inv-loop : tie.InvT-loop
-Inv-loop m₀ s₀ order items places₀ switches sine decay triggered₀ done₀ i₀ m s places triggered done i =
+Inv-loop m₀ s₀ order items places₀ sine decay switches triggered₀ done₀ i₀ m s places triggered done i =
     (i ≤ length order)
     × (length m ≡ length m₀)
     × (length places ≡ length places₀)
@@ -23,23 +23,16 @@ Inv-loop m₀ s₀ order items places₀ switches sine decay triggered₀ done�
     ≡ steps of1978 items (begun m₀ s₀ places₀) order)
 
 abbrev μ-loop : tie.MeasureT-loop
-μ-loop m₀ s₀ order items places₀ switches sine decay triggered₀ done₀ i₀ m s places triggered done i =
+μ-loop m₀ s₀ order items places₀ sine decay switches triggered₀ done₀ i₀ m s places triggered done i =
     length order - i
 
 table-requires : tie.Need-table-requires Inv-loop μ-loop
 table-requires c κs = search needs
 
-table-requires-2 : tie.Need-table-requires-2 Inv-loop μ-loop
-table-requires-2 c κs = search needs
-
-table-requires-3 : tie.Need-table-requires-3 Inv-loop μ-loop
-table-requires-3 c κs = search needs
-
 loop-holds : tie.Need-loop-holds Inv-loop μ-loop
 unfolding begun zeros
 loop-holds c =
-    let tables = c .before .before .before in
-    let start = tables .before .before .before .before in
+    let start = c .before .before .before .before .before in
     (omega arith, refl, refl, start .pre .0, omega arith, omega arith, refl)
 
 mul-wide : tie.Need-mul-wide Inv-loop μ-loop
@@ -53,20 +46,18 @@ wide-requires c κs = search needs
 
 step-requires : tie.Need-step-requires Inv-loop μ-loop
 step-requires c κs =
-    let array = c .before .before .before .before in
+    let array = c .before .before in
     let entry = array .before .before .before in
     let z = entry .before .before .before in
-    let decay = z .before in
-    let sine = decay .before in
-    let switches = sine .before in
+    let switches = z .before in
     let start = switches .before .before .before .before .before in
-    let below : entry .wide .result < 256 = rw (entry .wide .ensures) (start .pre .1 .below (z .loop .i) (omega arith)) in (
+    let below : entry .wide .result < 256 = rw (entry .wide .ensures) (start .pre .1 .0 .below (z .loop .i) (omega arith)) in (
       z .loop .inv .3 .reaches,
       (
         z .loop .inv .3 .low _ below,
         (
-          (switches .table .ensures, sine .table2 .ensures, decay .table3 .ensures),
-          (below, omega (arith, start .pre .1 .most), omega (arith, start .pre .1 .most)),
+          (switches .table .ensures, start .pre .1 .1 .0, start .pre .1 .1 .1),
+          (below, omega (arith, start .pre .1 .0 .most), omega (arith, start .pre .1 .0 .most)),
         ),
       ),
     )
@@ -80,17 +71,17 @@ loop-less c = omega arith
 loop-again : tie.Need-loop-again Inv-loop μ-loop
 loop-again c =
     let taken = c .before .before .before .before in
-    let array = taken .before .before .before .before .before in
+    let array = taken .before .before .before in
     let entry = array .before .before .before in
     let test = entry .before .before in
     let z = test .before in
-    let tables = z .before .before .before in
+    let tables = z .before in
     let start = tables .before .before .before .before .before in
     let l = z .loop in
     let items = start .args .items .now in
     let s : State = record { words = l .m; sums = l .s; triggered = l .triggered; places = l .places; reads = l .done .reads; writes = l .done .writes } in
     let more : l .i < length (start .args .order .now) = test .loop-test .taken in
-    let below : entry .wide .result < 256 = rw (entry .wide .ensures) (start .pre .1 .below (l .i) more) in (
+    let below : entry .wide .result < 256 = rw (entry .wide .ensures) (start .pre .1 .0 .below (l .i) more) in (
       omega (arith, more),
       taken .step .kept .0 ∙ l .inv .1,
       taken .step .kept .1 .1 .1 .1 .1 .1 .1 .0 ∙ l .inv .2,
@@ -118,8 +109,6 @@ generators-spec =
     Inv-loop
     μ-loop
     table-requires
-    table-requires-2
-    table-requires-3
     loop-holds
     mul-wide
     shared-slice-read-wide

@@ -1,11 +1,9 @@
 -- `step` meets its contract: the promises of its calls, one after the other.
-use native.Mathlib.Omega.{arith}
-use Rattle.modifier.specs.Modifier.{Ranged}
+-- Assumes nothing.
 use Rattle.modifier.proofs.Low.{loaded-ranged}
-use Rattle.layout.proofs.Reach.{same-reach}
 use Rattle.pass_model.specs.Modifiers.{modifierOf}
-use Rattle.pass_modifiers.specs.Loops.{lagStep}
 use Rattle.pass_model.proofs.Modifiers.{turn-seen-low}
+use Rattle.pass_modifiers.specs.Loops.{lagStep}
 use borrow.Author.Needs.{needs}
 use Rattle.pass_modifiers.proofs.step.Statement.{statement}
 use Rattle.pass_modifiers.proofs.step.Tie as tie
@@ -16,29 +14,15 @@ catch-up-requires c κs = search needs
 modifier-at-requires : tie.Need-modifier-at-requires
 modifier-at-requires c κs = search needs
 
-turned-requires : tie.Need-turned-requires
+taken-requires : tie.Need-taken-requires
 unfolding modifierOf
-turned-requires c κs = (search needs, rw (c .before .before .before .modifier-at .ensures) (loaded-ranged _))
-
-put-modifier-at-requires : tie.Need-put-modifier-at-requires
-put-modifier-at-requires c κs = search needs
-
-delay-turn-requires : tie.Need-delay-turn-requires
-delay-turn-requires c κs =
-    let p = c .before .before .before .before in
-    let t = p .before .before .before in
-    let u = t .before .before .before .before in
-    let known = u .before .before .before in
-    let start = known .before .before .before .before .before in
-    let low : Ranged (t .turned .result .unit) = rw (t .turned .ensures, u .modifier-at .ensures) (turn-seen-low _ _ _ _ _ _ .ranged) in
-    (same-reach (p .put-modifier-at .kept .0) (start .pre .0), omega (arith, low))
+taken-requires c κs = (search needs, (search needs, rw (c .before .before .before .before .modifier-at .ensures) (loaded-ranged _)))
 
 put-requires : tie.Need-put-requires
 put-requires c κs =
-    let d = c .before .before .before .before .before in
-    let p = d .before .before .before .before .before in
-    let t = p .before .before .before in
-    rw (t .turned .ensures, t .before .before .before .before .modifier-at .ensures) (turn-seen-low _ _ _ _ _ _ .s-low)
+    let t = c .before .before .before .before .before in
+    let u = t .before .before .before .before .before in
+    rw (t .taken .ensures .0, u .modifier-at .ensures) (turn-seen-low _ _ _ _ _ _ .s-low)
 
 mul-msums : tie.Need-mul-msums
 mul-msums c = search needs
@@ -61,19 +45,9 @@ same-length-2 c = search needs
 returns : tie.Need-returns
 unfolding lagStep
 returns c =
-    let d = c .before .before .before .before .before .before in
-    let p = d .before .before .before .before .before in
-    let t = p .before .before .before in
-    let u = t .before .before .before .before in
-    rw (
-      d .delay-turn .ensures,
-      c .put .ensures .1,
-      c .put .ensures .0,
-      p .put-modifier-at .ensures,
-      t .turned .ensures,
-      u .modifier-at .ensures,
-      u .before .before .catch-up .ensures,
-    )
+    let t = c .before .before .before .before .before .before in
+    let u = t .before .before .before .before .before in
+    rw (t .taken .ensures .1, c .put .ensures .1, c .put .ensures .0, t .taken .ensures .0, u .modifier-at .ensures, u .before .before .catch-up .ensures)
 
 pub step-spec : {M : Type 1} → statement M
 step-spec =
@@ -81,9 +55,7 @@ step-spec =
     (tie.spec
     catch-up-requires
     modifier-at-requires
-    turned-requires
-    put-modifier-at-requires
-    delay-turn-requires
+    taken-requires
     put-requires
     mul-msums
     element-write-msums

@@ -24,7 +24,7 @@ part-write-all-end c =
     let part = c .before .before .before .before .before .before in
     let known = part .before .before .before .before in
     let a = known .before .before .before .args in
-    gathered-within (replicate 8192 0) (ringingAt (a .at) (a .m .now) (a .memory .now) (a .commands .now)) (part .gather .ensures .0) (part .gather .ensures .1 .0)
+    gathered-within (replicate 65536 0) (ringingAt (a .at) (a .m .now) (a .memory .now) (a .commands .now)) (part .gather .ensures .0) (part .gather .ensures .1 .0)
 
 write-all-requires : tie.Need-write-all-requires
 write-all-requires c κs = search needs

@@ -1,0 +1,52 @@
+-- `put_delay_at` meets its contract: what is written in the part that is handed on is written in the machine.
+-- Assumes nothing.
+use borrow.Author.Needs.{needs}
+use native.Mathlib.Omega.{arith}
+use Rattle.layout.specs.Layout.{delayAt}
+use Rattle.invoked_delay.proofs.Units.{put-back}
+use Rattle.invoked_delay.proofs.put_delay_at.Statement.{statement}
+use Rattle.invoked_delay.proofs.put_delay_at.Tie as tie
+
+mul-at : tie.Need-mul-at
+mul-at c = search needs
+
+add-at : tie.Need-add-at
+add-at c = search needs
+
+mul-store : tie.Need-mul-store
+mul-store c = search needs
+
+sub-store : tie.Need-sub-store
+sub-store c = search needs
+
+part-store-start : tie.Need-part-store-start
+part-store-start c = search needs
+
+part-store-end : tie.Need-part-store-end
+part-store-end c = search needs
+
+store-requires : tie.Need-store-requires
+store-requires c κs = search needs
+
+same-length : tie.Need-same-length
+same-length c = search needs
+
+returns : tie.Need-returns
+returns c =
+    let s = c .before .before in
+    let a = s .before .before .before .args in
+    rw (s .store .ensures) (put-back (a .m .now) (delayAt (a .n)) (a .unit) (omega arith))
+
+pub put-delay-at-spec : {M : Type 1} → statement M
+put-delay-at-spec =
+    tie.close
+    (tie.spec
+    mul-at
+    add-at
+    mul-store
+    sub-store
+    part-store-start
+    part-store-end
+    store-requires
+    same-length
+    returns)

@@ -1,0 +1,33 @@
+-- `modifier_at` meets its contract: the part of the machine that is handed on runs to its end.
+use Rattle.lists.proofs.Parts.{part-from}
+use Rattle.pass_model.specs.Modifiers.{modifierOf}
+use borrow.Author.Needs.{needs}
+use Rattle.modifier_registers.proofs.modifier_at.Statement.{statement}
+use Rattle.modifier_registers.proofs.modifier_at.Tie as tie
+
+place-requires : tie.Need-place-requires
+place-requires c κs = search needs
+
+mul-load : tie.Need-mul-load
+mul-load c = search needs
+
+sub-load : tie.Need-sub-load
+sub-load c = search needs
+
+part-load-start : tie.Need-part-load-start
+part-load-start c = search needs
+
+part-load-end : tie.Need-part-load-end
+part-load-end c = search needs
+
+load-requires : tie.Need-load-requires
+load-requires c κs = search needs
+
+returns : tie.Need-returns
+unfolding modifierOf
+returns c = rw (c .load .ensures, part-from, c .before .before .place .ensures)
+
+pub modifier-at-spec : {M : Type 1} → statement M
+modifier-at-spec =
+    tie.close
+    (tie.spec place-requires mul-load sub-load part-load-start part-load-end load-requires returns)

@@ -1,0 +1,47 @@
+-- `put_modifier_at` meets its contract: what is written in the part that is handed on is written in the machine.
+use native.Mathlib.Omega.{arith}
+use Rattle.pass_model.proofs.Registers.{put-back}
+use borrow.Author.Needs.{needs}
+use Rattle.modifier_registers.proofs.put_modifier_at.Statement.{statement}
+use Rattle.modifier_registers.proofs.put_modifier_at.Tie as tie
+
+place-requires : tie.Need-place-requires
+place-requires c κs = search needs
+
+mul-store : tie.Need-mul-store
+mul-store c = search needs
+
+sub-store : tie.Need-sub-store
+sub-store c = search needs
+
+part-store-start : tie.Need-part-store-start
+part-store-start c = search needs
+
+part-store-end : tie.Need-part-store-end
+part-store-end c = search needs
+
+store-requires : tie.Need-store-requires
+store-requires c κs = search needs
+
+same-length : tie.Need-same-length
+same-length c = search needs
+
+returns : tie.Need-returns
+returns c =
+    let s = c .before .before in
+    let p = s .before .before in
+    let a = p .before .before .args in
+    rw (s .store .ensures, p .place .ensures) (put-back (a .m .now) (a .k) (a .unit) (omega arith))
+
+pub put-modifier-at-spec : {M : Type 1} → statement M
+put-modifier-at-spec =
+    tie.close
+    (tie.spec
+    place-requires
+    mul-store
+    sub-store
+    part-store-start
+    part-store-end
+    store-requires
+    same-length
+    returns)

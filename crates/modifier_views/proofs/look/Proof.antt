@@ -1,0 +1,42 @@
+-- `look` meets its contract by the address's top bits.
+use borrow.Author.Tests.{eq-eqb, ne-eqb}
+use Rattle.pass_model.specs.Modifiers.{seen}
+use borrow.Author.Needs.{needs}
+use Rattle.modifier_views.proofs.look.Statement.{statement}
+use Rattle.modifier_views.proofs.look.Tie as tie
+
+cast-i : tie.Need-cast-i
+cast-i c = search needs
+
+quadrant-word-requires : tie.Need-quadrant-word-requires
+quadrant-word-requires c κs = search needs
+
+returns : tie.Need-returns
+unfolding seen
+returns c = rw (eq-eqb _ 0 (c .before .if1 .taken)) (c .quadrant-word .ensures)
+
+quadrant-word-requires-2 : tie.Need-quadrant-word-requires-2
+quadrant-word-requires-2 c κs = search needs
+
+returns-2 : tie.Need-returns-2
+unfolding seen
+returns-2 c = rw (ne-eqb _ 0 (c .before .before .if1 .left), eq-eqb _ 1 (c .before .if2 .taken)) (c .quadrant-word2 .ensures)
+
+word-at-requires : tie.Need-word-at-requires
+word-at-requires c κs = search needs
+
+returns-3 : tie.Need-returns-3
+unfolding seen
+returns-3 c = rw (ne-eqb _ 0 (c .before .before .if1 .left), ne-eqb _ 1 (c .before .if2 .left)) (c .word-at .ensures)
+
+pub look-spec : {M : Type 1} → statement M
+look-spec =
+    tie.close
+    (tie.spec
+    cast-i
+    quadrant-word-requires
+    returns
+    quadrant-word-requires-2
+    returns-2
+    word-at-requires
+    returns-3)

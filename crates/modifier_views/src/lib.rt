@@ -1,0 +1,68 @@
+// Modifier-this as a modifier sees it: what it reads there, its turn by that, and its write.
+ghost use mathlib.Core.Path.{_≡_};
+ghost use mathlib.Core.List.{[]};
+ghost use Prim.Native.Nat.{_<_, _^_};
+ghost use lib.ListN.{getD, set};
+ghost use Rattle.words.specs.Words.{Word};
+ghost use Rattle.modifier.specs.Modifier.{Ranged};
+ghost use Rattle.sums.specs.Sums.{modifierThis};
+ghost use Rattle.pass_model.specs.Modifiers.{withWrite, seen};
+ghost use Rattle.modifier_views.specs.Views.{turnBeside, wordLeft, caughtUp};
+use modifier::Modifier;
+use modifier::Turned;
+use sums::Quadrant;
+use sums::Sums;
+
+// One of the last four writes in each slot: its MSUM, or the word that it left.
+pub type Ring = [u32; 4];
+
+// The word that MIN or MRM names, with a view of modifier-this.
+pub fn look(s: &Sums, view: &Quadrant, address: u32) -> u32
+    ensures { λ r. ⌜ Word (seen (now (s .entry)) (now (view .entry)) address) r ⌝ }
+{
+    let i = (address % 64) as usize;
+    if address / 64 == 0 {
+        return sums::quadrant_word(s, sums::GENERATOR_LAST, i);
+    }
+    if address / 64 == 1 {
+        return sums::quadrant_word(s, sums::MODIFIER_LAST, i);
+    }
+    sums::word_at(view, i)
+}
+
+// The turn of a modifier that reads B early, and A late or early by its function. The late view is modifier-this itself.
+pub fn turned(s: &Sums, early: &Quadrant, u: Modifier) -> Turned
+    requires { ⌜ Ranged u ⌝ }
+    ensures { λ r. ⌜ r ≡ turnBeside (now (s .entry)) (now (early .entry)) (getD (now (s .entry)) modifierThis []) u ⌝ }
+{
+    let late = &s[sums::MODIFIER_THIS];
+    let b = look(s, early, u.mrm);
+    if modifier_turn::reads_late(u.function()) {
+        return modifier_turn::turn(u, look(s, late, u.min), b);
+    }
+    modifier_turn::turn(u, look(s, early, u.min), b)
+}
+
+// S is added into the word of modifier-this at MSUM, or replaces it; the answer is the word that this leaves.
+pub fn put(s: &mut Sums, msum: u32, value: u32) -> u32
+    requires { ⌜ value < 2 ^ 20 ⌝ }
+    ensures { λ r. ⌜ (r ≡ wordLeft (getD (now (s .entry)) modifierThis []) (record { msum = msum; s = value })) × (now (s .exit) ≡ set (now (s .entry)) modifierThis (withWrite (getD (now (s .entry)) modifierThis []) (record { msum = msum; s = value }))) ⌝ }
+{
+    let i = (msum % 64) as usize;
+    if msum / 64 == 0 {
+        let v = words::add20(sums::quadrant_word(s, sums::MODIFIER_THIS, i), value);
+        s[sums::MODIFIER_THIS][i] = v;
+        return v;
+    }
+    s[sums::MODIFIER_THIS][i] = value;
+    value
+}
+
+// The write in slot j goes into the early view, as the word that it left in modifier-this.
+pub fn catch_up(early: &mut Quadrant, msums: &Ring, lefts: &Ring, j: usize)
+    requires { ⌜ j < 4 ⌝ }
+    ensures { λ r. ⌜ now (early .exit) ≡ caughtUp (now (early .entry)) (now (msums .entry)) (now (lefts .entry)) j ⌝ }
+{
+    let i = (msums[j] % 64) as usize;
+    early[i] = lefts[j];
+}
