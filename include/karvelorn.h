@@ -34,7 +34,8 @@
  *      at most 65535 and Y at most Z?
  *   12 Do the modifiers below T div 2 that invoke delay units name different ones, whatever the units' modes?
  * A pass asks 1, 2, 5, 6, 7, 8, 10, 11 and 12 in this sequence. An update asks 1 and 2, then 3 and 4 as each command
- * has its turn; a compare asks 1 and 2, then 5 and 6 of each order. These two ask none of 10 to 12. No call answers 9.
+ * has its turn; a compare asks 1 and 2, then 5 and 6 of each order, and karvelorn_any_order 1 and 2. These three ask
+ * none of 10 to 12. No call answers 9.
  * A refused call leaves every run as it was, but for an update that refuses a command (3 or 4): what it did before that
  * command stays done.
  *
@@ -186,6 +187,18 @@ uint32_t karvelorn_update(uint32_t *machine, size_t words, const uint32_t *comma
  */
 uint32_t karvelorn_compare(const uint32_t *machine, size_t words, const uint32_t *first, size_t first_entries,
                            const uint32_t *second, size_t second_entries, uint32_t *equal);
+
+/* Whether every two orders of the generators are equal, as karvelorn_compare has it: then no order has to be compared.
+ * The rule, over generators 0 to T-1: no generator in run mode 1001 has a lower neighbour in 1110 or 1101; the
+ * generators in 0010 of each DAC share one GFM; all generators in 0011 share one GFM; at most one is in 0111, and none
+ * in 1101, 1110 or 1111 has its GSUM.
+ *
+ *   machine, words  the machine, and its length: KARVELORN_WORDS; it is only read
+ *   alike           gets 1 where every two orders are equal, as with T = 1; 0 where two are not and in a refusal
+ *
+ * Answers 0, 1 or 2.
+ */
+uint32_t karvelorn_any_order(const uint32_t *machine, size_t words, uint32_t *alike);
 
 #ifdef __cplusplus
 }

@@ -22,6 +22,14 @@ class Faults:
         self.only_lines_named_once = False
         self.y_not_complemented = False
         self.delay_a_early = False
+        # Any order.
+        self.only_1110_triggers = False
+        self.pair_across_t = False
+        self.neighbour_of_0 = False
+        self.feeders_by_generator = False
+        self.readers_by_word = False
+        self.adders_above_t = False
+        self.refused_says_yes = False
 
 
 faults = Faults()

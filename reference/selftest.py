@@ -5,12 +5,12 @@ Run from the repository root as: python3 -m reference.selftest
 
 import sys
 
-from reference.cases import (benches, commands, comparisons, delays, examples, generators,
-                             modifiers, passes, questions)
+from reference.cases import (any_orders, benches, commands, comparisons, delays, examples,
+                             generators, modifiers, passes, questions)
 from reference.faults import NAMES, switched_on
 
 MODULES = (examples, generators, modifiers, passes, delays, questions, commands, comparisons,
-           benches)
+           any_orders, benches)
 GROUPS = [group for module in MODULES for group in module.GROUPS]
 
 
@@ -56,7 +56,7 @@ def report_faults():
 
 def main():
     """Runs everything; gives the exit status."""
-    total, bad = report(GROUPS + list(comparisons.TRIALS))
+    total, bad = report(GROUPS + list(comparisons.TRIALS + any_orders.TRIALS))
     faults, missed = report_faults()
     print(f"reference: {total + faults} checks, {bad + missed} failed")
     return 1 if bad or missed else 0

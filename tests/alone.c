@@ -15,4 +15,5 @@ void _start(void)
     karvelorn_pass(machine, KARVELORN_WORDS, &word, 1, 0, 0, 0, 0, memory, KARVELORN_MEMORY_WORDS, &count, &count);
     karvelorn_update(machine, KARVELORN_WORDS, 0, 0, &count);
     karvelorn_compare(machine, KARVELORN_WORDS, &word, 1, &word, 1, &word);
+    karvelorn_any_order(machine, KARVELORN_WORDS, &word);
 }

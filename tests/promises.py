@@ -19,6 +19,7 @@ REACHABLE = {
     ("pass", "pass"): "passOf",
     ("update", "update"): "updateOf",
     ("compare", "compare"): "compareOf",
+    ("any_order", "any_order"): "anyOrderOf",
     ("bench_file", "read"): "readOf",
     ("bench_gathering", "gather"): "gathered",
     ("bench_text", "refusal_line"): "refusalLine",
@@ -26,6 +27,7 @@ REACHABLE = {
     ("host", "karvelorn_pass"): "passOf",
     ("host", "karvelorn_update"): "updateOf",
     ("host", "karvelorn_compare"): "compareOf",
+    ("host", "karvelorn_any_order"): "anyOrderOf",
 }
 
 # The named forms: what it is, the crate, and a pattern that its source has.

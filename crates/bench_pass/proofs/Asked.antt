@@ -21,8 +21,10 @@ use Rattle.pass_model.proofs.Asked.{Answered, refused-first, refused-7, refused
 use Rattle.pass_laws.proofs.Passing.{let-through, pass-number}
 use Rattle.pass_generators.specs.Loops.{Ready, Numbers}
 use Rattle.pass.proofs.Readiness.{is-ready, are-numbers}
-use Rattle.bench_pass.specs.ByNumber.{byNumber, benchCall, passed, refusedAgain}
-use Rattle.bench_pass.proofs.ByNumber.{by-number-length, first-entries, by-number-passes}
+use Rattle.order_lists.specs.Sequences.{byNumber}
+use Rattle.order_lists.proofs.ByNumber.{by-number-length, first-entries}
+use Rattle.bench_pass.specs.ByNumber.{benchCall, passed, refusedAgain}
+use Rattle.bench_pass.proofs.ByNumber.{by-number-passes}
 
 -- Questions 7 and 8 by the counts, with no items and no places.
 module _ (m : Machine) where

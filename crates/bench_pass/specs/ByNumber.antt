@@ -2,16 +2,12 @@
 -- Assumes nothing.
 use Prim.Native.Nat.{ℕ}
 use mathlib.Core.List.{[], _∷_}
-use Rattle.lists.specs.Lists.{tabulate}
-use Rattle.layout.specs.Machine.{Machine, Order, Memory, ticksOf}
+use Rattle.order_lists.specs.Sequences.{byNumber}
+use Rattle.layout.specs.Machine.{Machine, Memory, ticksOf}
 use Rattle.questions.specs.Questions.{asked}
 use Rattle.order.specs.Order.{question7, question8}
 use Rattle.delay_questions.specs.Questions.{question11, question12}
 use Rattle.pass_model.specs.Pass.{Call, Outcome, passOf}
-
--- The order by number: 0 to t-1.
-unfoldable pub byNumber : ℕ → Order
-byNumber t = tabulate (λ g. g) 0 t
 
 -- A call by number, with no read items and no written places, over a delay memory.
 abbrev pub benchCall : Machine → Memory → Call

@@ -7,7 +7,8 @@ ghost use Rattle.exponential.specs.Exponential.{tableSize, entries};
 ghost use Rattle.questions.specs.Questions.{asked};
 ghost use Rattle.machine.specs.Questions.{question1, question2};
 ghost use Rattle.order.specs.Order.{question7, question8};
-ghost use Rattle.bench_pass.specs.ByNumber.{byNumber, passed, refusedAgain};
+ghost use Rattle.order_lists.specs.Sequences.{byNumber};
+ghost use Rattle.bench_pass.specs.ByNumber.{passed, refusedAgain};
 use exponential::Entries;
 use sine::Quarter;
 

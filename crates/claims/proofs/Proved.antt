@@ -17,6 +17,7 @@ use Rattle.update_laws.proofs.UpdateSound.{update-sound}
 use Rattle.update_laws.proofs.Lengths.{command-length, update-length}
 use Rattle.equal_orders.proofs.Theorem.{demand-3, compare-says, refused-says-no}
 use Rattle.equal_orders.proofs.WorkedExamples.{worked-examples}
+use Rattle.equal_any_order.proofs.AnyOrder.{any-order-says, any-order-refused, one-order, orders-apart}
 use Rattle.bench_ringing.proofs.RungFile.{rung-file}
 use Rattle.bench_gathering.proofs.Gatherings.{gathered-file}
 use Rattle.claims.specs.Claims.{Claims}
@@ -31,6 +32,10 @@ claims =
       demand-3 = demand-3;
       compare-says = compare-says;
       refused-says-no = refused-says-no;
+      any-order-says = any-order-says;
+      any-order-refused = any-order-refused;
+      one-order = one-order;
+      orders-apart = orders-apart;
       worked-examples = worked-examples;
       fresh-good = record { whole = fresh-length; is-sound = fresh-sound };
       pass-keeps = pass-sound;

@@ -17,25 +17,24 @@ use Rattle.built_codes.specs.BuiltCodes.{line}
 use Rattle.delay.specs.Delay.{due, slot, address}
 use Rattle.delay.specs.Turns.{Turns, OnlyTurnsWrite}
 use Rattle.delay_questions.specs.Questions.{memoryGood, question11, question12}
-use Rattle.order.specs.Order.{question5, question6, inMode}
+use Rattle.order.specs.Order.{inMode}
 use Rattle.pass_model.specs.Pass.{Call, passOf}
 use Rattle.pass_laws.specs.Good.{Good}
 use Rattle.pass_laws.specs.Settings.{SettingsKept}
 use Rattle.command.specs.Command.{afterCommand}
 use Rattle.update.specs.Update.{updateOf}
-use Rattle.order_agreement.specs.Agreement.{Agree}
+use Rattle.order_agreement.specs.Agreement.{settingsOf, Agree}
+use Rattle.order_alike.specs.Parting.{partingOrders}
 use Rattle.compare.specs.Compare.{compareOf}
+use Rattle.any_order.specs.AnyOrder.{anyOrderOf}
 use Rattle.equal_orders.specs.Equal.{Equal}
 use Rattle.equal_orders.specs.WorkedExamples.{WorkedExamples}
+use Rattle.equal_any_order.specs.EveryOrder.{Passes, EveryTwoEqual, Apart}
 use Rattle.bench_text.specs.Text.{lineBytes}
 use Rattle.bench_file.specs.BenchFile.{commandPlaces, readOf}
 use Rattle.bench_ringing.specs.Ringing.{outputOf}
 use Rattle.bench_ringing.specs.Steps.{rungFrom}
 use Rattle.bench_gathering.specs.Gathering.{printedFrom}
-
--- An order passes questions 5 and 6.
-abbrev pub Passes : Machine → Order → Type 0
-Passes m order = asked (question5 (ticksOf m) order ∷ question6 (ticksOf m) order ∷ []) ≡ 0
 
 pub record Claims : Type 0 where
   -- Demand 3: on a machine that passes questions 1 and 2, two orders that pass 5 and 6 are equal exactly when they agree on the four points.
@@ -43,6 +42,13 @@ pub record Claims : Type 0 where
   -- A compare that passes the questions says yes exactly when its two orders are equal; a refused one says no.
   pub compare-says : (m : Machine) (o₁ o₂ : Order) → compareOf m o₁ o₂ .number ≡ 0 → (compareOf m o₁ o₂ .equal ≡ true) ↔ Equal m o₁ o₂
   pub refused-says-no : (m : Machine) (o₁ o₂ : Order) → compareOf m o₁ o₂ .number ≢ 0 → compareOf m o₁ o₂ .equal ≡ false
+  -- The call that asks whether every order leaves the same says yes, where it passes the questions, exactly when every two orders that pass 5 and 6 are equal; a refused one says no.
+  pub any-order-says : (m : Machine) → anyOrderOf m .number ≡ 0 → (anyOrderOf m .alike ≡ true) ↔ EveryTwoEqual m
+  pub any-order-refused : (m : Machine) → anyOrderOf m .number ≢ 0 → anyOrderOf m .alike ≡ false
+  -- With T at 1 it says yes. Where it says no, two orders can be named that pass 5 and 6 and are not equal.
+  pub one-order : (m : Machine) → anyOrderOf m .number ≡ 0 → ticksOf m ≡ 1 → anyOrderOf m .alike ≡ true
+  pub orders-apart : (m : Machine) → anyOrderOf m .number ≡ 0 → anyOrderOf m .alike ≡ false
+      → Apart m (partingOrders (settingsOf m) .first) (partingOrders (settingsOf m) .second)
   -- The twelve worked examples.
   pub worked-examples : WorkedExamples
   -- A fresh machine passes questions 1 and 2, and a pass, a command and an update keep them.

@@ -6,6 +6,7 @@ ghost use Rattle.pass_model.specs.Pass.{passOf};
 ghost use Rattle.update.specs.Update.{outcome, updateOf, takenCount};
 ghost use mathlib.Core.Bool.{cond};
 ghost use Rattle.compare.specs.Compare.{compareOf};
+ghost use Rattle.any_order.specs.AnyOrder.{anyOrderOf};
 
 // A fresh machine.
 #[no_mangle]
@@ -61,4 +62,15 @@ pub extern "C" fn karvelorn_compare(
     let told = compare::compare(m, first, second);
     *equal = told.equal as u32;
     told.number
+}
+
+// Whether every order leaves the same. The answer is the number of the refusing question or 0; alike gets 1 where every order does, else 0.
+#[no_mangle]
+pub extern "C" fn karvelorn_any_order(m: &[u32], alike: &mut u32) -> u32
+    ensures { λ r. ⌜ r ≡ anyOrderOf (now (m .entry)) .number ⌝ }
+    ensures { λ _. ⌜ now (alike .exit) ≡ cond (anyOrderOf (now (m .entry)) .alike) 1 0 ⌝ }
+{
+    let answer = any_order::any_order(m);
+    *alike = answer.alike as u32;
+    answer.number
 }

@@ -5,11 +5,11 @@ use mathlib.Core.Bool.{Bool, true, false, cond}
 use mathlib.Core.List.{[], _∷_}
 use Prim.Native.Nat.{ℕ, _<_}
 use native.Mathlib.Omega.{arith}
-use borrow.Author.Tests.{eqb-true}
+use borrow.Author.Tests.{eqb-true, eq-eqb}
 use lib.Dec.{eqb}
 use lib.ListN.{length}
 use Rattle.lists.specs.Lists.{count}
-use Rattle.lists.proofs.Below.{below-at}
+use Rattle.lists.proofs.Below.{below-at, below-from}
 use Rattle.lists.proofs.Counts.{once-below}
 use Rattle.layout.specs.Machine.{Order}
 use Rattle.questions.specs.Questions.{asked}
@@ -30,3 +30,9 @@ order-passes t order e = by-length (eqb (length order) t) (eachOnce t order) ref
       record { entries = n; once = once-each t order q; below = once-below t order n (once-each t order q) }
   by-length true false p q e = absurd (omega arith)
   by-length false b p q e = absurd (omega arith)
+
+-- The other way: such an order passes questions 5 and 6.
+pub passes-order : (t : ℕ) (order : Order) → IsOrder t order → asked (question5 t order ∷ question6 t order ∷ []) ≡ 0
+unfolding asked eachOnce
+passes-order t order is =
+    rw (eq-eqb (length order) t (is .entries), below-from (λ g. eqb (count g order) 1) t (λ k h. eq-eqb (count k order) 1 (is .once k h)))

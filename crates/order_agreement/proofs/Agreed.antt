@@ -22,7 +22,7 @@ use Rattle.layout.specs.Machine.{Order}
 use Rattle.order.specs.Order.{IsOrder}
 
 -- Both tests pass where their conjunction does.
-and-parts : (a b : Bool) → (a && b) ≡ true → (a ≡ true) × (b ≡ true)
+pub and-parts : (a b : Bool) → (a && b) ≡ true → (a ≡ true) × (b ≡ true)
 and-parts a b e = (and-first a b e, and-second a b e)
 
 -- A test that is asked only on a condition.

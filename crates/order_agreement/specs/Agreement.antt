@@ -1,10 +1,10 @@
 -- When two orders of the generators agree (document 01, "Two orders agree when").
 -- Assumes nothing.
-use Prim.Native.Nat.{ℕ, _+_, _<_}
+use Prim.Native.Nat.{ℕ, _+_, _-_, _<_}
 use mathlib.Core.Bool.{Bool, true, _&&_}
 use mathlib.Core.List.{map}
 use mathlib.Core.Path.{_≡_}
-use lib.Dec.{eqb}
+use lib.Dec.{eqb, leb}
 use Rattle.modes.specs.Modes.{wait, writeData, writeDAC, free, adds, replaces}
 use Rattle.layout.specs.Layout.{dacs, quadrantWords}
 use Rattle.layout.specs.Machine.{Machine, Order, ticksOf, runModeAt, gsumAt, gfmAt, dacNumberAt}
@@ -43,6 +43,10 @@ settingsOf m =
     }
 
 module _ (s : Settings) where
+  -- Whether g waits and has a lower neighbour that can trigger.
+  abbrev pub awaits : ℕ → Bool
+  awaits g = leb (s .distance) g && s .waits g && s .triggering (g - s .distance)
+
   -- The 0111 generators of a word, and its adding ones.
   abbrev pub replacesWord : ℕ → ℕ → Bool
   replacesWord w g = s .onWord w g && s .replacing g

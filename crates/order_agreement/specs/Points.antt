@@ -4,19 +4,19 @@
 use Prim.Native.Nat.{ℕ, _-_}
 use mathlib.Core.Bool.{Bool, true, cond, _&&_, Bool·beq}
 use mathlib.Core.List.{map}
-use lib.Dec.{eqb, leb}
+use lib.Dec.{eqb}
 use lib.ListN.{getD}
 use Rattle.lists.specs.Lists.{allBelow, countBelow}
 use Rattle.order_lists.specs.Sequences.{keep, some, lastOf, before, firstFailing}
 use Rattle.layout.specs.Layout.{dacs, quadrantWords}
 use Rattle.layout.specs.Machine.{Order}
-use Rattle.order_agreement.specs.Agreement.{Settings, replacesWord, addsToWord, lastReplacing, placeReplacing, afterReplacing}
+use Rattle.order_agreement.specs.Agreement.{Settings, awaits, replacesWord, addsToWord, lastReplacing, placeReplacing, afterReplacing}
 
 module _ (s : Settings) (o₁ o₂ : Order) where
   -- The first point at generator g: if it waits and its lower neighbour can trigger, it stands on the same side of it in both.
   abbrev pub neighbourSame : ℕ → Bool
   neighbourSame g =
-      cond (leb (s .distance) g && s .waits g && s .triggering (g - s .distance)) (Bool·beq (before (g - s .distance) g o₁) (before (g - s .distance) g o₂)) true
+      cond (awaits s g) (Bool·beq (before (g - s .distance) g o₁) (before (g - s .distance) g o₂)) true
 
   -- The second at DAC d: if it is fed, it is fed last through the same source.
   abbrev pub feederSame : ℕ → Bool

@@ -103,6 +103,16 @@ none-entry p g xs h n = go (p g) refl
     go true e = absurd (true≢false (sym (some-entry p g xs h e) ∙ n))
     go false e = refl
 
+-- One that passes behind others.
+pub some-past : (p : ℕ → Bool) (a : List ℕ) (x : ℕ) (b : List ℕ) → p x ≡ true → some p (a ++ (x ∷ b)) ≡ true
+unfolding some
+some-past p [] x b e = rw e
+some-past p (y ∷ a) x b e = rw (some-past p a x b e) (or-true (p y))
+  where
+    or-true : (c : Bool) → (c || true) ≡ true
+    or-true true = refl
+    or-true false = refl
+
 -- The last entry that passes: it passes, and it is an entry.
 pub last-passes : (p : ℕ → Bool) (xs : List ℕ) → some p xs ≡ true → p (lastOf p xs) ≡ true
 unfolding some lastOf
@@ -146,3 +156,7 @@ cut-at-last p (x ∷ xs) e = go (some p xs) refl (p x) refl e (cut-at-last p xs)
     go false q false r l ih = absurd (true≢false (sym l))
 
 -- The last one that passes of a list that is cut at one that passes, with none behind it.
+pub last-cut : (p : ℕ → Bool) (a : List ℕ) (x : ℕ) (b : List ℕ) → p x ≡ true → some p b ≡ false → lastOf p (a ++ (x ∷ b)) ≡ x
+unfolding some lastOf
+last-cut p [] x b e n = rw (n, e)
+last-cut p (y ∷ a) x b e n = rw (some-past p a x b e) (last-cut p a x b e n)

@@ -3,5 +3,7 @@ pub mod Places
 pub mod Orders
 pub mod Mapped
 pub mod Failing
+pub mod Found
 pub mod Loops
 pub mod Totals
+pub mod ByNumber

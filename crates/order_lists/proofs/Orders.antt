@@ -1,6 +1,6 @@
 -- A list in which each number below t stands once, and no other: what passes a test in it, and how many do.
 -- Assumes nothing.
-use mathlib.Core.Path.{_≡_, refl, sym, _∙_}
+use mathlib.Core.Path.{_≡_, refl, sym, ap, _∙_}
 use mathlib.Core.Bool.{Bool, true, false, cond, true≢false}
 use mathlib.Core.List.{List, [], _∷_}
 use Prim.Native.Nat.{ℕ, zero, suc, _+_, _≤_, _<_}
@@ -66,6 +66,17 @@ unfolding countBelow
 kept-once p zero xs h = refl
 kept-once p (suc t) xs h = rw (h t (omega arith), kept-once p t xs (λ k l. h k (omega arith)))
 
+-- A test that every number passes keeps all, and counts all.
+keep-all : (xs : List ℕ) → keep (λ k. true) xs ≡ xs
+unfolding keep
+keep-all [] = refl
+keep-all (x ∷ xs) = ap (λ (l : List ℕ). x ∷ l) (keep-all xs)
+
+all-count : (t : ℕ) → countBelow (λ k. true) t ≡ t
+unfolding countBelow
+all-count zero = refl
+all-count (suc t) = omega (arith, all-count t)
+
 module _ (t : ℕ) (order : List ℕ) (once : (k : ℕ) → k < t → count k order ≡ 1) (below : (i : ℕ) → i < length order → getD order i 0 < t) where
   -- What is there is below t, and nothing is there twice.
   pub there-below : (g : ℕ) → 1 ≤ count g order → g < t
@@ -113,6 +124,10 @@ module _ (t : ℕ) (order : List ℕ) (once : (k : ℕ) → k < t → count k or
   -- As many are kept as pass below t.
   pub length-keep : (p : ℕ → Bool) → length (keep p order) ≡ countBelow p t
   length-keep p = length-kept p t order below ∙ kept-once p t order once
+
+  -- There are t entries.
+  pub order-length : length order ≡ t
+  order-length = sym (ap (λ (l : List ℕ). length l) (keep-all order)) ∙ length-keep (λ k. true) ∙ all-count t
 
 -- Two such lists: one has an entry that passes where the other has.
 pub some-orders : (t : ℕ) (o₁ o₂ : List ℕ) → ((k : ℕ) → k < t → count k o₁ ≡ 1) → ((k : ℕ) → k < t → count k o₂ ≡ 1)

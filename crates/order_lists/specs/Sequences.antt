@@ -4,6 +4,11 @@ use Prim.Native.Nat.{ℕ, zero, suc, _+_}
 use mathlib.Core.Bool.{Bool, false, cond, _||_}
 use mathlib.Core.List.{List, [], _∷_}
 use lib.Dec.{eqb, ltb}
+use Rattle.lists.specs.Lists.{tabulate}
+
+-- The numbers below t in their sequence: the order by number.
+unfoldable pub byNumber : ℕ → List ℕ
+byNumber t = tabulate (λ g. g) 0 t
 
 -- The entries that pass a test, in their sequence.
 unfoldable pub keep : (ℕ → Bool) → List ℕ → List ℕ

@@ -2,51 +2,26 @@
 -- Assumes nothing.
 use mathlib.Core.Path.{_≡_, refl}
 use mathlib.Core.Logic.{_≢_}
-use mathlib.Core.Bool.{true, false, _||_}
+use mathlib.Core.Bool.{true, false}
 use mathlib.Core.List.{List}
 use Prim.Native.Nat.{ℕ, _-_}
-use native.Mathlib.Omega.{arith}
 use lib.Dec.{eqb}
 use lib.ListN.{getD, set}
-use borrow.Author.Tests.{eq-eqb, ne-eqb, le-leb, lt-leb}
-use Rattle.lists.specs.Lists.{isOneOf}
-use Rattle.modes.specs.Modes.{runningA, free, adds, wait}
+use borrow.Author.Tests.{eq-eqb, ne-eqb}
+use Rattle.modes.specs.Modes.{adds}
 use Rattle.layout.specs.Machine.{Machine, runModeAt, gsumAt}
+use Rattle.order_agreement.specs.Agreement.{settingsOf, awaits}
 use Rattle.order_points.specs.Loops.{Sides, sideBy, neighbourBy, adderBy, markedBy}
 
--- Adding is on in 1111 and in the run modes that can trigger.
-pub adds-is : (r : ℕ) → adds r ≡ (eqb r runningA || free r)
-unfolding adds free isOneOf
-adds-is r = refl
-
--- The first point at g: 0 has no lower neighbour; g doesn't wait; its lower neighbour can't trigger; the sides.
+-- The first point at g, where it awaits nothing and where it does.
 module _ (m : Machine) (sides : Sides) (g : ℕ) where
-  pub no-neighbour : g ≡ 0 → true ≡ neighbourBy m sides g
+  pub nothing-awaited : awaits (settingsOf m) g ≡ false → true ≡ neighbourBy m sides g
   unfolding neighbourBy
-  no-neighbour h = rw (lt-leb 1 g (omega arith))
+  nothing-awaited e = rw e
 
-  module _ (some : g ≢ 0) {run : ℕ} (is : run ≡ runModeAt m g) where
-    pub no-wait : run ≢ wait → true ≡ neighbourBy m sides g
-    unfolding neighbourBy
-    no-wait h =
-        let e : eqb (runModeAt m g) wait ≡ false = rw (← is) (ne-eqb run wait h) in
-        rw (le-leb 1 g (omega arith), e)
-
-    module _ (waits : run ≡ wait) {lower : ℕ} (beside : lower ≡ runModeAt m (g - 1)) where
-      waiting : eqb (runModeAt m g) wait ≡ true
-      waiting = rw (← is) (eq-eqb run wait waits)
-
-      pub no-trigger : free lower ≡ false → true ≡ neighbourBy m sides g
-      unfolding neighbourBy
-      no-trigger h =
-          let e : free (runModeAt m (g - 1)) ≡ false = rw (← beside) h in
-          rw (le-leb 1 g (omega arith), waiting, e)
-
-      pub by-sides : free lower ≡ true → sideBy sides (g - 1) g ≡ neighbourBy m sides g
-      unfolding neighbourBy
-      by-sides h =
-          let e : free (runModeAt m (g - 1)) ≡ true = rw (← beside) h in
-          rw (le-leb 1 g (omega arith), waiting, e)
+  pub by-sides : awaits (settingsOf m) g ≡ true → sideBy sides (g - 1) g ≡ neighbourBy m sides g
+  unfolding neighbourBy
+  by-sides e = rw e
 
 -- Generator g and its word: it doesn't add; the word has no 0111; the sides.
 module _ (m : Machine) (sides : Sides) (last : List ℕ) (g : ℕ) {run : ℕ} (is : run ≡ runModeAt m g) where

@@ -3,12 +3,12 @@
 use Prim.Native.Nat.{ℕ, zero, suc, _-_, _<_, _≤_}
 use mathlib.Core.Bool.{Bool, true, cond, _&&_, not, Bool·beq}
 use mathlib.Core.List.{List}
-use lib.Dec.{eqb, ltb, leb}
+use lib.Dec.{eqb, ltb}
 use lib.ListN.{getD, set}
 use Rattle.lists.specs.Lists.{zeros}
 use Rattle.layout.specs.Layout.{generators, quadrantWords}
 use Rattle.layout.specs.Machine.{Machine, Order, gsumAt}
-use Rattle.order_agreement.specs.Agreement.{settingsOf, addsToWord}
+use Rattle.order_agreement.specs.Agreement.{settingsOf, awaits, addsToWord}
 use Rattle.order_traces.specs.Traces.{Replaced, traceOf}
 
 -- The places of the generators in two orders.
@@ -31,7 +31,7 @@ sideBy s g h = Bool·beq (earlier (s .first) g h) (earlier (s .second) g h)
 unfoldable pub neighbourBy : Machine → Sides → ℕ → Bool
 neighbourBy m sides g =
     let s = settingsOf m in
-    cond (leb (s .distance) g && s .waits g && s .triggering (g - s .distance)) (sideBy sides (g - s .distance) g) true
+    cond (awaits s g) (sideBy sides (g - s .distance) g) true
 
 -- Whether two arrays hold the same number.
 unfoldable pub sameAt : List ℕ → List ℕ → ℕ → Bool

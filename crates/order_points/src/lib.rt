@@ -6,7 +6,6 @@ ghost use lib.ListN.{length};
 ghost use Rattle.lists.specs.Lists.{zeros};
 ghost use Rattle.layout.specs.Layout.{generators, quadrantWords};
 ghost use Rattle.layout.specs.Machine.{Reaches, ticksOf};
-ghost use Rattle.modes.specs.Modes.{free, adds};
 ghost use Rattle.order_lists.specs.Sequences.{firstFailing};
 ghost use Rattle.order.specs.Order.{IsOrder};
 ghost use Rattle.order_agreement.specs.Agreement.{settingsOf};
@@ -20,20 +19,6 @@ use order_traces::Writers;
 
 // A mark for each sum word.
 type Marks = [u8; layout::QUADRANT_WORDS];
-
-// Whether a run mode can trigger.
-fn triggering(run: u32) -> bool
-    ensures { λ r. ⌜ r ≡ free run ⌝ }
-{
-    (run == modes::RUNNING_B) | (run == modes::RUNNING_C)
-}
-
-// Whether a run mode has adding on.
-fn adding(run: u32) -> bool
-    ensures { λ r. ⌜ r ≡ adds run ⌝ }
-{
-    (run == modes::RUNNING_A) | triggering(run)
-}
 
 // Whether g and h stand in the same sequence in two orders, by their places.
 fn same_side(place1: &GeneratorPlaces, place2: &GeneratorPlaces, g: usize, h: usize) -> bool
@@ -49,13 +34,7 @@ fn neighbour_same(m: &[u32], place1: &GeneratorPlaces, place2: &GeneratorPlaces,
     requires { ⌜ g < generators ⌝ }
     ensures { λ r. ⌜ r ≡ neighbourBy (now (m .entry)) (record { first = now (place1 .entry); second = now (place2 .entry) }) g ⌝ }
 {
-    if g == 0 {
-        return true;
-    }
-    if layout::run_mode(m, g) != modes::WAIT {
-        return true;
-    }
-    if !triggering(layout::run_mode(m, g - 1)) {
+    if !order_roles::awaits(m, g) {
         return true;
     }
     same_side(place1, place2, g - 1, g)
@@ -147,7 +126,7 @@ fn adder(
     requires { ⌜ LastsWithin (now last) × (g < generators) ⌝ }
     ensures { λ r. ⌜ now (marks .exit) ≡ markedBy (now (m .entry)) (record { first = now (place1 .entry); second = now (place2 .entry) }) (now (last .entry)) g (now (marks .entry)) ⌝ }
 {
-    if !adding(layout::run_mode(m, g)) {
+    if !order_roles::adding(layout::run_mode(m, g)) {
         return;
     }
     let w = layout::gsum(m, g);

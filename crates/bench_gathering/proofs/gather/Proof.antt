@@ -2,7 +2,7 @@
 -- Assumes nothing.
 use mathlib.Core.Path.{sym, _∙_, ap}
 use lib.ListN.{length}
-use Rattle.bench_pass.proofs.ByNumber.{by-number-length}
+use Rattle.order_lists.proofs.ByNumber.{by-number-length}
 use borrow.Author.Needs.{needs}
 use Rattle.bench_gathering.proofs.gather.Statement.{statement}
 use Rattle.bench_gathering.proofs.gather.Tie as tie

@@ -1,13 +1,13 @@
--- `order_points::adding` meets its contract: adding is on in 1111 and in the run modes that can trigger.
+-- `order_roles::adding` meets its contract: adding is on in 1111 and in the run modes that can trigger.
 -- Assumes nothing.
 use mathlib.Core.Path.{sym, ap, _∙_}
 use mathlib.Core.Bool.{Bool, _||_}
 use borrow.Author.Needs.{needs}
 use lib.Dec.{eqb}
 use Rattle.modes.specs.Modes.{runningA}
-use Rattle.order_points.proofs.Asked.{adds-is}
-use Rattle.order_points.proofs.adding.Statement.{statement}
-use Rattle.order_points.proofs.adding.Tie as tie
+use Rattle.order_roles.proofs.Roles.{adds-is}
+use Rattle.order_roles.proofs.adding.Statement.{statement}
+use Rattle.order_roles.proofs.adding.Tie as tie
 
 triggering-requires : tie.Need-triggering-requires
 triggering-requires c κs = search needs

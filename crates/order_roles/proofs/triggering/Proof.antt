@@ -1,9 +1,9 @@
--- `order_points::triggering` meets its contract: the two run modes are those that can trigger.
+-- `order_roles::triggering` meets its contract: the two run modes are those that can trigger.
 -- Assumes nothing.
 use mathlib.Core.Path.{sym}
 use Rattle.modes.proofs.RunModes.{free-is}
-use Rattle.order_points.proofs.triggering.Statement.{statement}
-use Rattle.order_points.proofs.triggering.Tie as tie
+use Rattle.order_roles.proofs.triggering.Statement.{statement}
+use Rattle.order_roles.proofs.triggering.Tie as tie
 
 returns : tie.Need-returns
 returns c = sym (free-is (c .args .run))

@@ -1,0 +1,52 @@
+-- The questions decide what is answered: a machine that passes both by the rule, another no.
+-- Assumes nothing.
+use mathlib.Core.Path.{_≡_, refl, sym, _∙_}
+use mathlib.Core.Logic.{_≢_}
+use mathlib.Core.Bool.{Bool, false}
+use mathlib.Core.List.{[], _∷_}
+use Prim.Native.Nat.{ℕ}
+use borrow.Author.Tests.{ne-eqb}
+use Rattle.layout.specs.Machine.{Machine}
+use Rattle.questions.specs.Questions.{asked}
+use Rattle.machine.specs.Questions.{question1, question2}
+use Rattle.machine.proofs.Asked.{machine-passes}
+use Rattle.machine.proofs.SoundMachine.{reaches, sound-generator, sound-controls}
+use Rattle.order_agreement.specs.Agreement.{settingsOf}
+use Rattle.order_alike.specs.Alike.{countsIn, alike}
+use Rattle.order_counts.specs.KeptCounts.{Countable}
+use Rattle.any_order.specs.AnyOrder.{Answer, anyOrderRefusal, anyOrderOf}
+
+-- The generators of a machine that passes questions 1 and 2 can be counted.
+pub is-countable : (m : Machine) → asked (question1 m ∷ question2 m ∷ []) ≡ 0 → Countable m
+is-countable m e =
+    let passed = machine-passes m e in
+    record {
+      reaches = reaches m (passed .0);
+      ticks = sound-controls m (passed .1) .tHigh;
+      gsums = λ g h. sound-generator m (passed .1) g h .gsum;
+      gfms = λ g h. sound-generator m (passed .1) g h .gfm;
+    }
+
+module _ (m : Machine) where
+  -- One that is not refused is answered by the rule, and a refused one no.
+  pub any-number : anyOrderOf m .number ≡ asked (question1 m ∷ question2 m ∷ [])
+  unfolding anyOrderOf anyOrderRefusal
+  any-number = refl
+
+  pub any-rule : asked (question1 m ∷ question2 m ∷ []) ≡ 0 → anyOrderOf m .alike ≡ alike (countsIn (settingsOf m))
+  unfolding anyOrderOf anyOrderRefusal
+  any-rule e = rw e
+
+  pub any-refused : asked (question1 m ∷ question2 m ∷ []) ≢ 0 → anyOrderOf m .alike ≡ false
+  unfolding anyOrderOf anyOrderRefusal
+  any-refused n = rw (ne-eqb (asked (question1 m ∷ question2 m ∷ [])) 0 n)
+
+  -- The answer by the number that the code finds.
+  module _ {number : ℕ} (is : number ≡ asked (question1 m ∷ question2 m ∷ [])) where
+    pub says-no : number ≢ 0 → _≡_ {A = Answer} (record { number = number; alike = false }) (anyOrderOf m)
+    unfolding anyOrderOf anyOrderRefusal
+    says-no h = rw (← is, ne-eqb number 0 h)
+
+    pub says-rule : number ≡ 0 → {holds : Bool} → holds ≡ alike (countsIn (settingsOf m)) → _≡_ {A = Answer} (record { number = 0; alike = holds }) (anyOrderOf m)
+    unfolding anyOrderOf anyOrderRefusal
+    says-rule h e = rw (← is, h, e)

@@ -1,0 +1,26 @@
+-- The answer of the call that asks whether every order leaves the same (document 02, Q-2).
+-- Assumes nothing.
+use Prim.Native.Nat.{ℕ}
+use mathlib.Core.Bool.{Bool, false, cond}
+use mathlib.Core.List.{[], _∷_}
+use lib.Dec.{eqb}
+use Rattle.layout.specs.Machine.{Machine}
+use Rattle.questions.specs.Questions.{asked}
+use Rattle.machine.specs.Questions.{question1, question2}
+use Rattle.order_agreement.specs.Agreement.{settingsOf}
+use Rattle.order_alike.specs.Alike.{countsIn, alike}
+
+-- What the call answers: the number of the refusing question or 0, and whether every order leaves the same. Refused, it says no.
+pub record Answer : Type 0 where
+  pub number : ℕ
+  pub alike : Bool
+
+-- The questions of the call: 1 and 2.
+unfoldable pub anyOrderRefusal : Machine → ℕ
+anyOrderRefusal m = asked (question1 m ∷ question2 m ∷ [])
+
+-- Whether every order leaves the same, by the rule.
+unfoldable pub anyOrderOf : Machine → Answer
+anyOrderOf m =
+    let n = anyOrderRefusal m in
+    record { number = n; alike = cond (eqb n 0) (alike (countsIn (settingsOf m))) false }

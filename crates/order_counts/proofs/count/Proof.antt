@@ -1,0 +1,61 @@
+-- `order_counts::count` meets its contract: the generators passed are counted.
+-- Assumes nothing.
+use mathlib.Core.Path.{_≡_, ap, _∙_}
+use Prim.Native.Nat.{_≤_, _-_}
+use native.Mathlib.Omega.{arith}
+use Rattle.layout.specs.Machine.{ticksOf}
+use Rattle.order_counts.specs.KeptCounts.{countedTo}
+use Rattle.order_counts.proofs.Steps.{counted-none, counted-next}
+use Rattle.order_counts.proofs.count.Statement.{statement}
+use Rattle.order_counts.proofs.count.Tie as tie
+
+abbrev Inv-loop : tie.InvT-loop
+Inv-loop m counts₀ t g₀ counts g = (g ≤ t) × (counts ≡ countedTo m g)
+
+abbrev μ-loop : tie.MeasureT-loop
+μ-loop m counts₀ t g₀ counts g = t - g
+
+ticks-requires : tie.Need-ticks-requires Inv-loop μ-loop
+ticks-requires c κs = c .before .pre .0 .reaches
+
+loop-holds : tie.Need-loop-holds Inv-loop μ-loop
+loop-holds c = let b = c .before .before in (omega arith, counted-none (b .args .m .now) (b .pre .1))
+
+count-generator-requires : tie.Need-count-generator-requires Inv-loop μ-loop
+count-generator-requires c κs =
+    let z = c .before .before in
+    let b = z .before .before .before in
+    (b .pre .0, omega (arith, z .before .ticks .ensures, b .pre .0 .ticks))
+
+add-g : tie.Need-add-g Inv-loop μ-loop
+add-g c = omega arith
+
+loop-less : tie.Need-loop-less Inv-loop μ-loop
+loop-less c = omega arith
+
+loop-again : tie.Need-loop-again Inv-loop μ-loop
+loop-again c =
+    let z = c .before .before .before in
+    let a = z .before .before .before .args in
+    (omega arith, counted-next (a .m .now) (z .loop .g) (z .loop .inv .1) (c .count-generator .ensures))
+
+returns : tie.Need-returns Inv-loop μ-loop
+returns c =
+    let z = c .before in
+    let a = z .before .before .before .args in
+    let e : z .loop .g ≡ ticksOf (a .m .now) = omega (arith, z .before .ticks .ensures) in
+    z .loop .inv .1 ∙ ap (countedTo (a .m .now)) e
+
+pub count-spec : {M : Type 1} → statement M
+count-spec =
+    tie.close
+    (tie.spec
+    Inv-loop
+    μ-loop
+    ticks-requires
+    loop-holds
+    count-generator-requires
+    add-g
+    loop-less
+    loop-again
+    returns)

@@ -1,0 +1,153 @@
+-- `order_counts::place` meets its contract: each branch gives the place of its kind.
+-- Assumes nothing.
+use native.Mathlib.Omega.{arith}
+use mathlib.Core.Path.{sym, _∙_}
+use borrow.Author.Tests.{not-true, not-false}
+use Rattle.order_counts.proofs.Places.{Placed, reader-place, adder-place, writer-place, feeder-place, other-place}
+use borrow.Author.Needs.{needs}
+use Rattle.order_counts.proofs.place.Statement.{statement}
+use Rattle.order_counts.proofs.place.Tie as tie
+
+run-mode-requires : tie.Need-run-mode-requires
+run-mode-requires c κs = search needs
+
+gsum-requires : tie.Need-gsum-requires
+gsum-requires c κs = search needs
+
+add-result : tie.Need-add-result
+add-result c = search needs
+
+returns : tie.Need-returns
+returns c =
+    let taken = c .before in
+    let mode = taken .before in
+    let b = mode .before .before in
+    let a = b .args in
+    let w = c .gsum .ensures in
+    let p = reader-place (a .m .now) (a .g) (mode .run-mode .ensures) (taken .if1 .taken) w (omega (arith, w, b .pre .0 .gsums (a .g) (b .pre .1))) in
+    (p .is, p .below)
+
+adding-requires : tie.Need-adding-requires
+adding-requires c κs = search needs
+
+gsum-requires-2 : tie.Need-gsum-requires-2
+gsum-requires-2 c κs = search needs
+
+add-result-2 : tie.Need-add-result-2
+add-result-2 c =
+    let b = c .before .before .before .before .before .before in
+    omega (arith, c .gsum2 .ensures, b .pre .0 .gsums (b .args .g) (b .pre .1))
+
+returns-2 : tie.Need-returns-2
+returns-2 c =
+    let adds = c .before in
+    let asked = adds .before in
+    let other = asked .before in
+    let mode = other .before in
+    let b = mode .before .before in
+    let a = b .args in
+    let w = c .gsum2 .ensures in
+    let p =
+    adder-place (a .m .now) (a .g) (mode .run-mode .ensures) (other .if1 .left) (sym (asked .adding .ensures) ∙ adds .if2 .taken) w
+    (omega (arith, w, b .pre .0 .gsums (a .g) (b .pre .1))) in
+    (p .is, p .below)
+
+gfm-requires : tie.Need-gfm-requires
+gfm-requires c κs = search needs
+
+wide-requires : tie.Need-wide-requires
+wide-requires c κs = search needs
+
+add-result-3 : tie.Need-add-result-3
+add-result-3 c = search needs
+
+returns-3 : tie.Need-returns-3
+returns-3 c =
+    let read = c .before in
+    let writes = read .before in
+    let quiet = writes .before in
+    let asked = quiet .before in
+    let other = asked .before in
+    let mode = other .before in
+    let b = mode .before .before in
+    let a = b .args in
+    let v = c .wide .ensures ∙ read .gfm .ensures in
+    let p =
+    writer-place (a .m .now) (a .g) (mode .run-mode .ensures) (other .if1 .left) (sym (asked .adding .ensures) ∙ quiet .if2 .left) (writes .if3 .taken) v
+    (omega (arith, v, b .pre .0 .gfms (a .g) (b .pre .1))) in
+    (p .is, p .below)
+
+dac-number-requires : tie.Need-dac-number-requires
+dac-number-requires c κs = search needs
+
+mul-result : tie.Need-mul-result
+mul-result c = search needs
+
+add-result-4 : tie.Need-add-result-4
+add-result-4 c = search needs
+
+gfm-requires-2 : tie.Need-gfm-requires-2
+gfm-requires-2 c κs = search needs
+
+wide-requires-2 : tie.Need-wide-requires-2
+wide-requires-2 c κs = search needs
+
+add-result-5 : tie.Need-add-result-5
+add-result-5 c = search needs
+
+returns-4 : tie.Need-returns-4
+returns-4 c =
+    let read = c .before in
+    let number = read .before in
+    let feeds = number .before in
+    let kept = feeds .before in
+    let quiet = kept .before in
+    let asked = quiet .before in
+    let other = asked .before in
+    let mode = other .before in
+    let b = mode .before .before in
+    let a = b .args in
+    let d = number .dac-number .ensures in
+    let v = c .wide2 .ensures ∙ read .gfm2 .ensures in
+    let p =
+    feeder-place (a .m .now) (a .g) (mode .run-mode .ensures) (other .if1 .left) (sym (asked .adding .ensures) ∙ quiet .if2 .left) (kept .if3 .left)
+    (feeds .if4 .taken) (d .0) (d .1) v (omega (arith, v, b .pre .0 .gfms (a .g) (b .pre .1))) in
+    (p .is, p .below)
+
+returns-5 : tie.Need-returns-5
+returns-5 c =
+    let kept = c .before in
+    let quiet = kept .before in
+    let asked = quiet .before in
+    let other = asked .before in
+    let mode = other .before in
+    let a = mode .before .before .args in
+    let p =
+    other-place (a .m .now) (a .g) (mode .run-mode .ensures) (other .if1 .left) (sym (asked .adding .ensures) ∙ quiet .if2 .left) (kept .if3 .left)
+    (c .if4 .left) in
+    (p .is, p .below)
+
+pub place-spec : {M : Type 1} → statement M
+place-spec =
+    tie.close
+    (tie.spec
+    run-mode-requires
+    gsum-requires
+    add-result
+    returns
+    adding-requires
+    gsum-requires-2
+    add-result-2
+    returns-2
+    gfm-requires
+    wide-requires
+    add-result-3
+    returns-3
+    dac-number-requires
+    mul-result
+    add-result-4
+    gfm-requires-2
+    wide-requires-2
+    add-result-5
+    returns-4
+    returns-5)

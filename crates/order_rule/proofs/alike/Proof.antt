@@ -1,0 +1,39 @@
+-- `order_rule::alike` meets its contract: the five tests together are the rule.
+-- Assumes nothing.
+use Rattle.order_rule.proofs.Asked.{rule-by}
+use borrow.Author.Needs.{needs}
+use Rattle.order_rule.proofs.alike.Statement.{statement}
+use Rattle.order_rule.proofs.alike.Tie as tie
+
+element-copy-out-result : tie.Need-element-copy-out-result
+element-copy-out-result c = search needs
+
+feeders-share-requires : tie.Need-feeders-share-requires
+feeders-share-requires c κs = search needs
+
+share-one-requires : tie.Need-share-one-requires
+share-one-requires c κs = search needs
+
+element-copy-out-result-2 : tie.Need-element-copy-out-result-2
+element-copy-out-result-2 c = search needs
+
+words-apart-requires : tie.Need-words-apart-requires
+words-apart-requires c κs = search needs
+
+returns : tie.Need-returns
+returns c =
+    let readers = c .before in
+    let writers = readers .before in
+    let feeders = writers .before in
+    rule-by (feeders .before .before .args .counts .now) (feeders .feeders-share .ensures) (writers .share-one .ensures) (c .words-apart .ensures)
+
+pub alike-spec : {M : Type 1} → statement M
+alike-spec =
+    tie.close
+    (tie.spec
+    element-copy-out-result
+    feeders-share-requires
+    share-one-requires
+    element-copy-out-result-2
+    words-apart-requires
+    returns)
