@@ -35,7 +35,8 @@ waveOf mode k gm left =
     (cond (eqb mode 0b0011) (pulse left)
     (sineWave k gm)))
 
--- A sign and magnitude r stands for the wave w, and its magnitude has 12 bits.
+-- A sign and magnitude r stands for the wave w; its sign is 0 or 1, and its magnitude has 12 bits.
 pub record Wave (w : ℤ) (r : SignMagnitude) : Type 0 where
   pub is : valueOf r ≡ w
+  pub bit : r .sign < 2
   pub low : r .magnitude < 2 ^ 12

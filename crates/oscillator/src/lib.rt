@@ -14,12 +14,12 @@ pub fn sawtooth(k: u32) -> SignMagnitude
 {
     if k < 4096 {
         return SignMagnitude {
-            negative: false,
+            sign: 0,
             magnitude: k,
         };
     }
     SignMagnitude {
-        negative: true,
+        sign: 1,
         magnitude: (8192 - k) % 4096,
     }
 }
@@ -30,7 +30,7 @@ pub fn square(k: u32) -> SignMagnitude
     ensures { λ r. ⌜ Wave (square (signed 13 k)) r ⌝ }
 {
     SignMagnitude {
-        negative: 4096 <= k,
+        sign: k / 4096,
         magnitude: 2048,
     }
 }
@@ -41,12 +41,12 @@ pub fn pulse(left: bool) -> SignMagnitude
 {
     if left {
         return SignMagnitude {
-            negative: false,
+            sign: 0,
             magnitude: 2048,
         };
     }
     SignMagnitude {
-        negative: false,
+        sign: 0,
         magnitude: 0,
     }
 }
@@ -60,7 +60,7 @@ pub fn sine_wave(table: &Quarter, k: u32, gm: u32) -> SignMagnitude
     let whole = sine::magnitude(table, k);
     let magnitude = whole >> gm;
     SignMagnitude {
-        negative: sine::is_negative(k),
+        sign: sine::sign(k),
         magnitude,
     }
 }

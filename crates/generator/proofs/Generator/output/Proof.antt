@@ -43,7 +43,7 @@ enveloped-requires : tie.Need-enveloped-requires
 enveloped-requires c κs =
     let tested = c .before .before .before .before in
     let leveled = tested .before .before .before .before in
-    (c .shaped .ensures .low, rw (leveled .level .ensures) (level-low _ _ _))
+    (c .shaped .ensures .bit, c .shaped .ensures .low, rw (leveled .level .ensures) (level-low _ _ _))
 
 returns-3 : tie.Need-returns-3
 unfolding vOf
