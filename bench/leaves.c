@@ -48,8 +48,15 @@ static uint32_t sound(uint32_t *g, const uint8_t *on, uint32_t f, int *triggers)
     } else if (mode == 2) {
         negative = k >= 4096;
         w = 2048;
-    } else {
+    } else if (mode == 3) {
         w = leaves20(high, f) || (on[0] && leaves20(gk, j)) ? 2048 : 0;
+    } else {
+        uint32_t s = 2 * LOW(k * g[GN], 12), i = s & 2047, l = k & 2047;
+        uint32_t above = 4095u * quarter[s & 2048 ? 2047 - i : i];
+        uint32_t below = (uint32_t)quarter[k & 2048 ? 2047 - l : l] << g[GM];
+        w = above / below;
+        if (w > 4095) w = 4095;
+        negative = (s >= 4096) != (k >= 4096);
     }
     uint32_t h = g[GQ] >> 12, q = env >= 2 ? (uint32_t)entries[h & 255] >> (h >> 8) : h;
     uint32_t v = LOW(env & 1 ? g[GL] + q : g[GL] - q, 12);

@@ -2,6 +2,7 @@
 -- Assumes nothing.
 use mathlib.Core.Path.{_≡_, sym, _∙_}
 use Rattle.layout.specs.Machine.{Machine}
+use Rattle.sine.proofs.Quarter.{magnitude-positive}
 use Rattle.machine.proofs.FreshMachine.{fresh-length, fresh-sound}
 use Rattle.machine.proofs.SoundMachine.{sound-controls}
 use Rattle.delay.proofs.Returns.{line-returns, table-returns}
@@ -36,6 +37,7 @@ claims =
       any-order-refused = any-order-refused;
       one-order = one-order;
       orders-apart = orders-apart;
+      sine-not-zero = magnitude-positive;
       worked-examples = worked-examples;
       fresh-good = record { whole = fresh-length; is-sound = fresh-sound };
       pass-keeps = pass-sound;

@@ -10,6 +10,7 @@ use Rattle.layout.specs.Layout.{counterAt}
 use Rattle.layout.specs.Machine.{Machine, Order, Commands, Memory, ticksOf}
 use Rattle.layout.specs.Widths.{counterBits}
 use Rattle.questions.specs.Questions.{asked}
+use Rattle.sine.specs.Sine.{magnitude}
 use Rattle.modes.specs.Modes.{readData, writeData}
 use Rattle.machine.specs.Questions.{freshMachine}
 use Rattle.delay.specs.declared.Delay.{Delay}
@@ -49,6 +50,8 @@ pub record Claims : Type 0 where
   pub one-order : (m : Machine) → anyOrderOf m .number ≡ 0 → ticksOf m ≡ 1 → anyOrderOf m .alike ≡ true
   pub orders-apart : (m : Machine) → anyOrderOf m .number ≡ 0 → anyOrderOf m .alike ≡ false
       → Apart m (partingOrders (settingsOf m) .first) (partingOrders (settingsOf m) .second)
+  -- The sine is never 0, so that the sum of cosines divides by no 0.
+  pub sine-not-zero : (k : ℕ) → 0 < magnitude k
   -- The twelve worked examples.
   pub worked-examples : WorkedExamples
   -- A fresh machine passes questions 1 and 2, and a pass, a command and an update keep them.

@@ -1,9 +1,9 @@
 // The wave of a generator: one function for each shape.
-ghost use Prim.Native.Nat.{_<_, _^_};
+ghost use Prim.Native.Nat.{_*_, _<_, _^_, min};
 ghost use mathlib.Core.Path.{_≡_};
 ghost use Rattle.words.specs.Words.{signed};
 ghost use Rattle.sine.specs.Sine.{quarter};
-ghost use Rattle.oscillator.specs.Oscillator.{sawtooth, square, pulse, sineWave, Wave};
+ghost use Rattle.oscillator.specs.Oscillator.{sawtooth, square, pulse, sineWave, multiple, sumOfCosines, Wave};
 use sine::Quarter;
 use words::SignMagnitude;
 
@@ -61,6 +61,40 @@ pub fn sine_wave(table: &Quarter, k: u32, gm: u32) -> SignMagnitude
     let magnitude = whole >> gm;
     SignMagnitude {
         sign: sine::sign(k),
+        magnitude,
+    }
+}
+
+// Twice the low 12 bits of K times GN: the index of a sine. K read unsigned has the same low bits.
+fn multiple_index(k: u32, gn: u32) -> u32
+    requires { ⌜ (k < 2 ^ 13) × (gn < 2 ^ 11) ⌝ }
+    ensures { λ r. ⌜ r ≡ 2 * multiple k gn ⌝ }
+{
+    2 * (k * gn % 4096)
+}
+
+// A magnitude of at most 4,095.
+fn capped(x: u32) -> u32
+    ensures { λ r. ⌜ r ≡ min 4095 x ⌝ }
+{
+    if x < 4095 {
+        return x;
+    }
+    4095
+}
+
+// The sum of cosines: the sine at twice p over the sine at K shifted left GM places, p the low 12 bits of K times GN.
+pub fn sum_of_cosines(table: &Quarter, k: u32, gn: u32, gm: u32) -> SignMagnitude
+    requires { ⌜ now table ≡ quarter ⌝ }
+    requires { ⌜ (k < 2 ^ 13) × (gn < 2 ^ 11) × (gm < 2 ^ 4) ⌝ }
+    ensures { λ r. ⌜ Wave (sumOfCosines k gn gm) r ⌝ }
+{
+    let index = multiple_index(k, gn);
+    let above = 4095 * sine::magnitude(table, index);
+    let below = sine::magnitude(table, k) << gm;
+    let magnitude = capped(above / below);
+    SignMagnitude {
+        sign: (sine::sign(index) + sine::sign(k)) % 2,
         magnitude,
     }
 }
