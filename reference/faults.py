@@ -30,6 +30,13 @@ class Faults:
         self.readers_by_word = False
         self.adders_above_t = False
         self.refused_says_yes = False
+        # Sum of cosines.
+        self.gn_signed = False
+        self.p_of_11_bits = False
+        self.index_p = False
+        self.cap_before_gm = False
+        self.cosines_rounded_up = False
+        self.sign_of_s_alone = False
 
 
 faults = Faults()

@@ -13,7 +13,7 @@ from typing import NamedTuple
 from delay_requests import (Memory, bad_memory, changed_words, drawn_memory, memory_words,
                             put_invoking, put_stray, put_units, unit_damages, with_bad_line,
                             with_unit_twice, with_words)
-from leaf_requests import biased, generator_request, modifier_request
+from leaf_requests import GMODES, biased, generator_request, modifier_request
 from reference import layout
 from reference.machine import below_t_in, fresh, run_pass
 from reference.modifier import FORMULAS
@@ -62,7 +62,7 @@ def near_overflow(chance, words):
 
 def generator(chance, run_modes, shared):
     """Eleven words and the word at GFM that they were shaped for; GSUM and GFM below shared."""
-    request = generator_request(chance, chance.randrange(360))
+    request = generator_request(chance, chance.randrange(2 * len(GMODES)))
     words, f = list(request[1:12]), request[12]
     words[layout.GSUM] %= shared
     words[layout.GFM] = words[layout.GFM] & 64 | words[layout.GFM] % shared

@@ -21,6 +21,7 @@ from library import (Test, compared, counts, machine_differences, met_seldom, pa
 from delay_requests import Echoes, delay_events, question_events
 from pass_requests import PASS, Answer, all_requests, answered
 from reference import layout
+from reference.machine import generator_column
 
 COUNT, SEED = 21000, 1978
 HEAD, COUNTS = struct.Struct("<8I"), struct.Struct("<IQQ")
@@ -30,6 +31,7 @@ CHANGED = layout.DELAY_UNITS
 # How often each kind is met at least, in COUNT requests.
 PROMISED = {
     "passes": 20000, "passes done": 12000, "values of T": 200, "delay memory changed": 5000,
+    "turns in 0100 that are heard": 20000,
     # Units that are named.
     "line": 9000, "table": 4000, "rounded table": 4000, "inactive unit": 4000,
     "unit out of range": 8000, "unit named above T div 2 too": 5000,
@@ -137,6 +139,13 @@ def delay_questions(request):
     return failed
 
 
+def cosines_heard(machine):
+    """How many generators below T are in 0100 and have their P go to a sum word."""
+    gmodes = generator_column(machine, layout.GMODE)[:machine[layout.T]]
+    return sum(layout.oscillator_mode(gmode) == layout.SUM_OF_COSINES
+               and layout.RUN_MODES[layout.run_mode(gmode)].envelope for gmode in gmodes)
+
+
 class Met:
     """Counts what the requests met."""
 
@@ -156,6 +165,7 @@ class Met:
         machine, after = request.machine, answer.machine
         self.kinds["passes done"] += 1
         self.kinds["delay memory changed"] += bool(answer.changed)
+        self.kinds["turns in 0100 that are heard"] += cosines_heard(machine)
         self.ticks[machine[layout.T]] += 1
         self.kinds.update(delay_events(machine, after))
         if machine is not self.left:

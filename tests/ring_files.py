@@ -74,12 +74,15 @@ EXAMPLE_PRINTED = b"pass=1 left=0 right=0\npass=2 left=131040 right=0\n"
 
 
 def shown():
-    """The example of the scope, printed as it stands there, the bell and the belfry."""
+    """The example of the scope, printed as it stands there, and every file of examples/."""
     yield known("the example of the scope", EXAMPLE, EXAMPLE_PRINTED)
-    for name in ("bell", "belfry"):
-        with open(os.path.join(ROOT, "examples", name + ".txt"), "rb") as example:
-            made = file(f"the {name}", example.read())
-        assert name == "bell" or echo_lines(made.printed) > 200, "the belfry has no echo"
+    folder = os.path.join(ROOT, "examples")
+    names = sorted(name for name in os.listdir(folder) if name.endswith(".txt"))
+    assert {"bell.txt", "belfry.txt"} <= set(names), "an example is missing"
+    for name in names:
+        with open(os.path.join(folder, name), "rb") as example:
+            made = file(f"examples/{name}", example.read())
+        assert name != "belfry.txt" or echo_lines(made.printed) > 200, "the belfry has no echo"
         yield made
 
 

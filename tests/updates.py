@@ -23,7 +23,7 @@ from update_requests import Answer, all_requests, answered
 
 COUNT, SEED = 20000, 1978
 HEAD, COUNTS = struct.Struct("<2I"), struct.Struct("<IQ")
-DLY, MMODE = 0b00001, 0b11110
+DLY, GMODE, MMODE = 0b00001, (0b10100, 0b10101), 0b11110
 
 # How often each kind is met at least, in COUNT requests.
 PROMISED = {
@@ -35,7 +35,7 @@ PROMISED = {
     "DLY X": 2000, "DLY Y": 2000, "DLY Z": 2000, "DLY X or Y, other 4 bits": 3000,
     **{f"DLY P {p:04b}": 400 for p in layout.DELAY_MODES},
     **{f"DLY P {p:04b} refused": 20 for p in range(16) if p not in layout.DELAY_MODES},
-    "DLY UU 11 refused": 150, "function 00111 loaded": 60,
+    "DLY UU 11 refused": 150, "function 00111 loaded": 60, "oscillator mode 0100 loaded": 200,
     "a pass would be refused by 11 or 12": 4000,
 }
 
@@ -113,9 +113,12 @@ def events(request, answer):
         yield f"code {code:05b} taken"
         if code == DLY:
             yield from delay_event(command)
-        loads = code == MMODE and not field(command, 4, 4)
-        if loads and field(command, 8, 12) == layout.INVOKE_DELAY_UNIT:
+        if field(command, 4, 4):
+            continue
+        if code == MMODE and field(command, 8, 12) == layout.INVOKE_DELAY_UNIT:
             yield "function 00111 loaded"
+        if code in GMODE and field(command, 13, 16) == layout.SUM_OF_COSINES:
+            yield "oscillator mode 0100 loaded"
     if answer.number in (3, 4):
         yield "refused in its turn " + ("first" if not taken else "later")
         refused = request.commands[answer.taken]

@@ -125,7 +125,7 @@ def random_small(chance):
     return made
 
 
-def trials(count=4000, often=120):
+def trials(count=4000, often=100):
     """The rule says what all pairs of orders say; each clause alone and each fault counts."""
     chance, met = random.Random(1978), Counter()
     for trial in range(count):

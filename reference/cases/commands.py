@@ -49,13 +49,15 @@ LOADS = (
     ("M of GMODE", 0x9E145A03, {}, 0, {42: 0x45}),
     ("F", 0x5E145A03, {}, 0, {43: 962}),
     ("C alone", 0xE0000A03, {"w35": 7}, 0, {35: 0}),
-    # Run mode 0100: 256 * 2^19 = 0x08000000; oscillator mode 0100: 4 * 2^19 = 0x00200000.
+    # Run mode 0100: 256 * 2^19 = 0x08000000; oscillator mode 0100: 4 * 2^19 = 0x00200000; 0101:
+    # 0x00280000.
     ("run mode not built", 0x08000A03, {}, 3, {}),
-    ("oscillator mode not built", 0x00200A03, {}, 3, {}),
+    ("oscillator mode 0100", 0x00200A03, {}, 0, {43: 4}),
+    ("oscillator mode not built", 0x00280A03, {}, 3, {}),
     # 1010: 640 * 2^19 = 0x14000000; F (0x40000000) does not disable GMODE.
     ("run mode 1010", 0x14000A03, {}, 3, {}),
     ("not built, F", 0x48000A03, {}, 3, {}),
-    ("not built but disabled", 0x88200A03, {"w42": 1}, 0, {42: 0}),
+    ("not built but disabled", 0x88280A03, {"w42": 1}, 0, {42: 0}),
     # M0, M1 by VV; 0x12345 * 2^10 = 0x48D1400, 0xABCDE div 2^10 = 0x2AF.
     ("M0 right", 0xFFFFFC05, {}, 0, {2856: 0x3FFFFFFF}),
     ("M1 right", 0x00001C85, {}, 0, {2857: 1}),

@@ -91,6 +91,10 @@ def replaced_point():
     for mode in ("0000", "0001", "1001", "0010", "0011"):
         yield mode + " does not add", says([in_run_mode(mode), read(0)], [0, 1], [1, 0]), YES
     yield "adding without a 0111", says([add(1), add(1)], [0, 1], [1, 0]), YES
+    # A sum of cosines, oscillator mode 0100, counts as any other.
+    cosines = [generator("1111 00 0100", GSUM=word) for word in (1, 2)]
+    yield "0100 after", says([read(1), cosines[0]], [0, 1], [1, 0]), NO
+    yield "0100 on another word", says([read(1), cosines[1]], [0, 1], [1, 0]), YES
 
 
 def refusals():
