@@ -74,7 +74,7 @@ def measure(job, number, what, modes, count, each):
 
 def main():
     with open(TABLES, "wb") as tables:
-        tables.write(struct.pack("<2304H", *SINE, *EXPONENTIAL))
+        tables.write(struct.pack("<3072H", *SINE, *EXPONENTIAL))
     agree = [measure(*job) for job in JOBS]
     sys.exit(0 if all(agree) else 1)
 

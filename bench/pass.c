@@ -81,7 +81,7 @@ static uint32_t output(const uint32_t *g, int turning, uint32_t f, uint32_t j) {
         w = leaves20(g[GJ] >> 8, f) || (turning && leaves20(g[GK], j)) ? 2048 : 0;
         negative = 0;
     }
-    uint32_t h = g[GQ] >> 12, q = env >= 2 ? (uint32_t)entries[h & 255] >> (h >> 8) : h;
+    uint32_t x = g[GQ] >> 10, q = env >= 2 ? (uint32_t)entries[x & 1023] >> (x >> 10) : g[GQ] >> 12;
     uint32_t v = LOW(env & 1 ? g[GL] + q : g[GL] - q, 12);
     uint32_t p = (w * v + 32) / 64;
     return LOW(negative ? 0u - p : p, 20);

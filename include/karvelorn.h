@@ -59,9 +59,9 @@
  * Modes and addresses, from the left bit on:
  *   GMODE   run mode (4 bits): 0000 inactive, 0001 pause, 0010 to a DAC (the one that GO's low 4 bits name), 0011 write
  *           data, 0111 read data, 1001 wait, 1101, 1110 and 1111 running; envelope mode (2): 00 and 10 take Q from GL,
- *           01 and 11 add it, 10 and 11 by the exponential; oscillator mode (4): 0000 sine of GK, 0001 sawtooth, 0010
- *           square, 0011 pulse train, 0100 sum of cosines, 1000 sine of J, the high 20 bits of GJ plus the word at GFM. Other run and
- *           oscillator modes are not built
+ *           01 and 11 add it, where Q is the high 12 bits of GQ or, in 10 and 11, the exponential of its high 14;
+ *           oscillator mode (4): 0000 sine of GK, 0001 sawtooth, 0010 square, 0011 pulse train, 0100 sum of cosines,
+ *           1000 sine of J, the high 20 bits of GJ plus the word at GFM. Other run and oscillator modes are not built
  *   GFM     0 generator-last or 1 modifier-last, then the word (6)
  *   MMODE   function (5): 00000 inactive, 00010 noise, 00011 triggered noise, 00100 latch, 00110 threshold, 00111
  *           invoke delay unit, 01000 two poles, 01001 with M0 variable, 01011 with M1 variable, 01100 two zeros, 01101

@@ -5,6 +5,8 @@ use Rattle.layout.specs.Machine.{Machine}
 use Rattle.sine.proofs.Quarter.{magnitude-positive}
 use Rattle.machine.proofs.FreshMachine.{fresh-length, fresh-sound}
 use Rattle.machine.proofs.SoundMachine.{sound-controls}
+use Rattle.exponential.proofs.Entries.{entry-largest}
+use Rattle.exponential.proofs.Sizes.{older-entry, older-exponential}
 use Rattle.delay.proofs.Returns.{line-returns, table-returns}
 use Rattle.pass_model.specs.Pass.{Call, passOf, passRefusal}
 use Rattle.pass_model.proofs.Asked.{refusal-leaves}
@@ -52,6 +54,9 @@ claims =
       refused-leaves = λ m call n. refusal-leaves m call (λ e. n (pass-number m call ∙ e));
       line-returns = line-returns;
       table-returns = table-returns;
+      entry-largest = entry-largest;
+      older-entry = older-entry;
+      older-exponential = older-exponential;
       steps-are-output = rung-file;
       gathered-are-output = gathered-file;
     }

@@ -1,6 +1,6 @@
 -- Every claim that the demands, document 01 and the requests of document 02 make beyond the contracts of the calls. One value of this record, `claims` in proofs/Proved.antt, is the proof of all.
 -- Assumes nothing.
-use Prim.Native.Nat.{ℕ, _+_, _%_, _^_, _≤_, _<_}
+use Prim.Native.Nat.{ℕ, _+_, _*_, _%_, _^_, _≤_, _<_}
 use mathlib.Core.Bool.{true, false}
 use mathlib.Core.List.{List, [], _∷_}
 use mathlib.Core.Logic.{_↔_, _≢_}
@@ -11,6 +11,7 @@ use Rattle.layout.specs.Machine.{Machine, Order, Commands, Memory, ticksOf}
 use Rattle.layout.specs.Widths.{counterBits}
 use Rattle.questions.specs.Questions.{asked}
 use Rattle.sine.specs.Sine.{magnitude}
+use Rattle.exponential.specs.Exponential.{tableSize, olderSize, within, Largest, entry as exponentialEntry, exponential}
 use Rattle.modes.specs.Modes.{readData, writeData}
 use Rattle.machine.specs.Questions.{freshMachine}
 use Rattle.delay.specs.declared.Delay.{Delay}
@@ -79,6 +80,11 @@ pub record Claims : Type 0 where
       → Turns (unit 0 .z + 3) unit memory word → OnlyTurnsWrite (slot (unit 0)) (unit 0 .z + 1) unit memory word → due (unit (unit 0 .z + 3)) ≡ word 0
   pub table-returns : (unit : ℕ → Delay) (memory : ℕ → Memory) (word : ℕ → ℕ) → unit 0 .p ≢ line → Turns 3 unit memory word
       → due (unit 3) ≡ getD (memory 0) (address (unit 0) (word 0)) 0
+  -- Entry f of an exponential table of n is the largest of all e with e^n times 2^f at most 4,093^n, for every n. Entry 4f of the table is entry f of
+  -- document 01's table of 256, and so the exponential of 4h is what document 01's was of h.
+  pub entry-largest : (n f : ℕ) → 0 < n → Largest (within n f) (exponentialEntry n f)
+  pub older-entry : (f : ℕ) → exponentialEntry tableSize (4 * f) ≡ exponentialEntry olderSize f
+  pub older-exponential : (h : ℕ) → exponential tableSize (4 * h) ≡ exponential olderSize h
   -- The steps of the bench program until no pass is left are its output, for every text; and so are they where they are gathered in a buffer that has room for a line.
   pub steps-are-output : (text m room : List ℕ) → length room ≡ commandPlaces → rungFrom (readOf text m room) ≡ outputOf text
   pub gathered-are-output : (size : ℕ) (text m room : List ℕ) → lineBytes ≤ size → length room ≡ commandPlaces → printedFrom size (readOf text m room) ≡ outputOf text

@@ -9,13 +9,13 @@ use lib.Dec.{eqb, leb}
 use lib.IntN.{pos, negℤ}
 use Rattle.words.specs.Words.{valueOf}
 use Rattle.words.proofs.Residues.{either-low, low-lt}
-use Rattle.exponential.specs.Exponential.{tableSize}
+use Rattle.exponential.specs.Exponential.{tableSize, exponentOf}
 use Rattle.exponential.proofs.Entries.{exponential-low}
-use Rattle.envelope.specs.Envelope.{hOf, qOf, level, rounded, enveloped}
+use Rattle.envelope.specs.Envelope.{qOf, level, rounded, enveloped}
 
 pub q-low : (mode gq : ℕ) → gq < 2 ^ 24 → qOf mode gq < 2 ^ 12
 unfolding qOf
-q-low mode gq h = either-low (leb 2 mode) (exponential-low tableSize (hOf gq)) (omega arith)
+q-low mode gq h = either-low (leb 2 mode) (exponential-low tableSize (exponentOf gq)) (omega arith)
 
 pub level-low : (mode gl gq : ℕ) → level mode gl gq < 2 ^ 12
 unfolding level

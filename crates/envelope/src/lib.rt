@@ -30,7 +30,7 @@ pub fn decayed(free: u8, gq: u32, gp: u32) -> u32
     words::into24(gq, gp)
 }
 
-// Q: the high bits of GQ, or their exponential.
+// Q: the high 12 bits of GQ, or the exponential of its high 14.
 fn q(table: &Entries, mode: u32, gq: u32) -> u32
     requires { ⌜ now table ≡ entries tableSize ⌝ }
     requires { ⌜ gq < 2 ^ 24 ⌝ }

@@ -14,7 +14,7 @@ use Rattle.lists.specs.Lists.{isOneOf, count, zeros}
 use Rattle.lists.proofs.Below.{and-first, and-second}
 use Rattle.words.specs.Words.{lowBits, signed, exactSum, outside}
 use Rattle.sine.specs.Sine.{angle, firstThree, polynomial, entry}
-use Rattle.exponential.specs.Exponential.{bound, entry as exponentialEntry, exponential}
+use Rattle.exponential.specs.Exponential.{tableSize, bound, entry as exponentialEntry, exponential}
 use Rattle.exponential.proofs.Entries.{right, right-entry}
 use Rattle.envelope.specs.Envelope.{overflows, decayed, rounded, enveloped}
 use Rattle.product.specs.Product.{scaled, product}
@@ -43,17 +43,17 @@ sine-entries : (entry 0 ≡ 1) × (entry 1 ≡ 4) × (entry 1023 ≡ 2895) × (e
 unfolding entry polynomial firstThree angle
 sine-entries = (refl, refl, refl, refl)
 
-exponential-first : 4093 ≡ exponentialEntry 256 0
+exponential-first : 4093 ≡ exponentialEntry tableSize 0
 unfolding right bound
-exponential-first = right-entry 256 (lit< tt) 0 4093 tt
+exponential-first = right-entry tableSize (lit< tt) 0 4093 tt
 
-exponential-0 : exponential 256 0 ≡ 4093
+exponential-0 : exponential tableSize 0 ≡ 4093
 unfolding exponential
 exponential-0 = rw (← exponential-first)
 
-exponential-256 : exponential 256 256 ≡ 2046
+exponential-1024 : exponential tableSize 1024 ≡ 2046
 unfolding exponential
-exponential-256 = rw (← exponential-first)
+exponential-1024 = rw (← exponential-first)
 
 p-4 : (enveloped (pos 2048) 4095 ≡ pos 131040) × (enveloped (negℤ (pos 2048)) 4095 ≡ negℤ (pos 131040))
 unfolding enveloped rounded
@@ -359,7 +359,7 @@ worked-examples =
     record {
       example-1 = sine-entries;
       example-2 = exponential-0;
-      example-3 = exponential-256;
+      example-3 = exponential-1024;
       example-4 = p-4;
       example-5 = p-5;
       example-6 = p-6;

@@ -1,4 +1,4 @@
--- The twelve worked examples of document 01.
+-- The twelve worked examples of document 01; the third is that of 1,024, by request Q-5 of document 02.
 -- Assumes nothing.
 use mathlib.Core.Path.{_≡_}
 use mathlib.Core.Logic.{_↔_, _≢_}
@@ -9,7 +9,7 @@ use lib.IntN.{ℤ, pos, negℤ}
 use lib.ListN.{set}
 use Rattle.words.specs.Words.{lowBits, signed}
 use Rattle.sine.specs.Sine.{entry}
-use Rattle.exponential.specs.Exponential.{exponential}
+use Rattle.exponential.specs.Exponential.{tableSize, exponential}
 use Rattle.envelope.specs.Envelope.{enveloped}
 use Rattle.product.specs.Product.{product}
 use Rattle.layout.specs.Layout.{tAt}
@@ -61,9 +61,9 @@ pub record WorkedExamples : Type 0 where
   -- 1. Sine entries 0, 1, 1,023, 2,047: 1, 4, 2,895, 4,095.
   pub example-1 : (entry 0 ≡ 1) × (entry 1 ≡ 4) × (entry 1023 ≡ 2895) × (entry 2047 ≡ 4095)
   -- 2. Exponential of 0: 4,093.
-  pub example-2 : exponential 256 0 ≡ 4093
-  -- 3. Of 256: 2,046.
-  pub example-3 : exponential 256 256 ≡ 2046
+  pub example-2 : exponential tableSize 0 ≡ 4093
+  -- 3. Of 1,024, where document 01 has it of 256: 2,046.
+  pub example-3 : exponential tableSize 1024 ≡ 2046
   -- 4. W 2,048, V 4,095: P 131,040; W -2,048: -131,040.
   pub example-4 : (enveloped (pos 2048) 4095 ≡ pos 131040) × (enveloped (negℤ (pos 2048)) 4095 ≡ negℤ (pos 131040))
   -- 5. W 1, V 31: 0; V 32: 1.
