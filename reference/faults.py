@@ -37,6 +37,12 @@ class Faults:
         self.cap_before_gm = False
         self.cosines_rounded_up = False
         self.sign_of_s_alone = False
+        # The exponential of 14 bits.
+        self.exponential_of_12_bits = False
+        self.shift_div_256 = False
+        self.wrong_entry = False
+        self.root_of_order_256 = False
+        self.linear_of_14_bits = False
 
 
 faults = Faults()

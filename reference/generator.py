@@ -1,4 +1,4 @@
-"""One generator's turn, by the nine steps of document 01, and request Q-4 of document 02."""
+"""One generator's turn, by the nine steps of document 01 with requests Q-4 and Q-5 of 02."""
 
 from reference import layout
 from reference.faults import faults
@@ -84,10 +84,16 @@ def decay(gq, gp, free):
     return (gq if overflow and not free else low(total, 24)), overflow
 
 
-def envelope(mode, gl, h):
-    """Step 8: V, 12 bits unsigned."""
-    exponential_mode = mode in (layout.L_MINUS_EXPONENTIAL, layout.L_PLUS_EXPONENTIAL)
-    q = exponential(h) if exponential_mode else h
+def level(mode, gq):
+    """Q of step 8: the high 12 bits of GQ, or the exponential of its high 14."""
+    if mode in (layout.L_MINUS_Q, layout.L_PLUS_Q):
+        return gq >> (10 if faults.linear_of_14_bits else 12)
+    return exponential(gq >> 12 << 2 if faults.exponential_of_12_bits else gq >> 10)
+
+
+def envelope(mode, gl, gq):
+    """Step 8: V, 12 bits unsigned, from GQ as it was before step 7."""
+    q = level(mode, gq)
     minus = mode in (layout.L_MINUS_Q, layout.L_MINUS_EXPONENTIAL)
     return low(gl - q if minus else gl + q, 12)
 
@@ -130,10 +136,9 @@ def generator_turn(words, f, told):
         left_range = left_range or left_again
     w = wave(oscillator, k, gn, gm, left_range)
 
-    h = gq >> 12
     gq_after, overflow = decay(gq, gp, switches.free) if switches.envelope else (gq, False)
     triggers = switches.free and overflow
-    p = output(w, envelope(layout.envelope_mode(gmode), gl, h))
+    p = output(w, envelope(layout.envelope_mode(gmode), gl, gq))
 
     gmode_after = layout.with_run_mode(gmode, next_mode(mode, triggers, told))
     after = [go, gj_after, gk_after, gn, gm, gp, gq_after, gl, gsum, gfm, gmode_after]

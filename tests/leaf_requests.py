@@ -89,7 +89,7 @@ def near_decay(chance, x):
 
 def near_asymptote(chance, x):
     """GL puts V close to 0."""
-    v = envelope(layout.envelope_mode(x["GMODE"]), 0, x["GQ"] >> 12)
+    v = envelope(layout.envelope_mode(x["GMODE"]), 0, x["GQ"])
     x["GL"] = low(close(chance) - v, 12)
 
 
@@ -107,7 +107,7 @@ def near_quarter_by_j(chance, x):
 
 def near_rounding(chance, x):
     """K and V are small, so that W times V is close to the middle between two P."""
-    v = envelope(layout.envelope_mode(x["GMODE"]), 0, x["GQ"] >> 12)
+    v = envelope(layout.envelope_mode(x["GMODE"]), 0, x["GQ"])
     k = chance.choice((1, 2, 3, 4, 8, 16, 32))
     x["GK"] = low(128 * chance.choice((k, -k)), 20)
     x["GL"] = low((32 + 64 * chance.randrange(3)) // k + close(chance) - v, 12)
@@ -153,7 +153,7 @@ def cosines_request(chance, gn, gm):
     x.update(GN=gn, GM=gm, GMODE=run << 6 | env << 4 | layout.SUM_OF_COSINES)
     chance.choice((near_quarter, near_quarter, near_quarter, any_k))(chance, x)
     v = chance.choice((64, 2048, 4095, chance.randint(64, 4095)))
-    x["GL"] = low(v - envelope(env, 0, x["GQ"] >> 12), 12)
+    x["GL"] = low(v - envelope(env, 0, x["GQ"]), 12)
     return (GENERATOR, *(x[name] for name in ELEVEN), biased(chance, 20), chance.randrange(2))
 
 
@@ -231,9 +231,9 @@ def modifier_request(chance, number):
 # The whole of the requests
 
 def table_requests(chance):
-    """Every k, every H, every GMODE and MMODE."""
+    """Every k, every high 14 bits of a GQ, every GMODE and MMODE."""
     yield from ((SINE, k) for k in range(8192))
-    yield from ((EXPONENTIAL, h << 12 | chance.getrandbits(12)) for h in range(4096))
+    yield from ((EXPONENTIAL, high << 10 | chance.getrandbits(10)) for high in range(1 << 14))
     yield from ((BUILT, gmode, gmode % 512) for gmode in range(1024))
 
 

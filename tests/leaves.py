@@ -26,7 +26,8 @@ from leaf_requests import (BUILT, EIGHT, ELEVEN, EXPONENTIAL, GENERATOR,
                            MODIFIER, PRODUCTS, SINE, SUMS, all_requests)
 from reference.faults import NAMES, switched_on
 from reference.generator import generator_turn
-from reference.layout import RUN_MODES, SUM_OF_COSINES, oscillator_mode, run_mode
+from reference.layout import (L_MINUS_EXPONENTIAL, L_PLUS_EXPONENTIAL, RUN_MODES, SUM_OF_COSINES,
+                              envelope_mode, oscillator_mode, run_mode)
 from reference.machine import (function_built, oscillator_mode_built,
                                run_mode_built)
 from reference.modifier import integer_product, modifier_turn, product
@@ -42,6 +43,7 @@ SHOWN = 5
 PROMISED = {
     "turns in 0100 that are heard": 32768, "values of GN in 0100": 2048, "values of GM in 0100": 16,
     "0100 with K at or close to the end of a quarter": 20000,
+    "exponentials that 12 bits of GQ don't tell": 4000, "levels of linear modes": 25000,
 }
 
 
@@ -84,7 +86,7 @@ def answer_words(x):
     if x[0] == SINE:
         return sine(x[1])
     if x[0] == EXPONENTIAL:
-        return (exponential(x[1] >> 12),)
+        return (exponential(x[1] >> 10),)
     if x[0] == PRODUCTS:
         return product(*x[1:4]), integer_product(*x[1:4])
     if x[0] == GENERATOR:
@@ -111,19 +113,24 @@ def answers(requests):
 # What the requests met
 
 QUARTER, CLOSE = 2048, 2
+EXPONENTIAL_MODES = (L_MINUS_EXPONENTIAL, L_PLUS_EXPONENTIAL)
 
 
 def met_by(requests):
-    """What is counted of the requests: sums of cosines that are heard."""
-    turns = [x for x in requests if x[0] == GENERATOR and heard(x)
-             and oscillator_mode(x[11]) == SUM_OF_COSINES]
-    places = [(x[3] >> 7) % QUARTER for x in turns]
+    """What is counted of the generators' turns that are heard."""
+    turns = [x for x in requests if x[0] == GENERATOR and heard(x)]
+    cosines = [x for x in turns if oscillator_mode(x[11]) == SUM_OF_COSINES]
+    places = [(x[3] >> 7) % QUARTER for x in cosines]
+    exponentials = [x[7] >> 10 for x in turns if envelope_mode(x[11]) in EXPONENTIAL_MODES]
     return Counter({
-        "turns in 0100 that are heard": len(turns),
-        "values of GN in 0100": len({x[4] for x in turns}),
-        "values of GM in 0100": len({x[5] for x in turns}),
+        "turns in 0100 that are heard": len(cosines),
+        "values of GN in 0100": len({x[4] for x in cosines}),
+        "values of GM in 0100": len({x[5] for x in cosines}),
         "0100 with K at or close to the end of a quarter":
             sum(not CLOSE < place < QUARTER - CLOSE for place in places),
+        "exponentials that 12 bits of GQ don't tell":
+            sum(exponential(high) != exponential(high >> 2 << 2) for high in exponentials),
+        "levels of linear modes": len(turns) - len(exponentials),
     })
 
 

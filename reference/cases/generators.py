@@ -145,12 +145,23 @@ ENVELOPES = (
     ("10", "1111 10 0010", {}, 0, False, {}, 96, False),
     # V = 4 + 4093 is 1.
     ("11", "1111 11 0010", dict(GL=4), 0, False, {}, 32, False),
-    # H = 256, exponential 2046: V = 2047 - 2046.
-    ("10 at 256", "1111 10 0010", dict(GQ=1048576, GL=2047), 0, False, {}, 32, False),
-    # H = 2816 = 11*256: 4093 shifted by 11 is 1; H = 3072 = 12*256: 0, so V = 5:
+    # The high 14 bits are 1024, exponential 2046: V = 2047 - 2046.
+    ("10 at 1024", "1111 10 0010", dict(GQ=1048576, GL=2047), 0, False, {}, 32, False),
+    # 11264 = 11*1024: 4093 shifted by 11 is 1; 12288 = 12*1024: 0, so V = 5:
     # (10240 + 32) div 64 = 160.
-    ("11 at 2816", "1111 11 0010", dict(GQ=11534336), 0, False, {}, 32, False),
-    ("11 at 3072", "1111 11 0010", dict(GQ=12582912, GL=5), 0, False, {}, 160, False),
+    ("11 at 11264", "1111 11 0010", dict(GQ=11534336), 0, False, {}, 32, False),
+    ("11 at 12288", "1111 11 0010", dict(GQ=12582912, GL=5), 0, False, {}, 160, False),
+    # 1023 div 1024 = 0: V = 4 + 4093 is 1; 1024 div 1024 = 1: V = 7 + 4090 is 1.
+    ("11 below 1", "1111 11 0010", dict(GQ=1023, GL=4), 0, False, {}, 32, False),
+    ("11 at 1", "1111 11 0010", dict(GQ=1024, GL=7), 0, False, {}, 32, False),
+    # 4095 div 1024 = 3: V = 4085 - 4084.
+    ("10 at 3", "1111 10 0010", dict(GQ=4095, GL=4085), 0, False, {}, 32, False),
+    # 1023*1024: V = 2050 + 2047 is 1; 2047*1024: 2047 shifted by 1, V = 1024 - 1023.
+    ("11 at 1023", "1111 11 0010", dict(GQ=1047552, GL=2050), 0, False, {}, 32, False),
+    ("10 at 2047", "1111 10 0010", dict(GQ=2096128, GL=1024), 0, False, {}, 32, False),
+    # Linear modes take 12 bits: 4095 div 4096 = 0 and 8191 div 4096 = 1, V = 1 and 0 + 1.
+    ("00 by 12 bits", "1111 00 0010", dict(GQ=4095, GL=1), 0, False, {}, 32, False),
+    ("01 by 12 bits", "1111 01 0010", dict(GQ=8191), 0, False, {}, 32, False),
     # H = 4095 div 4096 = 0 from the old GQ: V = 2; (4096 + 32) div 64 = 64.
     ("H before the decay", "1111 01 0010", dict(GQ=4095, GP=1, GL=2), 0, False,
      dict(GQ=4096), 64, False),
