@@ -12,8 +12,9 @@
  * - each pointer is aligned for its type;
  * - a run has valid memory for its whole length, for reading, and for writing too where it is not const; with length 0
  *   the pointer may be NULL;
- * - a pointer that a call answers through (read, written, taken, equal) is not NULL and has valid memory for one. What
- *   was there before is not looked at, and the call always sets it, in a refusal too;
+ * - a pointer that a call answers through (read, written, clipped, taken, equal, alike) is not NULL and has valid memory
+ *   for one, clipped for KARVELORN_MARKS. What was there before is not looked at, and the call always sets it, in a
+ *   refusal too;
  * - what a call writes (the runs that are not const, delay memory too, and what it answers through) overlaps nothing
  *   else that is handed to the same call, and nothing else reads or writes it during the call. Runs that are const may
  *   overlap each other.
@@ -92,6 +93,7 @@
 
 #define KARVELORN_WORDS 4343
 #define KARVELORN_MEMORY_WORDS 65536
+#define KARVELORN_MARKS 64
 
 #ifdef __cplusplus
 extern "C" {
@@ -119,13 +121,18 @@ uint32_t karvelorn_fresh(uint32_t *machine, size_t words);
  *                         it is zero, but for what the host puts there, such as tables; each pass of the machine then
  *                         gets it as the last one left it
  *   read, written         get how many items were read and written, both 0 in a refusal
+ *   clipped               gets KARVELORN_MARKS marks, one byte for each generator-this word: 1 where a signed sum in it,
+ *                         P added into it or P plus a read item's low 20 bits replacing it, left -524288 to 524287 in
+ *                         this pass, though the word may have come back since; else 0. All are 0 in a refusal. The
+ *                         word itself wraps. Which marks are set may depend on the order, also of equal orders
  *
  * Answers 0, 1, 2, 5, 6, 7, 8, 10, 11 or 12. A refused pass changes no word of the machine or of delay memory, and no
  * place.
  */
 uint32_t karvelorn_pass(uint32_t *machine, size_t words, const uint32_t *order, size_t entries,
                         const uint32_t *items, size_t items_len, uint32_t *places, size_t places_len,
-                        uint32_t *memory, size_t memory_words, size_t *read, size_t *written);
+                        uint32_t *memory, size_t memory_words, size_t *read, size_t *written,
+                        uint8_t clipped[KARVELORN_MARKS]);
 
 /* One update: commands change the machine between two passes. They are taken one after the other from the first on, at
  * most N-T-8 of them (none if that is negative) by N and T as the update begins. While the machine lingers and the
@@ -175,8 +182,8 @@ uint32_t karvelorn_update(uint32_t *machine, size_t words, const uint32_t *comma
 /* Whether two orders of the generators are equal, so that it makes no difference which one a pass goes by: on every
  * machine with the settings of this one, whatever its other words hold, and with any read items and any delay memory,
  * passes by the two orders leave the same value in each word of the machine and of delay memory and write the same
- * items in the same sequence. Settings are T, every GMODE, GSUM and GFM, and the low 4 bits of GO of each generator in
- * run mode 0010.
+ * items in the same sequence; what a pass answers in clipped is not compared. Settings are T, every GMODE, GSUM and
+ * GFM, and the low 4 bits of GO of each generator in run mode 0010.
  *
  *   machine, words          the machine, and its length: KARVELORN_WORDS; it is only read
  *   first, first_entries    an order: the numbers 0 to T-1, each once; first_entries is T

@@ -15,12 +15,14 @@ use Rattle.pass_laws.proofs.PassSound.{pass-sound}
 use Rattle.pass_laws.proofs.PassDelays.{pass-memory, pass-units}
 use Rattle.pass_laws.proofs.PassSettings.{pass-settings}
 use Rattle.pass_laws.proofs.PassCounts.{pass-counts, pass-counter}
+use Rattle.pass_laws.proofs.PassClipped.{pass-marks, pass-mark-bits, refused-unmarked, pass-mark-tells}
 use Rattle.update_laws.proofs.SoundCommands.{command-sound}
 use Rattle.update_laws.proofs.UpdateSound.{update-sound}
 use Rattle.update_laws.proofs.Lengths.{command-length, update-length}
 use Rattle.equal_orders.proofs.Theorem.{demand-3, compare-says, refused-says-no}
 use Rattle.equal_orders.proofs.WorkedExamples.{worked-examples}
 use Rattle.equal_any_order.proofs.AnyOrder.{any-order-says, any-order-refused, one-order, orders-apart}
+use Rattle.equal_any_order.proofs.MarksApart.{marks-equal, forth-sets, back-sets}
 use Rattle.bench_ringing.proofs.RungFile.{rung-file}
 use Rattle.bench_gathering.proofs.Gatherings.{gathered-file}
 use Rattle.claims.specs.Claims.{Claims}
@@ -52,6 +54,13 @@ claims =
       items-written = λ m call n. pass-counts m call (not-refused m call n) .1;
       pass-counted = λ m call n. pass-counter m call (not-refused m call n);
       refused-leaves = λ m call n. refusal-leaves m call (λ e. n (pass-number m call ∙ e));
+      marks-64 = pass-marks;
+      mark-bits = pass-mark-bits;
+      refused-unmarked = λ m call n. refused-unmarked m call (λ e. n (pass-number m call ∙ e));
+      mark-tells = λ m call n. pass-mark-tells m call (not-refused m call n);
+      marks-equal = marks-equal;
+      marks-forth = forth-sets;
+      marks-back = back-sets;
       line-returns = line-returns;
       table-returns = table-returns;
       entry-largest = entry-largest;

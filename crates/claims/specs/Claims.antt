@@ -5,8 +5,8 @@ use mathlib.Core.Bool.{true, false}
 use mathlib.Core.List.{List, [], _∷_}
 use mathlib.Core.Logic.{_↔_, _≢_}
 use mathlib.Core.Path.{_≡_}
-use lib.ListN.{length, getD}
-use Rattle.layout.specs.Layout.{counterAt}
+use lib.ListN.{length, getD, set}
+use Rattle.layout.specs.Layout.{counterAt, quadrantWords}
 use Rattle.layout.specs.Machine.{Machine, Order, Commands, Memory, ticksOf}
 use Rattle.layout.specs.Widths.{counterBits}
 use Rattle.questions.specs.Questions.{asked}
@@ -20,7 +20,10 @@ use Rattle.delay.specs.Delay.{due, slot, address}
 use Rattle.delay.specs.Turns.{Turns, OnlyTurnsWrite}
 use Rattle.delay_questions.specs.Questions.{memoryGood, question11, question12}
 use Rattle.order.specs.Order.{inMode}
-use Rattle.pass_model.specs.Pass.{Call, passOf}
+use Rattle.sums.specs.Sums.{sumsOf}
+use Rattle.pass_model.specs.Generators.{of1978, begun}
+use Rattle.pass_model.specs.Clipped.{noMarks, SumLeft}
+use Rattle.pass_model.specs.Pass.{Call, plainCall, passOf}
 use Rattle.pass_laws.specs.Good.{Good}
 use Rattle.pass_laws.specs.Settings.{SettingsKept}
 use Rattle.command.specs.Command.{afterCommand}
@@ -30,8 +33,9 @@ use Rattle.order_alike.specs.Parting.{partingOrders}
 use Rattle.compare.specs.Compare.{compareOf}
 use Rattle.any_order.specs.AnyOrder.{anyOrderOf}
 use Rattle.equal_orders.specs.Equal.{Equal}
-use Rattle.equal_orders.specs.WorkedExamples.{WorkedExamples}
+use Rattle.equal_orders.specs.WorkedExamples.{WorkedExamples, forth, back}
 use Rattle.equal_any_order.specs.EveryOrder.{Passes, EveryTwoEqual, Apart}
+use Rattle.equal_any_order.specs.MarksApart.{upAndDown}
 use Rattle.bench_text.specs.Text.{lineBytes}
 use Rattle.bench_file.specs.BenchFile.{commandPlaces, readOf}
 use Rattle.bench_ringing.specs.Ringing.{outputOf}
@@ -74,6 +78,17 @@ pub record Claims : Type 0 where
   -- A refused pass leaves the machine, the places and delay memory as they were.
   pub refused-leaves : (m : Machine) (call : Call) → passOf m call .number ≢ 0
       → (passOf m call .machine ≡ m) × (passOf m call .places ≡ call .places) × (passOf m call .memory ≡ call .memory)
+  -- A pass answers 64 marks, each 0 or 1, and none is set in a refusal. Else the mark of a generator-this word is set exactly if some generator, taken in the call's order
+  -- from the state that those before it left, made a signed sum in that word, by adding or replacing, that left its range.
+  pub marks-64 : (m : Machine) (call : Call) → length (passOf m call .clipped) ≡ quadrantWords
+  pub mark-bits : (m : Machine) (call : Call) (w : ℕ) → w < quadrantWords → getD (passOf m call .clipped) w 0 ≤ 1
+  pub refused-unmarked : (m : Machine) (call : Call) → passOf m call .number ≢ 0 → passOf m call .clipped ≡ noMarks
+  pub mark-tells : (m : Machine) (call : Call) → passOf m call .number ≡ 0 → (w : ℕ) → w < quadrantWords
+      → (getD (passOf m call .clipped) w 0 ≡ 1) ↔ SumLeft of1978 (call .items) (begun m (sumsOf m) (call .places)) (call .order) w
+  -- Equal orders may differ in the marks: of two that are equal on a machine one sets the mark of word 0, the other none.
+  pub marks-equal : Equal upAndDown forth back
+  pub marks-forth : (passOf upAndDown (plainCall forth [] []) .number ≡ 0) × (passOf upAndDown (plainCall forth [] []) .clipped ≡ set noMarks 0 1)
+  pub marks-back : (passOf upAndDown (plainCall back [] []) .number ≡ 0) × (passOf upAndDown (plainCall back [] []) .clipped ≡ noMarks)
   -- A word that a delay line takes goes out Z+3 turns later, if nothing but its turns changes the unit and nothing else writes its slot until it leaves;
   -- a table's answer goes out three turns later, looked up in its word's own turn.
   pub line-returns : (unit : ℕ → Delay) (memory : ℕ → Memory) (word : ℕ → ℕ) → unit 0 .p ≡ line → unit 0 .y ≤ unit 0 .z → slot (unit 0) < length (memory 0)

@@ -85,11 +85,11 @@ module _ (u : Generator) (t : AtTop u) where
   free-9 e = (rw (t .on, e, t .gq, t .gp), rw (e, t .gq, t .gp))
 
 -- The two orders of two generators pass their questions.
-forth-passes : (t : ℕ) → t ≡ 2 → asked (question5 t forth ∷ question6 t forth ∷ []) ≡ 0
+pub forth-passes : (t : ℕ) → t ≡ 2 → asked (question5 t forth ∷ question6 t forth ∷ []) ≡ 0
 unfolding asked eachOnce count
 forth-passes t e = rw e
 
-back-passes : (t : ℕ) → t ≡ 2 → asked (question5 t back ∷ question6 t back ∷ []) ≡ 0
+pub back-passes : (t : ℕ) → t ≡ 2 → asked (question5 t back ∷ question6 t back ∷ []) ≡ 0
 unfolding asked eachOnce count
 back-passes t e = rw e
 
@@ -257,7 +257,7 @@ module _ (m : Machine) (c : TwoTicks m readData runningA) where
           }
 
 -- The machines of examples 10 to 12 are good.
-of-two-good : (mode₀ mode₁ sum₀ sum₁ fm₀ fm₁ : ℕ) → goodGmode mode₀ ≡ true → goodGmode mode₁ ≡ true → sum₀ < 2 ^ 6 → sum₁ < 2 ^ 6 → fm₀ < 2 ^ 7 → fm₁ < 2 ^ 7
+pub of-two-good : (mode₀ mode₁ sum₀ sum₁ fm₀ fm₁ : ℕ) → goodGmode mode₀ ≡ true → goodGmode mode₁ ≡ true → sum₀ < 2 ^ 6 → sum₁ < 2 ^ 6 → fm₀ < 2 ^ 7 → fm₁ < 2 ^ 7
     → Good (ofTwo mode₀ mode₁ sum₀ sum₁ fm₀ fm₁)
 unfolding ofTwo regions testAt
 of-two-good mode₀ mode₁ sum₀ sum₁ fm₀ fm₁ a b c d e f =
