@@ -43,6 +43,14 @@ class Faults:
         self.wrong_entry = False
         self.root_of_order_256 = False
         self.linear_of_14_bits = False
+        # Marks of sum words that clipped over.
+        self.mark_of_next_word = False
+        self.only_last_sum_marks = False
+        self.replacement_never_marks = False
+        self.replacement_clears_mark = False
+        self.item_high_bits_mark = False
+        self.unsigned_carry_marks = False
+        self.marks_in_refusal = False
 
 
 faults = Faults()

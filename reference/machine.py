@@ -1,10 +1,11 @@
 """The machine: a fresh one, its questions, and a pass.
 
-The turns, delay units, products and tables have files of their own; the turns, products
-and tables are offered here too.
+The turns, delay units, sum words, products and tables have files of their own; the turns,
+products and tables are offered here too.
 """
 
 from operator import le
+from typing import NamedTuple
 
 from reference import layout
 from reference.delay import (delay_mode_built, memory_refusal, take_word, units_refusal,
@@ -13,6 +14,7 @@ from reference.faults import faults
 from reference.generator import acting_mode, generator_turn
 from reference.modifier import (FORMULAS, delay_turn, integer_product, modifier_turn,
                                 product)
+from reference.sums import add_to, all_marks, mark, no_marks, replace_by
 from reference.tables import exponential, sine
 from reference.words import low
 
@@ -154,12 +156,20 @@ def pass_refusal(machine, order, items, places, memory):
 
 # The pass
 
-def add_to(machine, place, word):
-    """Adds a 20-bit word into a sum memory word, in place."""
-    machine[place] = low(machine[place] + word, layout.SUM_WIDTH)
+class Passed(NamedTuple):
+    """What a pass answers: its number, the counts read and written, and a mark for each
+    generator-this word, 1 if a sum into it left its range; then what it leaves."""
+
+    number: int
+    read: int
+    written: int
+    clipped: list
+    machine: list
+    places: list
+    memory: list
 
 
-def take_generator(machine, g, told, items, written):
+def take_generator(machine, g, told, items, written, clipped):
     """One generator's turn in place; items is what is left to read. Gives whether it triggers."""
     at = layout.generator_at(g)
     words = machine[at:at + layout.GENERATOR_WORDS]
@@ -171,21 +181,22 @@ def take_generator(machine, g, told, items, written):
         written.append(f)
     if mode == layout.WRITE_DAC:
         machine[layout.DACS_AT + words[layout.GO] % layout.DACS] = f
-    place = layout.GENERATOR_THIS + words[layout.GSUM]
+    word = words[layout.GSUM]
+    place = layout.GENERATOR_THIS + word
     if layout.RUN_MODES[mode].adding:
-        add_to(machine, place, p)
+        mark(clipped, word, add_to(machine, place, p), replaced=False)
     if mode == layout.READ_DATA:
-        machine[place] = low(p + items.pop(0), layout.SUM_WIDTH)
+        mark(clipped, word, replace_by(machine, place, p, items.pop(0)), replaced=True)
     return triggers
 
 
 def take_generators(machine, order, items):
-    """All generators in their order, in place; gives the count read and the items written."""
-    left, written, triggered = list(items), [], set()
+    """All generators in their order, in place; gives the count read, the items written, marks."""
+    left, written, triggered, clipped = list(items), [], set(), no_marks()
     for g in order:
-        if take_generator(machine, g, g - 1 in triggered, left, written):
+        if take_generator(machine, g, g - 1 in triggered, left, written, clipped):
             triggered.add(g)
-    return len(items) - len(left), written
+    return len(items) - len(left), written, clipped
 
 
 def word_read(machine, address, view):
@@ -242,12 +253,14 @@ def close(machine):
 
 
 def run_pass(machine, order, items, places, memory):
-    """A pass: its number, the counts read and written; machine, places and memory afterwards."""
+    """A pass over a delay memory; what it was handed stays as it is."""
     number = pass_refusal(machine, order, items, places, memory)
     if number:
-        return number, 0, 0, list(machine), list(places), list(memory)
+        marks = all_marks() if faults.marks_in_refusal else no_marks()
+        return Passed(number, 0, 0, marks, list(machine), list(places), list(memory))
     after, memory_after = list(machine), list(memory)
-    read, written = take_generators(after, order, items)
+    read, written, clipped = take_generators(after, order, items)
     take_modifiers(after, memory_after)
     close(after)
-    return 0, read, len(written), after, written + list(places)[len(written):], memory_after
+    places_after = written + list(places)[len(written):]
+    return Passed(0, read, len(written), clipped, after, places_after, memory_after)

@@ -78,10 +78,11 @@ def pass_lines(machine, passes, commands, seen):
     for _ in range(passes):
         # The order is a range and not a list: T may be beyond its range here.
         order = range(machine[layout.T])
-        refused, _, _, after, _, memory = run_pass(machine, order, [], [], memory)
+        done = run_pass(machine, order, [], [], memory)
+        refused, memory = done.number, done.memory
         if not refused:
-            seen(machine, after)
-            refused, taken, machine = run_update(after, commands)
+            seen(machine, done.machine)
+            refused, taken, machine = run_update(done.machine, commands)
             commands = commands[taken:]
         if refused:
             yield f"refused={refused}\n"

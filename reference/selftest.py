@@ -5,12 +5,12 @@ Run from the repository root as: python3 -m reference.selftest
 
 import sys
 
-from reference.cases import (any_orders, benches, commands, comparisons, delays, examples,
-                             generators, modifiers, passes, questions)
+from reference.cases import (any_orders, benches, clipped, commands, comparisons, delays,
+                             examples, generators, modifiers, passes, questions)
 from reference.faults import NAMES, switched_on
 
-MODULES = (examples, generators, modifiers, passes, delays, questions, commands, comparisons,
-           any_orders, benches)
+MODULES = (examples, generators, modifiers, passes, clipped, delays, questions, commands,
+           comparisons, any_orders, benches)
 GROUPS = [group for module in MODULES for group in module.GROUPS]
 
 

@@ -14,11 +14,12 @@ from zlib import crc32
 
 from delay_requests import Memory, invoke, made_word, memory_words, put_unit
 from leaf_requests import biased
-from pass_requests import BAD_ORDERS, DAMAGES, LENGTHS, good_order, whole_machine
+from pass_requests import (BAD_ORDERS, DAMAGES, LENGTHS, good_order, swapped, walked,
+                           whole_machine)
 from reference import layout
 from reference.delay import units_in_time
 from reference.machine import run_pass
-from reference.orders import POINTS, agree, compare, parting
+from reference.orders import POINTS, compare, parting
 
 COMPARE, PASSES = range(2)
 CONTENTS = 12
@@ -95,26 +96,6 @@ def put_settings(chance, machine, t):
 
 
 # Pairs of orders
-
-def swapped(chance, order):
-    """The order with two neighbours exchanged, or any two."""
-    other = list(order)
-    if len(order) > 1:
-        i = chance.randrange(len(order) - 1)
-        j = chance.choice((i + 1, i + 1, chance.randrange(len(order))))
-        other[i], other[j] = other[j], other[i]
-    return other
-
-
-def walked(chance, machine, order):
-    """An order far from this one that agrees with it: exchanges that keep the agreement."""
-    other = order
-    for _ in range(2 * len(order) if len(order) < 16 else 8):
-        tried = swapped(chance, other)
-        if agree(machine, order, tried):
-            other = tried
-    return other
-
 
 def pairs(chance, machine):
     """Pairs of good orders of a machine, with their names."""
@@ -216,8 +197,10 @@ def tried(request):
     places = [0] * layout.GENERATORS
     one, other = (run_pass(request.machine, order, request.items, places, words)
                   for order in (request.first, request.second))
-    same = one[-1] == other[-1]
-    return Answer(max(one[0], other[0]), 0, int(one == other), int(same), int(one[-1] != words))
+    alike = one._replace(clipped=[]) == other._replace(clipped=[])
+    same = one.memory == other.memory
+    return Answer(max(one.number, other.number), 0, int(alike), int(same),
+                  int(one.memory != words))
 
 
 def failing(request):

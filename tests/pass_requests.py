@@ -3,13 +3,15 @@
 Registers have a bias to extremes. Each request comes with the reference's answer;
 the machine and the delay memory that it leaves go into the next request of its chain.
 Every other chain is one of delay units: T is 10 or more, and it is so long that words
-come back.
+come back. Half of the chains have large partials, so that sum words clip over; some of
+their passes are asked again by an order that is equal.
 """
 
 import random
 from itertools import chain
 from typing import NamedTuple
 
+from clip_requests import at_edges, between, put_loud
 from delay_requests import (Memory, bad_memory, changed_words, drawn_memory, memory_words,
                             put_invoking, put_stray, put_units, unit_damages, with_bad_line,
                             with_unit_twice, with_words)
@@ -17,6 +19,8 @@ from leaf_requests import GMODES, biased, generator_request, modifier_request
 from reference import layout
 from reference.machine import below_t_in, fresh, run_pass
 from reference.modifier import FORMULAS
+from reference.orders import agree
+from reference.sums import no_marks
 from reference.words import low
 
 PASS, FRESH = range(2)
@@ -41,6 +45,7 @@ class Answer(NamedTuple):
     number: int
     read: int
     written: int
+    clipped: list
     machine: list
     places: list
     changed: list
@@ -172,6 +177,26 @@ def good_order(chance, t):
     return order
 
 
+def swapped(chance, order):
+    """The order with two neighbours exchanged, or any two."""
+    other = list(order)
+    if len(order) > 1:
+        i = chance.randrange(len(order) - 1)
+        j = chance.choice((i + 1, i + 1, chance.randrange(len(order))))
+        other[i], other[j] = other[j], other[i]
+    return other
+
+
+def walked(chance, machine, order):
+    """An order far from this one that agrees with it: exchanges that keep the agreement."""
+    other = order
+    for _ in range(2 * len(order) if len(order) < 16 else 8):
+        tried = swapped(chance, other)
+        if agree(machine, order, tried):
+            other = tried
+    return other
+
+
 def drawn(chance, count):
     """So many words of 32 bits."""
     return [chance.choice((chance.getrandbits(32), biased(chance, 20))) for _ in range(count)]
@@ -188,6 +213,22 @@ def good_request(chance, machine, memory, name="good"):
     items, places = good_lists(chance, machine)
     order = good_order(chance, machine[layout.T])
     return Request(PASS, machine, order, items, places, memory, name)
+
+
+LOUD, EQUAL = "large partials", "large partials, by an equal order"
+
+
+def loud_requests(chance, machine, memory):
+    """A good pass with large partials; before it, now and then, the same by an equal order."""
+    request = good_request(chance, machine, memory, LOUD)
+    if not chance.randrange(6):
+        other = walked(chance, machine, request.order)
+        request = request._replace(machine=between(machine, request.order, other))
+        yield request._replace(order=other, name=EQUAL)
+    elif chance.randrange(2):
+        machine, items = at_edges(chance, machine, request.order, request.items)
+        request = request._replace(machine=machine, items=items)
+    yield request
 
 
 # Damage to a machine: a place, the bits of the word that stay, and those that are set
@@ -370,10 +411,10 @@ def answered(request):
     """The reference's answer to a request."""
     if request.operation == FRESH:
         number, machine = fresh(request.machine)
-        return Answer(number, 0, 0, machine, [], [])
+        return Answer(number, 0, 0, no_marks(), machine, [], [])
     words = memory_words(request.memory)
-    *answer, words_after = run_pass(*request[1:5], words)
-    return Answer(*answer, changed_words(words, words_after))
+    done = run_pass(*request[1:5], words)
+    return Answer(*done[:-1], changed_words(words, done.memory))
 
 
 def refused_requests(chance, machine, memory, number):
@@ -400,13 +441,22 @@ def delay_refusals(chance, machine, memory, number):
     yield faulty(chance, good_request(chance, machine, memory), several)
 
 
+def good_requests(chance, machine, memory, loud):
+    """The passes of a chain that no question refuses; the last one is gone on from."""
+    if loud:
+        return loud_requests(chance, machine, memory)
+    return iter((good_request(chance, machine, memory),))
+
+
 def chained(chance, machine, passes, refusals, number):
     """The requests of one machine and one memory: good passes in a row, then refused ones."""
-    memory = drawn_memory(chance)
+    memory, loud = drawn_memory(chance), number % 2 == 1
+    if loud:
+        put_loud(chance, machine, machine[layout.T])
     for _ in range(passes):
-        request = good_request(chance, machine, memory)
-        answer = answered(request)
-        yield request, answer
+        for request in good_requests(chance, machine, memory, loud):
+            answer = answered(request)
+            yield request, answer
         machine, memory = answer.machine, with_words(memory, dict(answer.changed))
     for make in refusals:
         for request in make(chance, machine, memory, number):

@@ -175,11 +175,12 @@ def put_delay_units(chance, made):
 
 
 def outcome(made, order, items, slots):
-    """What two equal orders have in common: the machine, the written items and delay memory."""
-    refused, _, written, left, places, slots = run_pass(made, order, items,
-                                                        [0] * layout.GENERATORS, slots)
-    assert refused == 0, refused
-    return left, places[:written], slots
+    """What two equal orders have in common: the machine, the written items and delay memory.
+
+    The marks of sum words that clipped over are not in it."""
+    done = run_pass(made, order, items, [0] * layout.GENERATORS, slots)
+    assert done.number == 0, done.number
+    return done.machine, done.places[:done.written], done.memory
 
 
 def trials(count=150, contents=2):
