@@ -301,7 +301,7 @@ static int marked; /* whether some pass set a mark */
 /* Sines under exponential envelopes, sticky and free in turn, and T/2 mixing modifiers. */
 static void make_machine(uint32_t *m, uint32_t t) {
     karvelorn_fresh(m, KARVELORN_WORDS);
-    m[T] = t;
+    set_ticks(m, t);
     for (uint32_t i = 0; i < t; i++) {
         uint32_t *g = m + GENERATOR_WORDS * i;
         g[GO] = draw(4);

@@ -7,7 +7,7 @@
 #include <string.h>
 
 enum { FILE_MOST = 65536, COMMANDS_MOST = 4096, GENERATORS = 256, BUFFER = 8192, LINE_MOST = 64 };
-enum { DACS = 4096, T = 4113, N, COUNTER };
+enum { DACS = 4096, T = 4113, N, COUNTER, UPDATE_TICKS = KARVELORN_UPDATE_TICKS };
 
 uint32_t plain_pass(uint32_t *m, size_t words, const uint32_t *order, size_t entries, const uint32_t *items,
                     size_t items_len, uint32_t *places, size_t places_len, uint32_t *memory, size_t memory_words,
@@ -29,11 +29,12 @@ static uint32_t read_file(size_t *count) {
         if (!strncmp(line, "word=", 5)) {
             char *colon;
             unsigned long place = strtoul(line + 5, &colon, 10);
-            machine[place % KARVELORN_WORDS] = (uint32_t)strtoul(colon + 1, NULL, 10);
+            machine[place % UPDATE_TICKS] = (uint32_t)strtoul(colon + 1, NULL, 10);
         } else if (*count < COMMANDS_MOST) {
             commands[(*count)++] = (uint32_t)strtoul(line + 8, NULL, 16);
         }
     }
+    machine[UPDATE_TICKS] = machine[N] > machine[T] + 8 ? machine[N] - machine[T] - 8 : 0;
     return passes;
 }
 

@@ -27,7 +27,10 @@
 #include "karvelorn.h"
 
 /* Places of a machine; karvelorn.h lists them all. */
-enum { DAC_0 = 4096, DAC_1 = 4097, T = 4113, COUNTER = 4115 };
+enum { DAC_0 = 4096, DAC_1 = 4097, T = 4113, N = 4114, COUNTER = 4115 };
+
+/* A file may name every place but that of the update ticks, the last. */
+enum { FILE_PLACE_MOST = KARVELORN_UPDATE_TICKS - 1 };
 
 enum { GENERATORS = 256, SUM_WORDS = 64, FILE_MOST = 65536, PASSES_MOST = 65535, COMMAND_LINE = 17, NOT_A_BENCH_FILE = 9 };
 
@@ -73,16 +76,22 @@ static bool read_command(const char **at, uint32_t *command) {
     return true;
 }
 
-/* The whole file. The words go into a fresh machine as they come: of two for one place the later holds. */
+/* The update ticks of T and N, which a host that sets T or N itself must set too: N-T-8, or 0 if that is negative. A
+ * file's T and N may be any words, so nothing here may wrap. */
+static uint32_t update_ticks(uint32_t t, uint32_t n) { return n < t || n - t < 8 ? 0 : n - t - 8; }
+
+/* The whole file. The words go into a fresh machine as they come: of two for one place the later holds. They may have
+ * set T and N, so the update ticks are worked out again. */
 static bool read_bench(const char *at, const char *end, bench *b) {
     karvelorn_fresh(b->machine, KARVELORN_WORDS);
     if (!read_text(&at, "passes=") || !read_number(&at, PASSES_MOST, &b->passes) || !read_text(&at, "\n")) return false;
     while (read_text(&at, "word=")) {
         uint32_t place, value;
-        if (!read_number(&at, KARVELORN_WORDS - 1, &place) || !read_text(&at, ":")) return false;
+        if (!read_number(&at, FILE_PLACE_MOST, &place) || !read_text(&at, ":")) return false;
         if (!read_number(&at, UINT32_MAX, &value) || !read_text(&at, "\n")) return false;
         b->machine[place] = value;
     }
+    b->machine[KARVELORN_UPDATE_TICKS] = update_ticks(b->machine[T], b->machine[N]);
     b->command_count = 0;
     while (read_text(&at, "command=")) {
         uint32_t command;

@@ -6,7 +6,9 @@
  *
  * A run of words is a pointer to its first uint32_t and then how many words it has. A machine is a run that the host
  * owns, and so is the delay memory beside it, which a pass is handed; between calls the host may read and write any of
- * their words.
+ * their words. A host that sets T or N itself must set the update ticks too, machine[KARVELORN_UPDATE_TICKS]: N-T-8,
+ * and 0 (not a difference that wraps) where N is less than T+8. A machine whose word disagrees with its T and N gets 2.
+ * A command that sets T or N sets it as well, and nothing else writes it.
  *
  * What the host must see to, for every call:
  * - each pointer is aligned for its type;
@@ -23,7 +25,8 @@
  *
  * Each call answers 0, or the number of the first of its questions that is answered no:
  *   1  Has the machine KARVELORN_WORDS words?
- *   2  Are all words of the machine within their width and range, with built modes and no MIN or MRM top bits 11?
+ *   2  Are all words of the machine within their width and range, with built modes and no MIN or MRM top bits 11, and
+ *      are the update ticks those of T and N?
  *   3  Is the command built, its modes and addresses too, disabled fields aside?
  *   4  Is the number of a TICKS with Q 0 at most 255?
  *   5  Has the order T entries?
@@ -56,6 +59,7 @@
  *   4118           overrun, 0 or 1
  *   4119 + 7u ..   delay unit u, 0 to 31: X (16), Y (16), Z (16), P (4), and three words on their way to the modifier
  *                  (20 each), next due first
+ *   4343           the update ticks, N-T-8, or 0 if that is negative: how many commands an update takes at most
  *
  * Modes and addresses, from the left bit on:
  *   GMODE   run mode (4 bits): 0000 inactive, 0001 pause, 0010 to a DAC (the one that GO's low 4 bits name), 0011 write
@@ -91,7 +95,8 @@
 #include <stddef.h>
 #include <stdint.h>
 
-#define KARVELORN_WORDS 4343
+#define KARVELORN_WORDS 4344
+#define KARVELORN_UPDATE_TICKS 4343
 #define KARVELORN_MEMORY_WORDS 65536
 #define KARVELORN_MARKS 64
 
@@ -99,7 +104,7 @@
 extern "C" {
 #endif
 
-/* Makes a run of words a fresh machine: zero but for T = 1 and N = 265, whatever it held.
+/* Makes a run of words a fresh machine: zero but for T = 1, N = 265 and the update ticks, 256, whatever it held.
  *
  *   machine, words   the run, and its length: KARVELORN_WORDS
  *
@@ -135,9 +140,9 @@ uint32_t karvelorn_pass(uint32_t *machine, size_t words, const uint32_t *order, 
                         uint8_t clipped[KARVELORN_MARKS]);
 
 /* One update: commands change the machine between two passes. They are taken one after the other from the first on, at
- * most N-T-8 of them (none if that is negative) by N and T as the update begins. While the machine lingers and the
- * counter isn't the Linger pass, none is taken and nothing changes; otherwise lingering ends, and commands are taken
- * until a Linger waits or the ticks or the commands end.
+ * most as many as the update ticks, N-T-8 or none if that is negative, by N and T as the update begins. While the
+ * machine lingers and the counter isn't the Linger pass, none is taken and nothing changes; otherwise lingering ends,
+ * and commands are taken until a Linger waits or the ticks or the commands end.
  *
  *   machine, words          the machine, and its length: KARVELORN_WORDS; the update changes it in place
  *   commands, commands_len  the commands. There may be more than are taken
@@ -156,7 +161,8 @@ uint32_t karvelorn_pass(uint32_t *machine, size_t words, const uint32_t *order, 
  *                                                 data, 10 loads Z and P
  *   data(20)                  00010 xx TT xxx     TIMER: TT 01 sets the counter, 10 is a Linger, 11 clears the counter
  *                                                 and is a Linger
- *   x(10) number(10)          00011 xx 0 Q xxx    TICKS: Q 0 sets T to number + 1, Q 1 sets N to number + 2
+ *   x(10) number(10)          00011 xx 0 Q xxx    TICKS: Q 0 sets T to number + 1, Q 1 sets N to number + 2;
+ *                                                 either sets the update ticks
  *   data(20)                  001 E generator(8)  GQ, right-adjusted (E 0) or left-adjusted (E 1)
  *   data(20)                  010 E generator(8)  GJ, right-adjusted (E 0) or left-adjusted (E 1)
  *   data(20)                  0110 generator(8)   GP

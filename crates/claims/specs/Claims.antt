@@ -6,14 +6,14 @@ use mathlib.Core.List.{List, [], _∷_}
 use mathlib.Core.Logic.{_↔_, _≢_}
 use mathlib.Core.Path.{_≡_}
 use lib.ListN.{length, getD, set}
-use Rattle.layout.specs.Layout.{counterAt, quadrantWords}
-use Rattle.layout.specs.Machine.{Machine, Order, Commands, Memory, ticksOf}
+use Rattle.layout.specs.Layout.{counterAt, quadrantWords, machineLength, updateTicksAt}
+use Rattle.layout.specs.Machine.{Machine, Order, Commands, Memory, ticksOf, updateTicks, updateTicksOf}
 use Rattle.layout.specs.Widths.{counterBits}
 use Rattle.questions.specs.Questions.{asked}
 use Rattle.sine.specs.Sine.{magnitude}
 use Rattle.exponential.specs.Exponential.{tableSize, olderSize, within, Largest, entry as exponentialEntry, exponential}
 use Rattle.modes.specs.Modes.{readData, writeData}
-use Rattle.machine.specs.Questions.{freshMachine}
+use Rattle.machine.specs.Questions.{question1, question2, freshMachine}
 use Rattle.delay.specs.declared.Delay.{Delay}
 use Rattle.built_codes.specs.BuiltCodes.{line}
 use Rattle.delay.specs.Delay.{due, slot, address}
@@ -27,7 +27,7 @@ use Rattle.pass_model.specs.Pass.{Call, plainCall, passOf}
 use Rattle.pass_laws.specs.Good.{Good}
 use Rattle.pass_laws.specs.Settings.{SettingsKept}
 use Rattle.command.specs.Command.{afterCommand}
-use Rattle.update.specs.Update.{updateOf}
+use Rattle.update.specs.Update.{updateOf, takenCount}
 use Rattle.order_agreement.specs.Agreement.{settingsOf, Agree}
 use Rattle.order_alike.specs.Parting.{partingOrders}
 use Rattle.compare.specs.Compare.{compareOf}
@@ -37,7 +37,7 @@ use Rattle.equal_orders.specs.WorkedExamples.{WorkedExamples, forth, back}
 use Rattle.equal_any_order.specs.EveryOrder.{Passes, EveryTwoEqual, Apart}
 use Rattle.equal_any_order.specs.MarksApart.{upAndDown}
 use Rattle.bench_text.specs.Text.{lineBytes}
-use Rattle.bench_file.specs.BenchFile.{commandPlaces, readOf}
+use Rattle.bench_file.specs.BenchFile.{commandPlaces, fileOf, readOf}
 use Rattle.bench_ringing.specs.Ringing.{outputOf}
 use Rattle.bench_ringing.specs.Steps.{rungFrom}
 use Rattle.bench_gathering.specs.Gathering.{printedFrom}
@@ -64,6 +64,16 @@ pub record Claims : Type 0 where
   pub pass-keeps : (m : Machine) (call : Call) → Good m → Good (passOf m call .machine)
   pub command-keeps : (m : Machine) (c : ℕ) → Good m → Good (afterCommand m c)
   pub update-keeps : (m : Machine) (commands : Commands) → Good m → Good (updateOf m commands .machine)
+  -- The count of update ticks is N-T-8 where N reaches T and the eight, and else 0.
+  pub ticks-exact : (t n : ℕ) → t + 8 ≤ n → updateTicks t n + (t + 8) ≡ n
+  pub ticks-none : (t n : ℕ) → n ≤ t + 8 → updateTicks t n ≡ 0
+  -- The word of the update ticks has the count of T and N in every machine that passes questions 1 and 2, so also after a pass, a command and an update of such a machine;
+  -- a machine whose word disagrees gets 2; and an update takes at most so many commands.
+  pub ticks-written : (m : Machine) → Good m → getD m updateTicksAt 0 ≡ updateTicksOf m
+  pub ticks-disagree : (m : Machine) → length m ≡ machineLength → getD m updateTicksAt 0 ≢ updateTicksOf m → asked (question1 m ∷ question2 m ∷ []) ≡ 2
+  pub taken-at-most : (m : Machine) (commands : Commands) → Good m → takenCount m commands ≤ getD m updateTicksAt 0
+  -- The machine that a text sets has the count of its own T and N, in or out of their ranges.
+  pub file-ticks : (text : List ℕ) → getD (fileOf text .machine) updateTicksAt 0 ≡ updateTicksOf (fileOf text .machine)
   -- Delay memory that passes question 10 passes it after a pass, and a machine that passes 11 and 12 passes them after a pass.
   pub pass-keeps-memory : (m : Machine) (call : Call) → memoryGood (call .memory) ≡ true → memoryGood (passOf m call .memory) ≡ true
   pub pass-keeps-units : (m : Machine) (call : Call) → Good m → asked (question11 m ∷ question12 m ∷ []) ≡ 0

@@ -8,14 +8,14 @@ use lib.Dec.{lit≤, lit<}
 use lib.ListN.{set, length-set}
 use Rattle.lists.specs.Lists.{zeros, countBelow, isOneOf}
 use Rattle.words.specs.Words.{lowBits, signed, sum, leaves, sumInto, exactSum, outside}
-use Rattle.layout.specs.Machine.{Order, ticksOf}
+use Rattle.layout.specs.Machine.{Order, ticksOf, withUpdateTicks}
 use Rattle.questions.specs.Questions.{asked}
 use Rattle.modes.specs.Modes.{builtRun, builtOscillator, adds, replaces, free, oscillatorOn, envelopeOn}
 use Rattle.oscillator.specs.Oscillator.{waveOf, sawtooth}
 use Rattle.envelope.specs.Envelope.{overflows, decayed, qOf, level, rounded, enveloped}
 use Rattle.generator.specs.Generator.{loaded, stored, jOf, gjAfter, kOf, gkAfter, wOf, gqAfter, vOf, pOf, triggers, gmodeAfter, after}
 use Rattle.machine.specs.Questions.{freshMachine, regions, testAt}
-use Rattle.machine.proofs.SoundMachine.{sound-set}
+use Rattle.machine.proofs.SoundMachine.{single-below, sound-set}
 use Rattle.delay_questions.specs.Questions.{goodLine, linesGood, namedOnce, question11, question12}
 use Rattle.sums.specs.Sums.{sumsOf, quadrantOf, wordAt, sumAt, putSum, fAt}
 use Rattle.pass_model.specs.Generators.{of1978, generatorOf, turn1978, told, fed, summed, step, begun}
@@ -55,19 +55,19 @@ good =
           (sound-set m3
           (sound-set m2
           (sound-set m1
-          (sound-set m (two-good .is-sound) 2 524160 (lit< tt) refl)
-          7 4095 (lit< tt) refl)
-          13 524416 (lit< tt) refl)
-          18 4095 (lit< tt) refl)
-          3840 400000 (lit< tt) refl;
+          (sound-set m (two-good .is-sound) 2 524160 (single-below (lit< tt)) refl)
+          7 4095 (single-below (lit< tt)) refl)
+          13 524416 (single-below (lit< tt)) refl)
+          18 4095 (single-below (lit< tt)) refl)
+          3840 400000 (single-below (lit< tt)) refl;
     }
 
 two-ticks : ticksOf upAndDown ≡ 2
-unfolding upAndDown ofTwo freshMachine zeros
+unfolding upAndDown ofTwo freshMachine withUpdateTicks zeros
 two-ticks = refl
 
 by-rule : alike (countsIn (settingsOf upAndDown)) ≡ true
-unfolding upAndDown ofTwo freshMachine zeros alike feedersShare wordsApart shareOne countBelow free adds replaces isOneOf
+unfolding upAndDown ofTwo freshMachine withUpdateTicks zeros alike feedersShare wordsApart shareOne countBelow free adds replaces isOneOf
 by-rule = refl
 
 pub marks-equal : Equal upAndDown forth back
@@ -75,11 +75,11 @@ marks-equal = rule-is upAndDown good .0 by-rule forth back (forth-passes (ticksO
 
 -- Neither order is refused.
 units-pass : asked (question11 upAndDown ∷ question12 upAndDown ∷ []) ≡ 0
-unfolding upAndDown ofTwo freshMachine zeros asked linesGood goodLine namedOnce
+unfolding upAndDown ofTwo freshMachine withUpdateTicks zeros asked linesGood goodLine namedOnce
 units-pass = refl
 
 not-refused : (order : Order) → Passes upAndDown order → passRefusal upAndDown (plainCall order [] []) ≡ 0
-unfolding upAndDown ofTwo freshMachine zeros countBelow inMode
+unfolding upAndDown ofTwo freshMachine withUpdateTicks zeros countBelow inMode
 not-refused order p =
     past-memory upAndDown (plainCall order [] []) (good-passes upAndDown good) p (lit≤ tt) (lit≤ tt) zeros-good ∙ units-pass
 
@@ -88,13 +88,13 @@ marks : (order : Order) → Passes upAndDown order → passOf upAndDown (plainCa
 marks order p = let call : Call = plainCall order [] [] in rw (let-through upAndDown call (not-refused order p)) (ran-clipped upAndDown call)
 
 forth-marks : markedBy of1978 [] (begun upAndDown (sumsOf upAndDown) []) noMarks forth ≡ set noMarks 0 1
-unfolding upAndDown ofTwo freshMachine zeros markedBy marked markedAt sumLeaves begun step told fed summed turn1978 generatorOf loaded stored sumsOf quadrantOf wordAt sumAt putSum fAt
+unfolding upAndDown ofTwo freshMachine withUpdateTicks zeros markedBy marked markedAt sumLeaves begun step told fed summed turn1978 generatorOf loaded stored sumsOf quadrantOf wordAt sumAt putSum fAt
     jOf gjAfter kOf gkAfter wOf gqAfter vOf pOf triggers gmodeAfter after waveOf sawtooth overflows decayed qOf level rounded enveloped
     lowBits signed sum leaves sumInto exactSum outside adds replaces free oscillatorOn envelopeOn isOneOf
 forth-marks = refl
 
 back-marks : markedBy of1978 [] (begun upAndDown (sumsOf upAndDown) []) noMarks back ≡ noMarks
-unfolding upAndDown ofTwo freshMachine zeros markedBy marked markedAt sumLeaves begun step told fed summed turn1978 generatorOf loaded stored sumsOf quadrantOf wordAt sumAt putSum fAt
+unfolding upAndDown ofTwo freshMachine withUpdateTicks zeros markedBy marked markedAt sumLeaves begun step told fed summed turn1978 generatorOf loaded stored sumsOf quadrantOf wordAt sumAt putSum fAt
     jOf gjAfter kOf gkAfter wOf gqAfter vOf pOf triggers gmodeAfter after waveOf sawtooth overflows decayed qOf level rounded enveloped
     lowBits signed sum leaves sumInto exactSum outside adds replaces free oscillatorOn envelopeOn isOneOf
 back-marks = refl

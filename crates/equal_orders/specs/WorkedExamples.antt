@@ -15,7 +15,7 @@ use Rattle.product.specs.Product.{product}
 use Rattle.layout.specs.Layout.{tAt}
 use Rattle.modes.specs.Modes.{runningA, runningB, wait, readData, writeDAC, envelopeOn, free}
 use Rattle.machine.specs.Questions.{freshMachine}
-use Rattle.layout.specs.Machine.{Machine, Order, ticksOf, runModeAt, gsumAt, gfmAt, dacNumberAt}
+use Rattle.layout.specs.Machine.{Machine, Order, ticksOf, withUpdateTicks, runModeAt, gsumAt, gfmAt, dacNumberAt}
 use Rattle.generator.specs.declared.Generator.{Generator}
 use Rattle.generator.specs.Generator.{runMode, gqAfter, triggers}
 use Rattle.pass_laws.specs.Good.{Good}
@@ -51,10 +51,10 @@ pub record BothFeed (m : Machine) : Type 0 where
   pub dac₀ : dacNumberAt m 0 ≡ 0
   pub dac₁ : dacNumberAt m 1 ≡ 0
 
--- A fresh machine with T = 2 and these GMODEs, GSUMs and GFMs of its first two generators, words 8 to 10 and 19 to 21.
+-- A fresh machine with T = 2, the update ticks that follow, and these GMODEs, GSUMs and GFMs of its first two generators, words 8 to 10 and 19 to 21.
 unfoldable pub ofTwo : ℕ → ℕ → ℕ → ℕ → ℕ → ℕ → Machine
 ofTwo mode₀ mode₁ sum₀ sum₁ fm₀ fm₁ =
-    set (set (set (set (set (set (set freshMachine tAt 2) 8 sum₀) 9 fm₀) 10 mode₀) 19 sum₁) 20 fm₁) 21 mode₁
+    set (set (set (set (set (set (withUpdateTicks (set freshMachine tAt 2)) 8 sum₀) 9 fm₀) 10 mode₀) 19 sum₁) 20 fm₁) 21 mode₁
 
 -- The twelve examples. Examples 10 to 12 speak of every good machine of their kind, and machines of each kind are shown.
 pub record WorkedExamples : Type 0 where
