@@ -51,6 +51,15 @@ class Faults:
         self.item_high_bits_mark = False
         self.unsigned_carry_marks = False
         self.marks_in_refusal = False
+        # Update ticks written down.
+        self.count_by_7 = False
+        self.count_1_is_0 = False
+        self.count_wraps = False
+        self.t_forgets_count = False
+        self.n_forgets_count = False
+        self.count_not_asked = False
+        self.reader_leaves_256 = False
+        self.count_is_file_place = False
 
 
 faults = Faults()

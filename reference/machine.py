@@ -25,6 +25,23 @@ __all__ = [
 ]
 
 
+# The count of update ticks
+
+def update_ticks(t, n):
+    """How many commands fit in a pass: N-T-8, or 0 if that is negative."""
+    if faults.count_by_7:
+        return max(n - t - 7, 0)
+    if faults.count_wraps:
+        return low(n - t - layout.OVERHEAD_TICKS, 32)
+    count = max(n - t - layout.OVERHEAD_TICKS, 0)
+    return 0 if faults.count_1_is_0 and count == 1 else count
+
+
+def put_update_ticks(machine):
+    """Puts the count of the machine's own T and N, in place."""
+    machine[layout.UPDATE_TICKS] = update_ticks(machine[layout.T], machine[layout.N])
+
+
 # A fresh machine, and a delay memory of zeros
 
 def zero_memory():
@@ -33,10 +50,11 @@ def zero_memory():
 
 
 def fresh_machine():
-    """The words of a fresh machine: zero but for T and N."""
+    """The words of a fresh machine: zero but for T, N and their count."""
     machine = [0] * layout.MACHINE_WORDS
     machine[layout.T] = layout.FRESH_T
     machine[layout.N] = layout.FRESH_N
+    put_update_ticks(machine)
     return machine
 
 
@@ -80,6 +98,8 @@ def word_ranges():
     ranges += [wide(20), (layout.T_LEAST, layout.T_MOST), (layout.N_LEAST, layout.N_MOST)]
     ranges += [wide(20), wide(1), wide(20), wide(1)]
     ranges += [wide(w) for w in layout.DELAY_UNIT_WIDTHS] * layout.DELAY_UNITS
+    # The count is T's and N's: count_agrees asks about it.
+    ranges += [wide(32)]
     return ranges
 
 
@@ -118,12 +138,18 @@ def modes_built(run):
             and all(map(delay_mode_built, set(delay_unit_column(run, layout.P)))))
 
 
+def count_agrees(run):
+    """Whether the count of update ticks is that of the machine's own T and N."""
+    return (faults.count_not_asked
+            or run[layout.UPDATE_TICKS] == update_ticks(run[layout.T], run[layout.N]))
+
+
 def refusal(run):
     """Questions 1 and 2 of a run of words: 0, 1 or 2."""
     if len(run) != layout.MACHINE_WORDS:
         return 1
     in_range = all(map(le, LEAST, run)) and all(map(le, run, MOST))
-    return 0 if in_range and modes_built(run) else 2
+    return 0 if in_range and modes_built(run) and count_agrees(run) else 2
 
 
 # Questions 5 to 8, and those of a pass

@@ -14,11 +14,11 @@ from zlib import crc32
 
 from delay_requests import Memory, invoke, made_word, memory_words, put_unit
 from leaf_requests import biased
-from pass_requests import (BAD_ORDERS, DAMAGES, LENGTHS, good_order, swapped, walked,
+from pass_requests import (BAD_ORDERS, damaged_machine, good_order, swapped, walked,
                            whole_machine)
 from reference import layout
 from reference.delay import units_in_time
-from reference.machine import run_pass
+from reference.machine import put_update_ticks, run_pass
 from reference.orders import POINTS, compare, parting
 
 COMPARE, PASSES = range(2)
@@ -85,6 +85,7 @@ def put_settings(chance, machine, t):
     words, dacs = shared(chance, 64), shared(chance, 16)
     sources, quadrants = shared(chance, 64), chance.choice(((0,), (64,), (0, 64), (0, 64)))
     machine[layout.T] = t
+    put_update_ticks(machine)
     for g in range(t):
         at = layout.generator_at(g)
         mode = chance.choice(modes) << 6 | chance.randrange(4) << 4
@@ -126,17 +127,6 @@ def refused_pairs(chance, machine):
     yield one, good, f"first {its_name}"
     yield good, other, f"second {other_name}"
     yield one, other, f"first {its_name}, second {other_name}"
-
-
-def damaged(machine, number):
-    """A machine that question 1 or 2 refuses, and what was done to it."""
-    if number % 6 == 0:
-        length = LENGTHS[number // 6 % len(LENGTHS)]
-        return (machine + machine)[:length], f"{length} words"
-    name, place, keep, bits = DAMAGES[number % len(DAMAGES)]
-    other = list(machine)
-    other[place] = other[place] & keep | bits
-    return other, name
 
 
 # The whole of the requests
@@ -219,7 +209,7 @@ def of_machine(chance, machine, number):
             yield parted(chance, machine, first, second, request.name)
     for first, second, name in refused_pairs(chance, machine):
         yield compared(machine, first, second, name)
-    other, name = damaged(machine, number)
+    other, name = damaged_machine(machine, number)
     order = good_order(chance, machine[layout.T])
     second = chance.choice((order, order[:-1], [0, 0]))
     yield compared(other, order, second, name)

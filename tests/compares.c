@@ -20,6 +20,7 @@ enum { GENERATORS = 256, GO = 0, GP = 5, GQ = 6, GSUM = 8, GFM = 9, GMODE = 10, 
 enum { MODIFIERS = 128, MODIFIERS_AT = 2816, MODIFIER_WORDS = 8, MIN = 4, MRM = 5, MMODE = 7 };
 enum { SUM_WORDS = 64, SUMS_AT = 3840, DX = 4112, T, N, COUNTER, LINGERING, LINGER_PASS, OVERRUN };
 enum { UNITS = 32, UNITS_AT = 4119, X = 0, Y, Z, P, UNIT_WORDS = 7 };
+enum { UPDATE_TICKS = 4343, OVERHEAD_TICKS = 8 };
 enum { WRITE_DAC = 2, INVOKE_DELAY_UNIT = 7, DELAY_LINE = 8 };
 
 /* What a request tries and what came of it. */
@@ -96,6 +97,7 @@ static void draw_contents(uint32_t *m, const uint32_t *settings) {
     for (int u = 0; u < UNITS; u++) draw_unit(m + UNITS_AT + UNIT_WORDS * u);
     m[T] = settings[T];
     m[N] = 2 + draw(10);
+    m[UPDATE_TICKS] = m[N] > m[T] + OVERHEAD_TICKS ? m[N] - m[T] - OVERHEAD_TICKS : 0;
     m[LINGERING] = draw(1);
     m[OVERRUN] = draw(1);
     draw_naming(m, m[T]);

@@ -12,12 +12,13 @@ from itertools import chain
 from typing import NamedTuple
 
 from clip_requests import at_edges, between, put_loud
+from count_requests import with_other_count
 from delay_requests import (Memory, bad_memory, changed_words, drawn_memory, memory_words,
                             put_invoking, put_stray, put_units, unit_damages, with_bad_line,
                             with_unit_twice, with_words)
 from leaf_requests import GMODES, biased, generator_request, modifier_request
 from reference import layout
-from reference.machine import below_t_in, fresh, run_pass
+from reference.machine import below_t_in, fresh, put_update_ticks, run_pass
 from reference.modifier import FORMULAS
 from reference.orders import agree
 from reference.sums import no_marks
@@ -115,7 +116,7 @@ def put_modifiers(chance, machine, count):
 
 
 def put_controls(chance, machine, t):
-    """T and the other words from DX on, within range; the counter is often about to wrap."""
+    """T, the other words from DX on, within range, and the count; the counter often wraps soon."""
     machine[layout.DX] = biased(chance, 20)
     machine[layout.T] = t
     machine[layout.N] = chance.choice((2, 3, 265, 1024, 1025, chance.randint(2, 1025)))
@@ -124,6 +125,7 @@ def put_controls(chance, machine, t):
     machine[layout.LINGERING] = chance.randrange(2)
     machine[layout.LINGER_PASS] = biased(chance, 20)
     machine[layout.OVERRUN] = chance.randrange(2)
+    put_update_ticks(machine)
 
 
 def whole_machine(chance):
@@ -283,7 +285,27 @@ def other_damages():
 DAMAGES = list(chain(register_damages(), mode_damages(), other_damages(), unit_damages()))
 # Mixed, so that few requests meet all kinds.
 random.Random(1978).shuffle(DAMAGES)
-LENGTHS = (0, 1, 4112, 4113, 4114, 4118, 4119, 4120, 4342, 4344, 4345, 8686)
+LENGTHS = (0, 1, 4112, 4113, 4114, 4118, 4119, 4120, 4342, 4343, 4345, 8688)
+
+
+def with_damage(machine, number):
+    """A copy of a machine with the next damage, and its name."""
+    name, place, keep, put = DAMAGES[number % len(DAMAGES)]
+    other = list(machine)
+    other[place] = other[place] & keep | put
+    return other, name
+
+
+def with_length(machine, number):
+    """A machine of another length, and its name."""
+    length = LENGTHS[number % len(LENGTHS)]
+    return (machine + machine)[:length], f"{length} words"
+
+
+def damaged_machine(machine, number):
+    """A machine that question 1 or 2 refuses, and what was done to it."""
+    change = {0: with_length, 3: with_other_count}.get(number % 6)
+    return change(machine, number // 6) if change else with_damage(machine, number)
 
 
 # Each kind of fault changes a good request, which it gets with a number, into one that a question
@@ -291,17 +313,20 @@ LENGTHS = (0, 1, 4112, 4113, 4114, 4118, 4119, 4120, 4342, 4344, 4345, 8686)
 
 def damaged(chance, request, number):
     """The next damage to a copy of the machine."""
-    name, place, keep, put = DAMAGES[number % len(DAMAGES)]
-    other = list(request.machine)
-    other[place] = other[place] & keep | put
+    other, name = with_damage(request.machine, number)
+    return request._replace(machine=other, name=name)
+
+
+def other_count(chance, request, number):
+    """A count of update ticks that is not that of T and N."""
+    other, name = with_other_count(request.machine, number)
     return request._replace(machine=other, name=name)
 
 
 def wrong_length(chance, request, number):
     """A run of another length."""
-    length = LENGTHS[number % len(LENGTHS)]
-    other = (request.machine + request.machine)[:length]
-    return request._replace(machine=other, name=f"{length} words")
+    other, name = with_length(request.machine, number)
+    return request._replace(machine=other, name=name)
 
 
 # Orders and lists that are not good
@@ -386,7 +411,7 @@ def named_twice(chance, request, number):
 # Several things at once, so that the sequence of the questions counts. A machine's words are
 # damaged and its length changed after all else, which looks at its T and its units.
 DELAY_FAULTS = (spoilt_memory, spoilt_line, named_twice)
-ALL_FAULTS = DELAY_FAULTS + (bad_lists, bad_order, damaged, wrong_length)
+ALL_FAULTS = DELAY_FAULTS + (bad_lists, bad_order, other_count, damaged, wrong_length)
 
 
 def faulty(chance, request, faults):
@@ -424,6 +449,8 @@ def refused_requests(chance, machine, memory, number):
 
     yield changed(damaged, number)
     yield changed(chance.choice((bad_order, bad_lists, bad_lists)), number)
+    if number % 4 == 0:
+        yield changed(other_count, number // 4)
     if number % 4 == 1:
         yield changed(wrong_length, number // 4)
     if number % 4 == 2:

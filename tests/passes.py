@@ -18,6 +18,7 @@ from collections import Counter
 from library import (Test, compared, counts, machine_differences, met_seldom, packed,
                      read_arguments, run, show_words, unpacked)
 
+from count_requests import OTHER_COUNT
 from delay_requests import Echoes, delay_events, question_events
 from pass_requests import EQUAL, LOUD, PASS, Answer, all_requests, answered
 from reference import layout
@@ -51,7 +52,8 @@ PROMISED = {
     **{f"refused by {number}": least for number, least in
        ((1, 400), (2, 1000), (5, 200), (6, 200), (7, 150), (8, 80), (10, 1000), (11, 500),
         (12, 600))},
-    "refused by 2 for a delay unit": 150, "10 by too few words": 200, "10 by too many words": 150,
+    "refused by 2 for a delay unit": 150, "refused by 2 for the count": 200,
+    "10 by too few words": 200, "10 by too many words": 150,
     "10 by a word too wide": 400, "11 by X and Z": 150, "11 by Y and Z": 150,
     "12 of a line": 100, "12 of a table": 40, "12 of a rounded table": 40,
     "12 of a unit that acts as inactive": 200,
@@ -213,6 +215,7 @@ class Met:
         """Counts a refused pass: by which question, and which of 10, 11, 12 it fails as well."""
         self.kinds[f"refused by {number}"] += 1
         self.kinds["refused by 2 for a delay unit"] += number == 2 and "delay unit" in request.name
+        self.kinds["refused by 2 for the count"] += request.name.startswith(OTHER_COUNT)
         if number == 10:
             self.kinds["10 by " + memory_fault(request.memory)] += 1
         if number in (11, 12):

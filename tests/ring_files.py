@@ -426,7 +426,7 @@ def drawn_machine(chance):
 def drawn_words(chance, machine):
     """The words that are not those of a fresh machine, in any sequence, some places twice."""
     fresh = fresh_machine()
-    places = [place for place in range(len(machine)) if machine[place] != fresh[place]]
+    places = [place for place in range(layout.FILE_PLACES) if machine[place] != fresh[place]]
     chance.shuffle(places)
     words = [(place, machine[place]) for place in places]
     for _ in range(chance.choice((0, 0, 1, 3))):

@@ -16,6 +16,8 @@ from collections import Counter
 
 from library import (Test, compared, counts, machine_differences, met_seldom, packed,
                      read_arguments, run, show_words, unpacked)
+
+from count_requests import OTHER_COUNT
 from reference import layout
 from reference.delay import units_refusal
 from reference.update import field, limit, still_lingering
@@ -23,12 +25,15 @@ from update_requests import Answer, all_requests, answered
 
 COUNT, SEED = 20000, 1978
 HEAD, COUNTS = struct.Struct("<2I"), struct.Struct("<IQ")
-DLY, GMODE, MMODE = 0b00001, (0b10100, 0b10101), 0b11110
+DLY, TICKS, GMODE, MMODE = 0b00001, 0b00011, (0b10100, 0b10101), 0b11110
 
 # How often each kind is met at least, in COUNT requests.
 PROMISED = {
     **{f"refused by {number}": least for number, least in
        ((1, 150), (2, 1200), (3, 2500), (4, 500))},
+    "refused by 2 for the count": 200,
+    **{f"TICKS leaves {count} update ticks": least for count, least in
+       ((0, 300), (1, 100), (2, 100))},
     "lingering": 2000, "a Linger waits": 300, "the words end": 2500, "the ticks end": 1000,
     "no ticks": 1500, "Linger ended": 700, "overrun set": 500,
     **{f"code {code:05b} taken": 800 for code in range(32)},
@@ -104,9 +109,20 @@ def refused_delay_event(command):
     return "DLY UU 11 refused" if uu == 0b11 else f"DLY P {p:04b} refused"
 
 
+def count_events(request, answer):
+    """What is counted about the count of update ticks."""
+    if request.name.startswith(OTHER_COUNT):
+        yield "refused by 2 for the count"
+    taken = request.commands[:answer.taken]
+    if any(field(command, 24, 28) == TICKS for command in taken):
+        left = answer.machine[layout.UPDATE_TICKS]
+        yield f"TICKS leaves {left if left < 3 else 'more'} update ticks"
+
+
 def events(request, answer):
     """All that is counted of a request."""
     yield ending(request, answer)
+    yield from count_events(request, answer)
     taken, before, after = request.commands[:answer.taken], request.machine, answer.machine
     for command in taken:
         code = field(command, 24, 28)

@@ -4,7 +4,7 @@ import random
 
 from reference import layout
 from reference.cases.build import generator, machine, modifier
-from reference.machine import RANGES, run_pass
+from reference.machine import RANGES, put_update_ticks, run_pass
 from reference.modifier import FORMULAS
 from reference.orders import compare, parting
 
@@ -105,6 +105,7 @@ def refusals():
     yield "good", compare(good, [0, 1], [1, 0]), (0, True)
     yield "short run", compare(good[1:], [0], [0]), (1, False)
     yield "wide word", compare(wide, [0], [0]), (2, False)
+    yield "count", compare(good[:4343] + [256], [0, 1], [1, 0]), (2, False)
     yield "short first", compare(good, [0], [0, 0]), (5, False)
     yield "doubled first, short second", compare(good, [0, 0], [0]), (6, False)
     yield "short second", compare(good, [0, 1], [0]), (5, False)
@@ -153,6 +154,7 @@ def random_contents(chance, settings):
         made[at + layout.MIN] = chance.randrange(192)
         made[at + layout.MRM] = chance.randrange(192)
     put_delay_units(chance, made)
+    put_update_ticks(made)
     return made
 
 

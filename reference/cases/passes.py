@@ -184,6 +184,7 @@ def refusals():
         ("short run", good[:-1], [0], [], [], 1),
         ("long run", wide + [0], [0], [], [], 1),
         ("wide word", wide, [0], [], [], 2),
+        ("count", good[:4343] + [256], [0], [], [], 2),
         ("short order", good, [0], [], [], 5),
         ("long order", good, [0, 1, 1], [], [], 5),
         ("doubled", good, [0, 0], [], [], 6),
@@ -201,8 +202,11 @@ def refusals():
     idle = machine([generator("0000 00 0000"), reader, sender])
     yield "idle ones", run_pass(idle, [0], [], [], memory()).number, 0
     yield "fresh of a short run", fresh([5, 6]), (1, [5, 6])
-    yield "fresh of 4119 words", fresh([9] * 4119), (1, [9] * 4119)
-    yield "fresh of any words", fresh([9] * 4343), (0, fresh_machine())
+    for length in (4119, 4343, 4345):
+        yield f"fresh of {length} words", fresh([9] * length), (1, [9] * length)
+    yield "fresh of any words", fresh([9] * 4344), (0, fresh_machine())
+    told = {place: word for place, word in enumerate(fresh_machine()) if word}
+    yield "fresh", told, {4113: 1, 4114: 265, 4343: 256}
 
 
 GROUPS = (
