@@ -32,7 +32,7 @@ enum { DAC_0 = 4096, DAC_1 = 4097, T = 4113, N = 4114, COUNTER = 4115 };
 /* A file may name every place but that of the update ticks, the last. */
 enum { FILE_PLACE_MOST = KARVELORN_UPDATE_TICKS - 1 };
 
-enum { GENERATORS = 256, SUM_WORDS = 64, FILE_MOST = 65536, PASSES_MOST = 65535, COMMAND_LINE = 17, NOT_A_BENCH_FILE = 9 };
+enum { GENERATORS = 256, FILE_MOST = 65536, PASSES_MOST = 65535, COMMAND_LINE = 17, NOT_A_BENCH_FILE = 9 };
 
 /* What a bench file holds; its words are set in the machine. A command line is 17 bytes, so there is room for all. */
 typedef struct {
@@ -110,7 +110,6 @@ static uint32_t pass_by_number(uint32_t *machine, uint32_t *memory, uint8_t clip
     uint32_t order[GENERATORS];
     size_t entries = machine[T] < GENERATORS ? machine[T] : GENERATORS;
     size_t read, written;
-    uint8_t clipped[SUM_WORDS];
     for (uint32_t g = 0; g < entries; g++) order[g] = g;
     return karvelorn_pass(machine, KARVELORN_WORDS, order, entries, NULL, 0, NULL, 0, memory, KARVELORN_MEMORY_WORDS,
                           &read, &written, clipped);
