@@ -188,14 +188,11 @@ pub fn ticks(m: &[u32]) -> usize
 pub fn update_ticks(t: u32, n: u32) -> u32
     ensures { λ r. ⌜ r ≡ updateTicks t n ⌝ }
 {
-    if n < t {
+    let busy = wide(t) + 8;
+    if wide(n) < busy {
         return 0;
     }
-    let beyond = n - t;
-    if beyond < 8 {
-        return 0;
-    }
-    beyond - 8
+    n - t - 8
 }
 
 // The run mode of generator g.
