@@ -18,12 +18,12 @@ PLAIN = {"-O2": "target/bench/leaves_O2", "-O3": "target/bench/leaves_O3"}
 RUNS = 61
 SEED = 1978
 GENERATORS = 256
-SINE, SUM_OF_COSINES = (0b0000, 0b1000), (0b0100,)
+SINE_MODES, COSINE_MODES = (0b0000, 0b1000), (0b0100,)
 # The job's name in C, its number in Rattle, what is measured, the oscillator modes, how often, and how many of them that makes.
 JOBS = (
-    ("generators", 0, "generator's turn", SINE, 30_000, GENERATORS),
-    ("generators", 0, "generator's turn in 0100", SUM_OF_COSINES, 15_000, GENERATORS),
-    ("products", 1, "product", SINE, 10_000_000, 1),
+    ("generators", 0, "generator's turn", SINE_MODES, 30_000, GENERATORS),
+    ("generators", 0, "generator's turn in 0100", COSINE_MODES, 15_000, GENERATORS),
+    ("products", 1, "product", SINE_MODES, 10_000_000, 1),
 )
 RUN_MODES = (0b1111,) * 9 + (0b1110,) * 9 + (0b0111, 0b0000)
 

@@ -12,7 +12,7 @@ use Rattle.modes.specs.declared.Switches.{Switches}
 use Rattle.modes.specs.Modes.{oscillatorOn, envelopeOn, free, wait, runningC, switchesOf, withRunMode}
 use Rattle.modes.proofs.RunModes.{oscillator-tells, free-tells}
 use Rattle.modes.proofs.Exclusions.{quiet, off-not-on, on-not-off}
-use Rattle.oscillator.specs.Oscillator.{Wave, waveOf, sineWave}
+use Rattle.oscillator.specs.Oscillator.{Wave, waveOf, sineWave, sumOfCosines}
 use Rattle.envelope.specs.Envelope.{overflows, decayed, enveloped}
 use Rattle.lists.specs.Lists.{isOneOf}
 use Rattle.generator.specs.declared.Generator.{Generator}
@@ -35,14 +35,18 @@ module _ (on : Bool) (g : Generator) (f j v : ℕ) {p : ℕ} (is-v : v ≡ vOf g
   output-of-gk h e = rw (e, h, is-v)
 
   pub output-shaped : {w : SignMagnitude} → p ≡ lowBits 20 (enveloped (valueOf w) v)
-      → Wave (waveOf (oscillatorMode g) (g .gk / 2 ^ 7) (g .gn) (g .gm) (leftBy on g f j)) w → oscillatorMode g < 5 → p ≡ outputBy on g f j
+      → Wave (waveOf (oscillatorMode g) (g .gk / 2 ^ 7) (g .gn) (g .gm) (leftBy on g f j)) w → oscillatorMode g < 4 → p ≡ outputBy on g f j
   unfolding outputBy kBy
   output-shaped h k l = rw (ne-eqb (oscillatorMode g) 8 (λ e. omega arith), ← (k .is), ← is-v) h
 
-  -- A mode that isn't built.
-  pub output-rest : p ≡ lowBits 20 (enveloped (sineWave (g .gk / 2 ^ 7) (g .gm)) v) → ¬ (oscillatorMode g ≡ 8) → 5 ≤ oscillatorMode g → p ≡ outputBy on g f j
+  pub output-cosines : p ≡ lowBits 20 (enveloped (sumOfCosines (g .gk / 2 ^ 7) (g .gn) (g .gm)) v) → oscillatorMode g ≡ 4 → p ≡ outputBy on g f j
   unfolding outputBy kBy waveOf
-  output-rest h n l = simp (ne-eqb (oscillatorMode g) 8 n, ne-eqb (oscillatorMode g) 1 (λ e. omega arith), ne-eqb (oscillatorMode g) 2 (λ e. omega arith), ne-eqb (oscillatorMode g) 3 (λ e. omega arith), ne-eqb (oscillatorMode g) 4 (λ e. omega arith)) (rw (← is-v) h)
+  output-cosines h e = rw (e, h, is-v)
+
+  -- A mode that isn't built.
+  pub output-rest : p ≡ lowBits 20 (enveloped (sineWave (g .gk / 2 ^ 7) (g .gm)) v) → ¬ (oscillatorMode g ≡ 8) → ¬ (oscillatorMode g ≡ 4) → 4 ≤ oscillatorMode g → p ≡ outputBy on g f j
+  unfolding outputBy kBy waveOf
+  output-rest h n c l = simp (ne-eqb (oscillatorMode g) 8 n, ne-eqb (oscillatorMode g) 1 (λ e. omega arith), ne-eqb (oscillatorMode g) 2 (λ e. omega arith), ne-eqb (oscillatorMode g) 3 (λ e. omega arith), ne-eqb (oscillatorMode g) 4 c) (rw (← is-v) h)
 
 -- A generator whose envelope is on doesn't wait.
 sounds-not-waits : (r : ℕ) → envelopeOn r ≡ true → eqb r wait ≡ false

@@ -8,7 +8,7 @@ ghost use Rattle.words.specs.Words.{lowBits, sum, sumInto};
 ghost use Rattle.sine.specs.Sine.{quarter};
 ghost use Rattle.exponential.specs.Exponential.{tableSize, entries};
 ghost use Rattle.modes.specs.Modes.{switchesOf, envelopeOn, wait, withRunMode};
-ghost use Rattle.oscillator.specs.Oscillator.{Wave, waveOf, sineWave};
+ghost use Rattle.oscillator.specs.Oscillator.{Wave, waveOf, sineWave, sumOfCosines};
 ghost use Rattle.envelope.specs.Envelope.{overflows, decayed, enveloped};
 ghost use Rattle.generator.specs.Generator.{loaded, stored, updated, Ranged, runMode, oscillatorMode, jOf, after, soundedOf};
 ghost use Rattle.generator.specs.Steps.{oscillated, leftBy, outputBy, endedOf};
@@ -162,12 +162,11 @@ impl Generator {
         false
     }
 
-    // Step 6 in the oscillator modes 0001, 0010, 0011 and 0100.
-    fn shaped(self, sine: &Quarter, on: u8, f: u32, j: u32, k: u32) -> SignMagnitude
+    // Step 6 in the oscillator modes 0001, 0010 and 0011.
+    fn shaped(self, on: u8, f: u32, j: u32, k: u32) -> SignMagnitude
         requires { ⌜ Ranged self ⌝ }
-        requires { ⌜ now sine ≡ quarter ⌝ }
         requires { ⌜ (f < 2 ^ 20) × (j < 2 ^ 20) × (k < 2 ^ 13) ⌝ }
-        requires { ⌜ (0 < oscillatorMode self) × (oscillatorMode self < 5) ⌝ }
+        requires { ⌜ (0 < oscillatorMode self) × (oscillatorMode self < 4) ⌝ }
         ensures { λ r. ⌜ Wave (waveOf (oscillatorMode self) k (self .gn) (self .gm) (leftBy (eqb on 1) self f j)) r ⌝ }
     {
         let mode = self.gmode % 16;
@@ -177,10 +176,7 @@ impl Generator {
         if mode == 2 {
             return oscillator::square(k);
         }
-        if mode == 3 {
-            return oscillator::pulse(self.left_range(on, f, j));
-        }
-        oscillator::sum_of_cosines(sine, k, self.gn, self.gm)
+        oscillator::pulse(self.left_range(on, f, j))
     }
 
     // Steps 6 and 9 in the oscillator modes 0000 and 1000: P, of K and V.
@@ -190,6 +186,15 @@ impl Generator {
         ensures { λ r. ⌜ r ≡ lowBits 20 (enveloped (sineWave k (self .gm)) v) ⌝ }
     {
         envelope::enveloped(oscillator::sine_wave(sine, k, self.gm), v)
+    }
+
+    // Steps 6 and 9 in the oscillator mode 0100.
+    fn cosines_under(self, sine: &Quarter, k: u32, v: u32) -> u32
+        requires { ⌜ now sine ≡ quarter ⌝ }
+        requires { ⌜ (self .gn < 2 ^ 11) × (self .gm < 2 ^ 4) × (k < 2 ^ 13) × (v < 2 ^ 12) ⌝ }
+        ensures { λ r. ⌜ r ≡ lowBits 20 (enveloped (sumOfCosines k (self .gn) (self .gm)) v) ⌝ }
+    {
+        envelope::enveloped(oscillator::sum_of_cosines(sine, k, self.gn, self.gm), v)
     }
 
     // Steps 3 and 6 to 9: P, of J and whether the oscillator is on. K is the high 13 bits of J or of GK.
@@ -206,8 +211,11 @@ impl Generator {
         if self.gmode % 16 == 0 {
             return self.sine_under(sine, self.gk / 128, v);
         }
-        if self.gmode % 16 < 5 {
-            return envelope::enveloped(self.shaped(sine, on, f, j, self.gk / 128), v);
+        if self.gmode % 16 < 4 {
+            return envelope::enveloped(self.shaped(on, f, j, self.gk / 128), v);
+        }
+        if self.gmode % 16 == 4 {
+            return self.cosines_under(sine, self.gk / 128, v);
         }
         self.sine_under(sine, self.gk / 128, v)
     }

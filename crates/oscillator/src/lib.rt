@@ -93,8 +93,9 @@ pub fn sum_of_cosines(table: &Quarter, k: u32, gn: u32, gm: u32) -> SignMagnitud
     let above = 4095 * sine::magnitude(table, index);
     let below = sine::magnitude(table, k) << gm;
     let magnitude = capped(above / below);
+    let sign = (sine::sign(index) + sine::sign(k)) % 2;
     SignMagnitude {
-        sign: (sine::sign(index) + sine::sign(k)) % 2,
+        sign,
         magnitude,
     }
 }

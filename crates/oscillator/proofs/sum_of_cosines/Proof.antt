@@ -38,8 +38,8 @@ sign-requires c κs = rw (c .before .before .before .multiple-index .ensures) (i
 sign-requires-2 : tie.Need-sign-requires-2
 sign-requires-2 c κs = search needs
 
-add-t11 : tie.Need-add-t11
-add-t11 c =
+add-sign : tie.Need-add-sign
+add-sign c =
     let indexed = c .before .before .before .before .before in
     rw (c .before .sign .ensures, c .sign2 .ensures) (omega (arith, sign-bit (indexed .multiple-index .result), sign-bit (indexed .before .args .k)))
 
@@ -68,5 +68,5 @@ sum-of-cosines-spec =
     capped-requires
     sign-requires
     sign-requires-2
-    add-t11
+    add-sign
     returns)

@@ -3,7 +3,7 @@
 use native.Mathlib.Omega.{arith}
 use Rattle.envelope.proofs.Levels.{level-low}
 use Rattle.generator.specs.Generator.{vOf}
-use Rattle.generator.proofs.Turns.{output-of-j, output-of-gk, output-shaped, output-rest}
+use Rattle.generator.proofs.Turns.{output-of-j, output-of-gk, output-shaped, output-cosines, output-rest}
 use borrow.Author.Needs.{needs}
 use Rattle.generator.proofs.Generator.output.Statement.{statement}
 use Rattle.generator.proofs.Generator.output.Tie as tie
@@ -37,10 +37,7 @@ returns-2 c =
     output-of-gk _ (leveled .before .before .args .self) _ _ _ (leveled .level .ensures) (c .sine-under2 .ensures) (tested .if2 .taken)
 
 shaped-requires : tie.Need-shaped-requires
-shaped-requires c κs =
-    let leveled = c .before .before .before .before .before .before .before in
-    let start = leveled .before .before in
-    (start .pre .0, (start .pre .1 .0 .0, ((start .pre .1 .1 .0, start .pre .1 .1 .1, omega (arith, start .pre .0 .gk-low)), (omega arith, omega arith))))
+shaped-requires c κs = search needs
 
 enveloped-requires : tie.Need-enveloped-requires
 enveloped-requires c κs =
@@ -55,20 +52,37 @@ returns-3 c =
     let leveled = tested .before .before .before .before .before .before in
     output-shaped _ (leveled .before .before .args .self) _ _ _ (leveled .level .ensures) (c .enveloped .ensures) (c .before .shaped .ensures) (tested .if3 .taken)
 
-sine-under-requires-3 : tie.Need-sine-under-requires-3
-sine-under-requires-3 c κs =
+cosines-under-requires : tie.Need-cosines-under-requires
+cosines-under-requires c κs =
     let tested = c .before .before .before in
-    let leveled = tested .before .before .before .before in
+    let leveled = tested .before .before .before .before .before .before in
     let start = leveled .before .before in
-    (start .pre .1 .0 .0, (start .pre .0 .gm-low, omega (arith, start .pre .0 .gk-low), rw (leveled .level .ensures) (level-low _ _ _)))
+    (start .pre .1 .0 .0, (start .pre .0 .gn-low, start .pre .0 .gm-low, omega (arith, start .pre .0 .gk-low), rw (leveled .level .ensures) (level-low _ _ _)))
 
 returns-4 : tie.Need-returns-4
 unfolding vOf
 returns-4 c =
     let tested = c .before .before in
-    let first = tested .before .before .before .before in
-    let leveled = first .before .before in
-    output-rest _ (leveled .before .before .args .self) _ _ _ (leveled .level .ensures) (c .sine-under3 .ensures) (first .if1 .left) (tested .if3 .left)
+    let shaped = tested .before .before in
+    let leveled = shaped .before .before .before .before .before .before in
+    output-cosines _ (leveled .before .before .args .self) _ _ _ (leveled .level .ensures) (c .cosines-under .ensures) (tested .if4 .taken)
+
+sine-under-requires-3 : tie.Need-sine-under-requires-3
+sine-under-requires-3 c κs =
+    let tested = c .before .before .before in
+    let leveled = tested .before .before .before .before .before .before in
+    let start = leveled .before .before in
+    (start .pre .1 .0 .0, (start .pre .0 .gm-low, omega (arith, start .pre .0 .gk-low), rw (leveled .level .ensures) (level-low _ _ _)))
+
+returns-5 : tie.Need-returns-5
+unfolding vOf
+returns-5 c =
+    let cosines = c .before .before in
+    let shaped = cosines .before .before in
+    let gk = shaped .before .before in
+    let j = gk .before .before in
+    let leveled = j .before .before in
+    output-rest _ (leveled .before .before .args .self) _ _ _ (leveled .level .ensures) (c .sine-under3 .ensures) (j .if1 .left) (cosines .if4 .left) (shaped .if3 .left)
 
 pub output-spec : {M : Type 1} → statement M
 output-spec =
@@ -82,5 +96,7 @@ output-spec =
     shaped-requires
     enveloped-requires
     returns-3
+    cosines-under-requires
+    returns-4
     sine-under-requires-3
-    returns-4)
+    returns-5)
