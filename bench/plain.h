@@ -61,7 +61,7 @@ enum { OVERHEAD_TICKS = 8 };
 
 static uint32_t update_ticks(uint32_t t, uint32_t n) { return n > t + OVERHEAD_TICKS ? n - t - OVERHEAD_TICKS : 0; }
 
-static int sound_machine(const uint32_t *m) {
+SHARED int sound_machine(const uint32_t *m) {
     uint32_t bad = bad_generators(m) | bad_modifiers(m) | bad_delays(m);
     for (int i = SUMS; i <= DX; i++) bad |= m[i] >> 20;
     bad |= m[COUNTER] >> 20 | m[LINGER_PASS] >> 20 | m[LINGERING] >> 1 | m[OVERRUN] >> 1;

@@ -14,9 +14,9 @@
  * - each pointer is aligned for its type;
  * - a run has valid memory for its whole length, for reading, and for writing too where it is not const; with length 0
  *   the pointer may be NULL;
- * - a pointer that a call answers through (read, written, clipped, taken, equal, alike) is not NULL and has valid memory
- *   for one, clipped for KARVELORN_MARKS. What was there before is not looked at, and the call always sets it, in a
- *   refusal too;
+ * - a pointer that a call answers through (read, written, clipped, taken, equal, alike, point, place) is not NULL and
+ *   has valid memory for one, clipped for KARVELORN_MARKS. What was there before is not looked at, and the call always
+ *   sets it, in a refusal too;
  * - what a call writes (the runs that are not const, delay memory too, and what it answers through) overlaps nothing
  *   else that is handed to the same call, and nothing else reads or writes it during the call. Runs that are const may
  *   overlap each other.
@@ -38,8 +38,8 @@
  *      at most 65535 and Y at most Z?
  *   12 Do the modifiers below T div 2 that invoke delay units name different ones, whatever the units' modes?
  * A pass asks 1, 2, 5, 6, 7, 8, 10, 11 and 12 in this sequence. An update asks 1 and 2, then 3 and 4 as each command
- * has its turn; a compare asks 1 and 2, then 5 and 6 of each order, and karvelorn_any_order 1 and 2. These three ask
- * none of 10 to 12. No call answers 9.
+ * has its turn; a compare asks 1 and 2, then 5 and 6 of each order, karvelorn_parts the same, then 1 of the run for the
+ * contents and 7 of the read list, and karvelorn_any_order 1 and 2. These four ask none of 10 to 12. No call answers 9.
  * A refused call leaves every run as it was, but for an update that refuses a command (3 or 4): what it did before that
  * command stays done.
  *
@@ -212,6 +212,37 @@ uint32_t karvelorn_compare(const uint32_t *machine, size_t words, const uint32_t
  * Answers 0, 1 or 2.
  */
 uint32_t karvelorn_any_order(const uint32_t *machine, size_t words, uint32_t *alike);
+
+/* What parts two orders, where karvelorn_compare says that they are not equal: what to renumber, and contents that show
+ * it. The four points, over generators 0 to T-1, and what place says of each:
+ *   1  a generator in run mode 1001 whose lower neighbour is in 1110 or 1101 stands on another side of it in one order
+ *      than in the other: the waiting generator
+ *   2  a DAC is fed last, by generators in 0010, through another GFM: the DAC
+ *   3  the generators in 0011, in order, give another list of GFMs: the place in the written data, from 0
+ *   4  a sum word with generators in 0111 has another last one, or the last one at another place among all 0111s, or
+ *      other adding generators (1101, 1110, 1111) after it: the word
+ *
+ *   machine, words             the machine, and its length: KARVELORN_WORDS; it is only read
+ *   first, first_entries       an order: the numbers 0 to T-1, each once; first_entries is T
+ *   second, second_entries     the other order, likewise
+ *   contents, contents_words   a run for a machine, and its length: KARVELORN_WORDS. Where a point is named it gets a
+ *                              machine with the settings of this one; what it held is not looked at
+ *   items, items_len           a read list with room for an item for each generator below T in run mode 0111. Where a
+ *                              point is named it gets these items; those beyond them stay
+ *   point                      gets the first of the four points that fails, 1 to 4; 0 where the orders are equal and
+ *                              in a refusal
+ *   place                      gets the lowest place at which it fails; 0 where point is 0
+ *
+ * From the contents, with the items, a pass by the first order and a pass by the second both run, over the same delay
+ * memory, any that passes question 10, and with written places enough; and they leave another machine or other written
+ * data. Where point is 0 the run and the list are left as they were.
+ *
+ * Answers 0, 1, 2, 5, 6 or 7: 5 and 6 are asked of the first order, then of the second; after these 1 is asked of the
+ * run for the contents and 7 of the read list, also where the orders are equal.
+ */
+uint32_t karvelorn_parts(const uint32_t *machine, size_t words, const uint32_t *first, size_t first_entries,
+                         const uint32_t *second, size_t second_entries, uint32_t *contents, size_t contents_words,
+                         uint32_t *items, size_t items_len, uint32_t *point, uint32_t *place);
 
 #ifdef __cplusplus
 }

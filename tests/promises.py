@@ -20,6 +20,7 @@ REACHABLE = {
     ("update", "update"): "updateOf",
     ("compare", "compare"): "compareOf",
     ("any_order", "any_order"): "anyOrderOf",
+    ("parts", "parts"): "partsOf",
     ("bench_file", "read"): "readOf",
     ("bench_gathering", "gather"): "gathered",
     ("bench_text", "refusal_line"): "refusalLine",
@@ -28,6 +29,7 @@ REACHABLE = {
     ("host", "karvelorn_update"): "updateOf",
     ("host", "karvelorn_compare"): "compareOf",
     ("host", "karvelorn_any_order"): "anyOrderOf",
+    ("host", "karvelorn_parts"): "partsOf",
 }
 
 # The named forms: what it is, the crate, and a pattern that its source has.

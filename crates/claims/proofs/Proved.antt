@@ -26,6 +26,7 @@ use Rattle.equal_orders.proofs.Theorem.{demand-3, compare-says, refused-says-no
 use Rattle.equal_orders.proofs.WorkedExamples.{worked-examples}
 use Rattle.equal_any_order.proofs.AnyOrder.{any-order-says, any-order-refused, one-order, orders-apart}
 use Rattle.equal_any_order.proofs.MarksApart.{marks-equal, forth-sets, back-sets}
+use Rattle.equal_parts.proofs.Parts.{parts-says, none-shown, contents-part}
 use Rattle.bench_ringing.proofs.RungFile.{file-ticks, rung-file}
 use Rattle.bench_gathering.proofs.Gatherings.{gathered-file}
 use Rattle.claims.specs.Claims.{Claims}
@@ -44,6 +45,9 @@ claims =
       any-order-refused = any-order-refused;
       one-order = one-order;
       orders-apart = orders-apart;
+      parts-says = parts-says;
+      none-shown = none-shown;
+      contents-part = contents-part;
       sine-not-zero = magnitude-positive;
       worked-examples = worked-examples;
       fresh-good = record { whole = fresh-length; is-sound = fresh-sound };

@@ -7,7 +7,7 @@ use mathlib.Core.Logic.{_↔_, _≢_}
 use mathlib.Core.Path.{_≡_}
 use lib.ListN.{length, getD, set}
 use Rattle.layout.specs.Layout.{counterAt, quadrantWords, machineLength, updateTicksAt}
-use Rattle.layout.specs.Machine.{Machine, Order, Commands, Memory, ticksOf, updateTicks, updateTicksOf}
+use Rattle.layout.specs.Machine.{Machine, Order, Items, Commands, Memory, ticksOf, updateTicks, updateTicksOf}
 use Rattle.layout.specs.Widths.{counterBits}
 use Rattle.questions.specs.Questions.{asked}
 use Rattle.sine.specs.Sine.{magnitude}
@@ -32,10 +32,12 @@ use Rattle.order_agreement.specs.Agreement.{settingsOf, Agree}
 use Rattle.order_alike.specs.Parting.{partingOrders}
 use Rattle.compare.specs.Compare.{compareOf}
 use Rattle.any_order.specs.AnyOrder.{anyOrderOf}
+use Rattle.parts.specs.Parts.{partsOf}
 use Rattle.equal_orders.specs.Equal.{Equal}
 use Rattle.equal_orders.specs.WorkedExamples.{WorkedExamples, forth, back}
 use Rattle.equal_any_order.specs.EveryOrder.{Passes, EveryTwoEqual, Apart}
 use Rattle.equal_any_order.specs.MarksApart.{upAndDown}
+use Rattle.equal_parts.specs.Parting.{PartingContents}
 use Rattle.bench_text.specs.Text.{lineBytes}
 use Rattle.bench_file.specs.BenchFile.{commandPlaces, fileOf, readOf}
 use Rattle.bench_ringing.specs.Ringing.{outputOf}
@@ -55,6 +57,16 @@ pub record Claims : Type 0 where
   pub one-order : (m : Machine) → anyOrderOf m .number ≡ 0 → ticksOf m ≡ 1 → anyOrderOf m .alike ≡ true
   pub orders-apart : (m : Machine) → anyOrderOf m .number ≡ 0 → anyOrderOf m .alike ≡ false
       → Apart m (partingOrders (settingsOf m) .first) (partingOrders (settingsOf m) .second)
+  -- The call that says what parts two orders names no point, where it passes the questions, exactly when they are equal; where it names none, as in a refusal,
+  -- the run and the read list for the contents stay. Where it names one, what they hold parts the orders: passes from it, over any delay memory that passes 10
+  -- and with places enough, run by both orders and leave another machine or other written data.
+  pub parts-says : (m : Machine) (o₁ o₂ : Order) (contents : Machine) (items : Items) → partsOf m o₁ o₂ contents items .number ≡ 0
+      → (partsOf m o₁ o₂ contents items .point ≡ 0) ↔ Equal m o₁ o₂
+  pub none-shown : (m : Machine) (o₁ o₂ : Order) (contents : Machine) (items : Items) → partsOf m o₁ o₂ contents items .point ≡ 0
+      → (partsOf m o₁ o₂ contents items .contents ≡ contents) × (partsOf m o₁ o₂ contents items .items ≡ items)
+  pub contents-part : (m : Machine) (o₁ o₂ : Order) (contents : Machine) (items : Items) → partsOf m o₁ o₂ contents items .number ≡ 0
+      → partsOf m o₁ o₂ contents items .point ≢ 0
+      → PartingContents m o₁ o₂ items (partsOf m o₁ o₂ contents items .contents) (partsOf m o₁ o₂ contents items .items)
   -- The sine is never 0, so that the sum of cosines divides by no 0.
   pub sine-not-zero : (k : ℕ) → 0 < magnitude k
   -- The twelve worked examples.

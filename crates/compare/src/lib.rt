@@ -9,7 +9,7 @@ pub struct Compared {
 }
 
 // The first question of a compare that is answered no, or 0.
-fn refusal(m: &[u32], first: &[u32], second: &[u32]) -> u32
+pub fn refusal(m: &[u32], first: &[u32], second: &[u32]) -> u32
     ensures { λ r. ⌜ r ≡ compareRefusal (now (m .entry)) (now (first .entry)) (now (second .entry)) ⌝ }
 {
     let number = machine::refusal(m);

@@ -1,160 +1,91 @@
--- A machine whose words are set by place: its words, and that it is sound where each new word fits its register.
+-- A machine in which registers of generators, words of sum memory or the modes of modifiers are filled: its words, and that it is good and keeps the settings.
 -- Assumes nothing.
 use mathlib.Core.Path.{_≡_, refl, sym, ap, _∙_}
-use mathlib.Core.Bool.{Bool, true, false, cond}
-use Prim.Native.Nat.{ℕ, _+_, _-_, _*_, _/_, _%_, _^_, _≤_, _<_}
+use mathlib.Core.Logic.{_≢_}
+use mathlib.Core.Bool.{Bool, true, false}
+use mathlib.Core.List.{List}
+use Prim.Native.Nat.{ℕ, zero, suc, _+_, _*_, _^_, _≤_, _<_}
 use native.Mathlib.Omega.{arith}
 use native.Mathlib.Nat.{add-zero}
-use borrow.Author.Tests.{eqb-true, ltb-true, ltb-false, lt-ltb, le-ltb}
-use lib.Dec.{eqb, ltb, lit<, lit≤}
-use lib.ListN.{length, getD}
+use borrow.Author.Tests.{lt-ltb}
+use lib.Dec.{lit<, lit≤}
+use lib.ListN.{length, getD, set}
 use Rattle.lists.specs.Lists.{isOneOf}
 use Rattle.built_codes.specs.BuiltCodes.{builtFunctions, builtFunction}
-use Rattle.lists.proofs.Tables.{tabulate-length, tabulate-at}
-use Rattle.layout.specs.Layout.{machineLength, generatorAt, modifierAt, quadrantAt, tAt, nAt, updateTicksAt, MMODE, GO, GSUM, GFM, GMODE}
-use Rattle.layout.specs.Machine.{Machine, ticksOf, updateTicksOf, gmodeAt, gsumAt, gfmAt}
+use Rattle.layout.specs.Layout.{machineLength, generatorAt, modifierAt, quadrantAt, tAt, MMODE, GO, GSUM, GFM, GMODE}
+use Rattle.layout.specs.Machine.{Machine, ticksOf, gmodeAt, gsumAt, gfmAt}
+use Rattle.fills.specs.Fills.{filled}
+use Rattle.fills.proofs.Filled.{filled-length, filled-other, filled-at}
 use Rattle.machine.specs.Questions.{regions, testAt, sound}
 use Rattle.machine.proofs.Regions.{region, start, unit-test}
-use Rattle.machine.proofs.SoundMachine.{sound-at, sound-ticks, sound-from}
+use Rattle.machine.proofs.SoundMachine.{single-below, sound-set}
 use Rattle.pass_laws.specs.Good.{Good}
-use Rattle.equal_1978.specs.Witnesses.{withWords, inactiveModifier, byPlace}
+use Rattle.order_contents.specs.Contents.{eachRegister, eachWord, inactiveModifiers}
+
+-- Words before T that pass the tests of their places keep a machine good.
+filled-sound : (at step n : ℕ) (f : ℕ → ℕ) (m : Machine)
+    → ((k : ℕ) → k < n → (at + step * k < tAt) × (testAt regions (at + step * k) (f k) ≡ true)) → sound m ≡ true → sound (filled at step n f m) ≡ true
+unfolding filled
+filled-sound at step zero f m fits e = e
+filled-sound at step (suc n) f m fits e =
+    let here = fits n (omega arith) in
+    sound-set (filled at step n f m) (filled-sound at step n f m (λ k h. fits k (omega arith)) e) (at + step * n) (f n) (single-below (here .0)) (here .1)
+
+filled-good : (at step n : ℕ) (f : ℕ → ℕ) (m : Machine)
+    → ((k : ℕ) → k < n → (at + step * k < tAt) × (testAt regions (at + step * k) (f k) ≡ true)) → Good m → Good (filled at step n f m)
+filled-good at step n f m fits good =
+    record { whole = filled-length at step n f m ∙ good .whole; is-sound = filled-sound at step n f m fits (good .is-sound) }
 
 -- The test of register j of a generator.
 unfoldable pub registerTest : ℕ → ℕ → Bool
 registerTest j x = getD (region regions 0 .tests) j (λ y. false) x
 
--- The test of register j of a modifier, and that an inactive modifier's words pass it.
-unfoldable pub modifierTest : ℕ → ℕ → Bool
-modifierTest j x = getD (region regions 1 .tests) j (λ y. false) x
+-- A machine's words, and those of one in which a register of each generator is filled.
+module _ (j : ℕ) (f : ℕ → ℕ) (m : Machine) (l : j < 11) where
+  pub register-here : length m ≡ machineLength → (g : ℕ) → g < 256 → getD (eachRegister j f m) (generatorAt g + j) 0 ≡ f g
+  register-here whole g h =
+      let e : j + 11 * g ≡ generatorAt g + j = omega arith in
+      rw e at (filled-at j 11 256 f m g (lit< tt) h (omega arith))
 
-inactive-fits : (j x : ℕ) → modifierTest j x ≡ true → modifierTest j (inactiveModifier j x) ≡ true
-unfolding modifierTest inactiveModifier regions builtFunction builtFunctions isOneOf
-inactive-fits j x old = go (eqb j MMODE) refl
-  where
-    go : (b : Bool) → eqb j MMODE ≡ b → modifierTest j (cond b 0 x) ≡ true
-    go true q = rw (eqb-true j MMODE q)
-    go false q = old
+  pub register-other : (k g : ℕ) → k < 11 → k ≢ j → getD (eachRegister j f m) (generatorAt g + k) 0 ≡ getD m (generatorAt g + k) 0
+  register-other k g b apart = filled-other j 11 256 f m (generatorAt g + k) (λ i h e. apart (omega arith))
 
--- A value that fits register k is put there, and any other register keeps its own.
-pub fits-put : (j k v x : ℕ) → registerTest k v ≡ true → registerTest j x ≡ true → registerTest j (cond (eqb j k) v x) ≡ true
-fits-put j k v x new old = go (eqb j k) refl
-  where
-    go : (b : Bool) → eqb j k ≡ b → registerTest j (cond b v x) ≡ true
-    go true q = rw (eqb-true j k q) new
-    go false q = old
+  pub register-past : (i : ℕ) → 2816 ≤ i → getD (eachRegister j f m) i 0 ≡ getD m i 0
+  register-past i h = filled-other j 11 256 f m i (λ k b e. omega arith)
 
--- Each new word fits its register where the old one does.
-pub record Fitting (register word : ℕ → ℕ → ℕ → ℕ) : Type 0 where
-  pub registers : (g j x : ℕ) → registerTest j x ≡ true → registerTest j (register g j x) ≡ true
-  pub words : (q w x : ℕ) → w < 64 → x < 2 ^ 20 → word q w x < 2 ^ 20
+  register-good : ((g : ℕ) → g < 256 → registerTest j (f g) ≡ true) → Good m → Good (eachRegister j f m)
+  unfolding registerTest regions
+  register-good fits = filled-good j 11 256 f m (λ g h. (omega arith, in-place g h ∙ fits g h))
+    where
+      in-place : (g : ℕ) → g < 256 → testAt regions (j + 11 * g) (f g) ≡ getD (region regions 0 .tests) j (λ y. false) (f g)
+      in-place g h =
+          let q : j + 11 * g ≡ start regions 0 + (11 * g + j) = omega arith in
+          ap (λ (at : ℕ). testAt regions at (f g)) q ∙ unit-test regions 0 g j (f g) h l
 
-module _ (register word : ℕ → ℕ → ℕ → ℕ) (m : Machine) where
-  abbrev changed : Machine
-  changed = withWords (byPlace register word) m
+-- One in which the words of a quadrant are filled.
+module _ (q : ℕ) (f : ℕ → ℕ) (m : Machine) (l : q < 4) where
+  pub word-here : length m ≡ machineLength → (w : ℕ) → w < 64 → getD (eachWord q f m) (quadrantAt q + w) 0 ≡ f w
+  word-here whole w h =
+      let e : quadrantAt q + 1 * w ≡ quadrantAt q + w = omega arith in
+      rw e at (filled-at (quadrantAt q) 1 64 f m w (lit< tt) h (omega arith))
 
-  changed-length : length (withWords (byPlace register word) m) ≡ machineLength
-  unfolding withWords
-  changed-length = tabulate-length (λ i. byPlace register word i (getD m i 0)) 0 machineLength
+  pub word-other : (p w : ℕ) → w < 64 → p ≢ q → getD (eachWord q f m) (quadrantAt p + w) 0 ≡ getD m (quadrantAt p + w) 0
+  word-other p w h apart = filled-other (quadrantAt q) 1 64 f m (quadrantAt p + w) (λ k b e. apart (omega arith))
 
-  changed-at : (i : ℕ) → i < machineLength → getD changed i 0 ≡ byPlace register word i (getD m i 0)
-  unfolding withWords
-  changed-at i h = tabulate-at (λ i. byPlace register word i (getD m i 0)) machineLength i 0 h
+  pub word-before : (i : ℕ) → i < 3840 → getD (eachWord q f m) i 0 ≡ getD m i 0
+  word-before i h = filled-other (quadrantAt q) 1 64 f m i (λ k b e. omega arith)
 
-  changed-generators : (i : ℕ) → i < 2816 → getD changed i 0 ≡ register (i / 11) (i % 11) (getD m i 0)
-  unfolding byPlace
-  changed-generators i h = changed-at i (omega arith) ∙ rw (lt-ltb i 2816 h)
+  word-past : (i : ℕ) → 4096 ≤ i → getD (eachWord q f m) i 0 ≡ getD m i 0
+  word-past i h = filled-other (quadrantAt q) 1 64 f m i (λ k b e. omega arith)
 
-  changed-modifiers : (i : ℕ) → 2816 ≤ i → i < 3840 → getD changed i 0 ≡ inactiveModifier ((i - 2816) % 8) (getD m i 0)
-  unfolding byPlace
-  changed-modifiers i l h = changed-at i (omega arith) ∙ rw (le-ltb i 2816 l, lt-ltb i 3840 h)
-
-  changed-sums : (i : ℕ) → 3840 ≤ i → i < 4096 → getD changed i 0 ≡ word ((i - 3840) / 64) ((i - 3840) % 64) (getD m i 0)
-  unfolding byPlace
-  changed-sums i l h = changed-at i (omega arith) ∙ rw (le-ltb i 2816 (omega arith), le-ltb i 3840 l, lt-ltb i 4096 h)
-
-  -- The words from the DACs on stay.
-  pub changed-rest : (i : ℕ) → 4096 ≤ i → i < machineLength → getD changed i 0 ≡ getD m i 0
-  unfolding byPlace
-  changed-rest i l h = changed-at i h ∙ rw (le-ltb i 2816 (omega arith), le-ltb i 3840 (omega arith), le-ltb i 4096 l)
-
-  -- Every modifier is inactive.
-  pub changed-inactive : (k : ℕ) → k < 128 → getD changed (modifierAt k + MMODE) 0 ≡ 0
-  unfolding inactiveModifier
-  changed-inactive k h =
-      let i = modifierAt k + MMODE in
-      let r : (i - 2816) % 8 ≡ MMODE = omega arith in
-      changed-modifiers i (omega arith) (omega arith) ∙ rw r
-
-  -- Register j of generator g, and word w of quadrant q.
-  pub changed-register : (g j : ℕ) → g < 256 → j < 11 → getD changed (generatorAt g + j) 0 ≡ register g j (getD m (generatorAt g + j) 0)
-  changed-register g j h l =
-      let i = generatorAt g + j in
-      let q : i / 11 ≡ g = omega arith in
-      let r : i % 11 ≡ j = omega arith in
-      changed-generators i (omega arith) ∙ rw (q, r)
-
-  pub changed-word : (q w : ℕ) → q < 4 → w < 64 → getD changed (quadrantAt q + w) 0 ≡ word q w (getD m (quadrantAt q + w) 0)
-  changed-word q w h l =
-      let i = quadrantAt q + w in
-      let a : (i - 3840) / 64 ≡ q = omega arith in
-      let b : (i - 3840) % 64 ≡ w = omega arith in
-      changed-sums i (omega arith) (omega arith) ∙ rw (a, b)
-
-  -- It is sound.
-  module _ (fits : Fitting register word) (e : sound m ≡ true) where
-    in-generators : (i : ℕ) → i < 2816 → (x : ℕ) → testAt regions i x ≡ registerTest (i % 11) x
-    unfolding registerTest regions
-    in-generators i h x =
-        let q : i ≡ start regions 0 + (11 * (i / 11) + i % 11) = omega arith in
-        ap (λ (at : ℕ). testAt regions at x) q ∙ unit-test regions 0 (i / 11) (i % 11) x (omega arith) (omega arith)
-
-    in-modifiers : (i : ℕ) → 2816 ≤ i → i < 3840 → (x : ℕ) → testAt regions i x ≡ modifierTest ((i - 2816) % 8) x
-    unfolding modifierTest regions
-    in-modifiers i l h x =
-        let q : i ≡ start regions 1 + (8 * ((i - 2816) / 8) + (i - 2816) % 8) = omega arith in
-        ap (λ (at : ℕ). testAt regions at x) q ∙ unit-test regions 1 ((i - 2816) / 8) ((i - 2816) % 8) x (omega arith) (omega arith)
-
-    in-sums : (i : ℕ) → 3840 ≤ i → i < 4096 → (x : ℕ) → testAt regions i x ≡ ltb x (2 ^ 20)
-    unfolding regions
-    in-sums i l h x =
-        let q : i ≡ start regions 2 + (1 * (i - 3840) + 0) = omega arith in
-        ap (λ (at : ℕ). testAt regions at x) q ∙ unit-test regions 2 (i - 3840) 0 x (omega arith) (lit< tt)
-
-    passes : (i : ℕ) → i < updateTicksAt → (a b c : Bool) → ltb i 2816 ≡ a → ltb i 3840 ≡ b → ltb i 4096 ≡ c → testAt regions i (getD changed i 0) ≡ true
-    passes i h true b c ea eb ec =
-        let l = ltb-true i 2816 ea in
-        in-generators i l (getD changed i 0)
-        ∙ ap (registerTest (i % 11)) (changed-generators i l)
-        ∙ fits .registers (i / 11) (i % 11) (getD m i 0) (sym (in-generators i l (getD m i 0)) ∙ sound-at m e i h)
-    passes i h false true c ea eb ec =
-        let l = ltb-false i 2816 ea in
-        let k = ltb-true i 3840 eb in
-        in-modifiers i l k (getD changed i 0)
-        ∙ ap (modifierTest ((i - 2816) % 8)) (changed-modifiers i l k)
-        ∙ inactive-fits ((i - 2816) % 8) (getD m i 0) (sym (in-modifiers i l k (getD m i 0)) ∙ sound-at m e i h)
-    passes i h false false true ea eb ec =
-        let l = ltb-false i 3840 eb in
-        let k = ltb-true i 4096 ec in
-        in-sums i l k (getD changed i 0)
-        ∙ ap (λ (x : ℕ). ltb x (2 ^ 20)) (changed-sums i l k)
-        ∙ lt-ltb _ (2 ^ 20)
-        (fits .words ((i - 3840) / 64) ((i - 3840) % 64) (getD m i 0) (omega arith)
-        (ltb-true (getD m i 0) (2 ^ 20) (sym (in-sums i l k (getD m i 0)) ∙ sound-at m e i h)))
-    passes i h false false false ea eb ec = rw (changed-rest i (ltb-false i 4096 ec) (omega arith)) (sound-at m e i h)
-
-    -- T, N and the update ticks stay, so that these are still the count of the others.
-    ticks : getD changed updateTicksAt 0 ≡ updateTicksOf changed
-    ticks = rw (changed-rest updateTicksAt (lit≤ tt) (lit< tt), changed-rest tAt (lit≤ tt) (lit< tt), changed-rest nAt (lit≤ tt) (lit< tt)) (sound-ticks m e)
-
-    pub changed-sound : sound (withWords (byPlace register word) m) ≡ true
-    changed-sound = sound-from changed (λ i h. passes i h (ltb i 2816) (ltb i 3840) (ltb i 4096) refl refl refl) ticks
-
--- GO, GSUM, GFM and GMODE stay.
-pub record Keeping (register : ℕ → ℕ → ℕ → ℕ) : Type 0 where
-  pub go : (g x : ℕ) → register g GO x ≡ x
-  pub gsum : (g x : ℕ) → register g GSUM x ≡ x
-  pub gfm : (g x : ℕ) → register g GFM x ≡ x
-  pub gmode : (g x : ℕ) → register g GMODE x ≡ x
+  word-good : ((w : ℕ) → w < 64 → f w < 2 ^ 20) → Good m → Good (eachWord q f m)
+  unfolding regions
+  word-good low = filled-good (quadrantAt q) 1 64 f m (λ w h. (omega arith, in-place w h ∙ lt-ltb (f w) (2 ^ 20) (low w h)))
+    where
+      in-place : (w : ℕ) → w < 64 → testAt regions (quadrantAt q + 1 * w) (f w) ≡ getD (region regions 2 .tests) 0 (λ y. false) (f w)
+      in-place w h =
+          let e : quadrantAt q + 1 * w ≡ start regions 2 + (1 * (64 * q + w) + 0) = omega arith in
+          ap (λ (at : ℕ). testAt regions at (f w)) e ∙ unit-test regions 2 (64 * q + w) 0 (f w) (omega arith) (lit< tt)
 
 -- A good machine n has T, GO, GSUM, GFM and GMODE of the machine m, and every modifier inactive.
 pub record SameRegisters (m n : Machine) : Type 0 where
@@ -166,15 +97,59 @@ pub record SameRegisters (m n : Machine) : Type 0 where
   pub gfm : (g : ℕ) → g < 256 → gfmAt n g ≡ gfmAt m g
   pub gmode : (g : ℕ) → g < 256 → gmodeAt n g ≡ gmodeAt m g
 
-pub changed-same : (register word : ℕ → ℕ → ℕ → ℕ) (m : Machine) → Fitting register word → Keeping register → sound m ≡ true
-    → SameRegisters m (withWords (byPlace register word) m)
-changed-same register word m fits keeps e =
-    record {
-      good = record { whole = changed-length register word m; is-sound = changed-sound register word m fits e };
-      inactive = changed-inactive register word m;
-      ticks = changed-rest register word m tAt (lit≤ tt) (lit< tt);
-      go = λ g h. rw (← (add-zero (generatorAt g))) (changed-register register word m g 0 h (lit< tt) ∙ keeps .go g _);
-      gsum = λ g h. changed-register register word m g GSUM h (lit< tt) ∙ keeps .gsum g _;
-      gfm = λ g h. changed-register register word m g GFM h (lit< tt) ∙ keeps .gfm g _;
-      gmode = λ g h. changed-register register word m g GMODE h (lit< tt) ∙ keeps .gmode g _;
-    }
+-- So is one whose modifiers are made inactive.
+module _ (m : Machine) (good : Good m) where
+  abbrev at : ℕ
+  at = modifierAt 0 + MMODE
+
+  mode-fits : (k : ℕ) → k < 128 → testAt regions (modifierAt 0 + MMODE + 8 * k) 0 ≡ true
+  unfolding regions builtFunction builtFunctions isOneOf
+  mode-fits k h =
+      let q : modifierAt 0 + MMODE + 8 * k ≡ start regions 1 + (8 * k + MMODE) = omega arith in
+      ap (λ (i : ℕ). testAt regions i 0) q ∙ unit-test regions 1 k MMODE 0 h (lit< tt)
+
+  mode-other : (i : ℕ) → i < 2816 → getD (inactiveModifiers m) i 0 ≡ getD m i 0
+  unfolding inactiveModifiers
+  mode-other i h = filled-other at 8 128 (λ k. 0) m i (λ k b e. omega arith)
+
+  pub inactive-same : SameRegisters m (inactiveModifiers m)
+  unfolding inactiveModifiers
+  inactive-same =
+      record {
+        good = filled-good at 8 128 (λ k. 0) m (λ k h. (omega arith, mode-fits k h)) good;
+        inactive = λ k h.
+            let e : at + 8 * k ≡ modifierAt k + MMODE = omega arith in
+            rw e at (filled-at at 8 128 (λ k. 0) m k (lit< tt) h (omega (arith, good .whole)));
+        ticks = filled-other at 8 128 (λ k. 0) m tAt (λ k b e. omega arith);
+        go = λ g h. mode-other (generatorAt g) (omega arith);
+        gsum = λ g h. mode-other (generatorAt g + GSUM) (omega arith);
+        gfm = λ g h. mode-other (generatorAt g + GFM) (omega arith);
+        gmode = λ g h. mode-other (generatorAt g + GMODE) (omega arith);
+      }
+
+-- And one in which, further, words of a quadrant or a register that is no setting are filled.
+module _ (m n : Machine) (r : SameRegisters m n) where
+  pub word-same : (q : ℕ) (f : ℕ → ℕ) → q < 4 → ((w : ℕ) → w < 64 → f w < 2 ^ 20) → SameRegisters m (eachWord q f n)
+  word-same q f l low =
+      record {
+        good = word-good q f n l low (r .good);
+        inactive = λ k h. word-before q f n l (modifierAt k + MMODE) (omega arith) ∙ r .inactive k h;
+        ticks = word-past q f n l tAt (lit≤ tt) ∙ r .ticks;
+        go = λ g h. word-before q f n l (generatorAt g) (omega arith) ∙ r .go g h;
+        gsum = λ g h. word-before q f n l (generatorAt g + GSUM) (omega arith) ∙ r .gsum g h;
+        gfm = λ g h. word-before q f n l (generatorAt g + GFM) (omega arith) ∙ r .gfm g h;
+        gmode = λ g h. word-before q f n l (generatorAt g + GMODE) (omega arith) ∙ r .gmode g h;
+      }
+
+  pub register-same : (j : ℕ) (f : ℕ → ℕ) → GO < j → j < GSUM → ((g : ℕ) → g < 256 → registerTest j (f g) ≡ true) → SameRegisters m (eachRegister j f n)
+  register-same j f low high fits =
+      let l : j < 11 = omega arith in
+      record {
+        good = register-good j f n l fits (r .good);
+        inactive = λ k h. register-past j f n l (modifierAt k + MMODE) (omega arith) ∙ r .inactive k h;
+        ticks = register-past j f n l tAt (lit≤ tt) ∙ r .ticks;
+        go = λ g h. rw (← (add-zero (generatorAt g))) (register-other j f n l GO g (lit< tt) (λ e. omega arith)) ∙ r .go g h;
+        gsum = λ g h. register-other j f n l GSUM g (lit< tt) (λ e. omega arith) ∙ r .gsum g h;
+        gfm = λ g h. register-other j f n l GFM g (lit< tt) (λ e. omega arith) ∙ r .gfm g h;
+        gmode = λ g h. register-other j f n l GMODE g (lit< tt) (λ e. omega arith) ∙ r .gmode g h;
+      }

@@ -17,11 +17,11 @@ use Rattle.pass_laws.proofs.PassCounts.{run-mode-loaded}
 use Rattle.order_agreement.specs.Agreement.{settingsOf}
 use Rattle.equal_endings.specs.Follows.{turnAt}
 use Rattle.equal_witnesses.specs.Contents.{Contents}
-use Rattle.equal_1978.specs.Witnesses.{triggersWitness, sourcesWitness, soundingWitness, silentWitness}
+use Rattle.order_contents.specs.Contents.{triggeringContents, sendingContents, soundingContents, byPoint, contentsFor}
 use Rattle.equal_1978.proofs.Contents.{SameRegisters}
-use Rattle.equal_1978.proofs.Triggers.{triggers-same, triggers-free}
-use Rattle.equal_1978.proofs.Sources.{sources-same, sources-f}
-use Rattle.equal_1978.proofs.Sounding.{sounding-same, silent-output, sounding-output, silent-same, all-silent}
+use Rattle.equal_1978.proofs.Triggers.{triggering-same, triggers-free}
+use Rattle.equal_1978.proofs.Sources.{sending-same, sending-f}
+use Rattle.equal_1978.proofs.Sounding.{sounding-same, silent-output, sounding-output}
 
 -- GMODE of a waiting generator tells whether it was told.
 mode-tells : (u : Generator) (a b : Bool) → runMode u ≡ wait → gmodeAfter u a ≡ gmodeAfter u b → a ≡ b
@@ -39,31 +39,33 @@ module _ (m : Machine) (good : Good m) where
   few = sound-controls m (good .is-sound) .tHigh
 
   told-tells : (g : ℕ) → g < ticksOf m → eqb (runModeAt m g) wait ≡ true → (a b : Bool)
-      → turnAt of1978 (triggersWitness m) g a .unit .gmode ≡ turnAt of1978 (triggersWitness m) g b .unit .gmode → a ≡ b
+      → turnAt of1978 (triggeringContents m) g a .unit .gmode ≡ turnAt of1978 (triggeringContents m) g b .unit .gmode → a ≡ b
   unfolding turn1978 after
   told-tells g h w a b e =
-      let n = triggersWitness m in
-      let same = triggers-same m (good .is-sound) in
+      let n = triggeringContents m in
+      let same = triggering-same m good in
       let low : g < 256 = omega (arith, few) in
       mode-tells (generatorOf n g) a b
       (run-mode-loaded n (same .good .is-sound) g low ∙ ap (λ (x : ℕ). x / 2 ^ 6) (same .gmode g low) ∙ eqb-true (runModeAt m g) wait w) e
 
   pub contents-1978 : Contents of1978 (settingsOf m) (SameRegisters m)
   contents-1978 =
-      let e = good .is-sound in
       record {
-        triggering = triggersWitness m;
-        triggering-like = triggers-same m e;
-        triggers = λ g h f. triggers-free m e g (omega (arith, few)) f;
+        triggering = triggeringContents m;
+        triggering-like = triggering-same m good;
+        triggers = λ g h f. triggers-free m good g (omega (arith, few)) f;
         tells = told-tells;
-        sending = sourcesWitness m;
-        sending-like = sources-same m e;
-        sources = λ a b i j q. sym (sources-f m e a (omega (arith, few))) ∙ q ∙ sources-f m e b (omega (arith, few));
-        sounding = soundingWitness m;
-        sounding-like = λ k h. sounding-same m e k;
-        sounds = λ k h. sounding-output m e k k (omega (arith, few)) refl;
-        others-silent = λ k g h l n. silent-output m e k g (omega (arith, few)) n;
-        silent = silentWitness m;
-        silent-like = silent-same m e;
-        all-silent = λ g h. all-silent m e g (omega (arith, few));
+        sending = sendingContents m;
+        sending-like = sending-same m good;
+        sources = λ a b i j q. sym (sending-f m good a (omega (arith, few))) ∙ q ∙ sending-f m good b (omega (arith, few));
+        sounding = soundingContents m;
+        sounding-like = sounding-same m good;
+        sounds = λ k h. sounding-output m good k k (omega (arith, few)) refl;
+        others-silent = λ k g l n. silent-output m good k g (omega (arith, few)) n;
       }
+
+  -- They are the contents for a point.
+  pub contents-are : (point k : ℕ)
+      → byPoint point (contents-1978 .triggering) (contents-1978 .sounding k) (contents-1978 .sending) ≡ contentsFor m point k
+  unfolding contents-1978 contentsFor
+  contents-are point k = refl

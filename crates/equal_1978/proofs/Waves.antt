@@ -1,4 +1,4 @@
--- P of a generator where V is 0, and where V is 64 and the wave's registers are those of the witness.
+-- P of a generator where V is 0, and where V is 64 and the wave's registers are those of the contents.
 -- Assumes nothing.
 use mathlib.Core.Path.{_≡_, refl}
 use mathlib.Core.Bool.{Bool, true, false, cond}
@@ -13,7 +13,7 @@ use Rattle.envelope.specs.Envelope.{qOf, level, rounded, enveloped}
 use Rattle.generator.specs.declared.Generator.{Generator}
 use Rattle.generator.specs.Generator.{jOf, leftRange, wOf, vOf, pOf}
 use Rattle.generator.proofs.Sounding.{heard-in-every-mode}
-use Rattle.equal_1978.specs.Witnesses.{silentLevel, soundingGJ, soundingGK, soundingGN}
+use Rattle.order_contents.specs.Contents.{silentLevel, soundingGJ, soundingGK, soundingGN}
 
 -- By cases on a number of two bits.
 four : (P : ℕ → Type 0) → P 0 → P 1 → P 2 → P 3 → (e : ℕ) → e < 4 → P e

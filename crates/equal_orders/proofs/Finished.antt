@@ -20,12 +20,13 @@ use Rattle.delay_questions.proofs.Lines.{none-invoked}
 use Rattle.questions.specs.Questions.{asked}
 use Rattle.machine.specs.Questions.{question1, question2}
 use Rattle.machine.proofs.SoundMachine.{reaches}
-use Rattle.order.specs.Order.{question5, question6}
+use Rattle.modes.specs.Modes.{readData, writeData}
+use Rattle.order.specs.Order.{question5, question6, inMode}
 use Rattle.sums.specs.Sums.{generatorLast, sumsOf}
 use Rattle.sums.proofs.Blocks.{outside-before, outside-after}
 use Rattle.sums.proofs.Memory.{Quadrants, sums-quadrants}
 use Rattle.pass_model.specs.Generators.{Generators, of1978, Taken, begun, takenBy}
-use Rattle.pass_model.specs.Pass.{Call, by, plainCall, generatorsTaken, finished, ran, refused, passRefusal, passOf}
+use Rattle.pass_model.specs.Pass.{Call, by, generatorsTaken, finished, ran, refused, passRefusal, passOf}
 use Rattle.pass_model.specs.Modifiers.{Held}
 use Rattle.pass_model.proofs.Asked.{past-memory}
 use Rattle.pass_model.proofs.Delays.{off-below}
@@ -35,7 +36,7 @@ use Rattle.pass_laws.proofs.Frames.{steps-length, steps-quadrants}
 use Rattle.pass_laws.proofs.Passing.{good-passes, begun-words, begun-sums, let-through}
 use Rattle.equal_endings.specs.Ends.{takenIn, SameTaken}
 use Rattle.equal_witnesses.specs.Contents.{SameHeard}
-use Rattle.equal_orders.specs.Equal.{Enough, SameEnd}
+use Rattle.equal_orders.specs.Equal.{SameEnd, writtenData}
 
 -- An order passes questions 5 and 6.
 abbrev pub OrderPasses : ℕ → Order → Type 0
@@ -67,13 +68,12 @@ units-pass n few inactive = rw (lines, named)
         below-from (λ k. allBelow (λ j. apart n j k) k) (ticksOf n / 2)
         (λ k h. below-from (λ j. apart n j k) k (λ j l. rw (none j (omega arith))))
 
--- A pass by an order from a good machine with every modifier inactive, with a call that brings enough and delay memory of zeros.
-pub plain-let : (n : Machine) → Good n → ticksOf n ≤ 256 → ((k : ℕ) → k < 128 → getD n (modifierAt k + MMODE) 0 ≡ 0)
-    → (first order : Order) (items : Items) (places : Places) → OrderPasses (ticksOf n) order → let call = plainCall first items places in
-    Enough n call → passRefusal n (by order call) ≡ 0
-plain-let n good few inactive first order items places p e =
-    let call = plainCall first items places in
-    past-memory n (by order call) (good-passes n good) p (e .reads) (e .writes) zeros-good ∙ units-pass n few inactive
+-- A pass by an order from a good machine with every modifier inactive, with a call that brings items, places and delay memory that pass 7, 8 and 10.
+pub inactive-let : (n : Machine) → Good n → ticksOf n ≤ 256 → ((k : ℕ) → k < 128 → getD n (modifierAt k + MMODE) 0 ≡ 0)
+    → (order : Order) (call : Call) → OrderPasses (ticksOf n) order → inMode n readData ≤ length (call .items) → inMode n writeData ≤ length (call .places)
+    → memoryGood (call .memory) ≡ true → passRefusal n (by order call) ≡ 0
+inactive-let n good few inactive order call p reads writes memory =
+    past-memory n (by order call) (good-passes n good) p reads writes memory ∙ units-pass n few inactive
 
 -- Two passes that are refused alike end the same.
 pub refused-end : (n : Machine) (call : Call) (o₁ o₂ : Order) (k : ℕ) → passRefusal n (by o₁ call) ≡ k → passRefusal n (by o₂ call) ≡ k → k ≢ 0
@@ -124,21 +124,22 @@ module _ (n : Machine) (call : Call) (few : ticksOf n ≤ 256) (t : Taken) (w : 
   unfolding finished
   shown-sum i h = completed-last (ticksOf n) (heldAfter call t) (t .sums) (w .quadrants) (w .words) i h
 
--- So passes that end the same are the same as far as orders can be told apart.
+-- So passes that end with the same machine and written data are the same as far as orders can be told apart.
 pub same-heard : (of : Generators) (n : Machine) → length n ≡ machineLength → ticksOf n ≤ 256 → (call : Call) (o₁ o₂ : Order)
-    → SameEnd (finished n (by o₁ call) (takenIn of n (call .items) (call .places) o₁)) (finished n (by o₂ call) (takenIn of n (call .items) (call .places) o₂))
+    → finished n (by o₁ call) (takenIn of n (call .items) (call .places) o₁) .machine ≡ finished n (by o₂ call) (takenIn of n (call .items) (call .places) o₂) .machine
+    → writtenData (finished n (by o₁ call) (takenIn of n (call .items) (call .places) o₁)) ≡ writtenData (finished n (by o₂ call) (takenIn of n (call .items) (call .places) o₂))
     → SameHeard (takenIn of n (call .items) (call .places) o₁) (takenIn of n (call .items) (call .places) o₂)
 unfolding finished
-same-heard of n whole few call o₁ o₂ e =
+same-heard of n whole few call o₁ o₂ machine written =
     let t = takenIn of n (call .items) (call .places) o₁ in
     let u = takenIn of n (call .items) (call .places) o₂ in
     let wt = taken-whole of n whole (call .items) (call .places) o₁ in
     let wu = taken-whole of n whole (call .items) (call .places) o₂ in
     let word : (i : ℕ) → getD (finished n (by o₁ call) t .machine) i 0 ≡ getD (finished n (by o₂ call) u .machine) i 0
-    = λ i. ap (λ (x : Machine). getD x i 0) (e .machine) in
+    = λ i. ap (λ (x : Machine). getD x i 0) machine in
     record {
       modes = λ g h. sym (shown-mode n (by o₁ call) few t wt g h) ∙ word (generatorAt g + GMODE) ∙ shown-mode n (by o₂ call) few u wu g h;
       dacs = λ d h. sym (shown-dac n (by o₁ call) few t wt d h) ∙ word (dacAt d) ∙ shown-dac n (by o₂ call) few u wu d h;
       sums = λ i h. sym (shown-sum n (by o₁ call) few t wt i h) ∙ word (quadrantAt generatorLast + i) ∙ shown-sum n (by o₂ call) few u wu i h;
-      written = e .written;
+      written = written;
     }

@@ -23,7 +23,7 @@ use Rattle.equal_witnesses.proofs.Points.{heard-agree}
 use Rattle.equal_1978.proofs.Contents.{SameRegisters}
 use Rattle.equal_1978.proofs.Telling.{contents-1978}
 use Rattle.equal_orders.specs.Equal.{Words, Enough, Equal}
-use Rattle.equal_orders.proofs.Finished.{OrderPasses, pass-let, plain-let, same-heard}
+use Rattle.equal_orders.proofs.Finished.{OrderPasses, pass-let, zeros-good, inactive-let, same-heard}
 use Rattle.equal_orders.proofs.Settings.{follows, content-settings}
 
 -- A good machine has at most 256 generators in a run mode, so that 256 items and places are enough.
@@ -53,12 +53,13 @@ module _ (m : Machine) (good : Good m) (o₁ o₂ : Order) (p₁ : OrderPasses (
   heard n r items long words =
       let call = plainCall o₁ items (zeros 256) in
       let e = brings-enough n (r .good) o₁ items long words in
-      same-heard of1978 n (r .good .whole) (few-ticks n (r .good)) call o₁ o₂
-      (rw (
-        pass-let n o₁ call (plain-let n (r .good) (few-ticks n (r .good)) (r .inactive) o₁ o₁ items (zeros 256) (rw (r .ticks) p₁) e),
-        pass-let n o₂ call (plain-let n (r .good) (few-ticks n (r .good)) (r .inactive) o₁ o₂ items (zeros 256) (rw (r .ticks) p₂) e),
+      let few = few-ticks n (r .good) in
+      let end = rw (
+        pass-let n o₁ call (inactive-let n (r .good) few (r .inactive) o₁ call (rw (r .ticks) p₁) (e .reads) (e .writes) zeros-good),
+        pass-let n o₂ call (inactive-let n (r .good) few (r .inactive) o₂ call (rw (r .ticks) p₂) (e .reads) (e .writes) zeros-good),
       )
-      at (equal n (r .good) (content-settings m n r) call e))
+      at (equal n (r .good) (content-settings m n r) call e) in
+      same-heard of1978 n (r .good .whole) few call o₁ o₂ (end .machine) (end .written)
 
   pub equal-agreed : Agree m o₁ o₂
   equal-agreed =

@@ -8,10 +8,10 @@ use native.Mathlib.Omega.{arith}
 use borrow.Author.Tests.{eqb-true, eqb-false, le-leb}
 use lib.Dec.{eqb}
 use lib.ListN.{getD}
-use Rattle.lists.specs.Lists.{count}
+use Rattle.lists.specs.Lists.{count, countBelow}
 use Rattle.lists.proofs.Below.{and-second}
 use Rattle.lists.proofs.Counts.{count-below-le}
-use Rattle.layout.specs.Machine.{Machine, Order}
+use Rattle.layout.specs.Machine.{Machine, Order, Items}
 use Rattle.order.specs.Order.{IsOrder}
 use Rattle.pass_model.specs.Generators.{Generators}
 use Rattle.order_lists.specs.Sequences.{keep, some, lastOf, before, latest}
@@ -22,8 +22,7 @@ use Rattle.order_lists.proofs.Totals.{total-none, total-one}
 use Rattle.order_agreement.specs.Agreement.{Settings, replacesWord, addsToWord, lastReplacing, placeReplacing, afterReplacing}
 use Rattle.equal_endings.specs.Follows.{pAt, sendsAt, Follows}
 use Rattle.equal_endings.specs.Ends.{toldIn, wordAfter}
-use Rattle.equal_witnesses.specs.Contents.{Contents, silentItems, countingItems}
-use Rattle.equal_witnesses.proofs.Items.{silent-item, counting-item}
+use Rattle.equal_witnesses.specs.Contents.{Contents, HasItems}
 
 -- What a silent generator brings.
 nothing : (a b : Bool) (n : ℕ) → n ≡ 0 → cond (a && b) n 0 ≡ 0
@@ -58,7 +57,7 @@ module _ (of : Generators) (s : Settings) (Like : Machine → Type 0) (follows :
     abbrev last : ℕ
     last = lastReplacing s w order
 
-    -- Its last one is a generator below T that replaces the word, and its place among all replacing ones is below 256.
+    -- Its last one is a generator below T that replaces the word, and its place among all replacing ones is below their number.
     pub last-low : lastReplacing s w order < s .ticks
     last-low = last-below (s .ticks) order (o .once) (o .below) (replacesWord s w) replaced
 
@@ -70,61 +69,56 @@ module _ (of : Generators) (s : Settings) (Like : Machine → Type 0) (follows :
         rw (keep-count (s .replacing) last order, and-second (s .onWord w last) (s .replacing last) last-replaces)
         (last-entry (replacesWord s w) order replaced)
 
-    place-low : placeReplacing s w order < 256
-    place-low =
-        omega (
-          arith,
-          follows (c .silent) (c .silent-like) .few,
-          place-inside last (keep (s .replacing) order) last-there,
-          length-keep (s .ticks) order (o .once) (o .below) (s .replacing),
-          count-below-le (s .replacing) (s .ticks),
-        )
+    place-low : placeReplacing s w order < countBelow (s .replacing) (s .ticks)
+    place-low = rw (← (length-keep (s .ticks) order (o .once) (o .below) (s .replacing))) (place-inside last (keep (s .replacing) order) last-there)
 
     -- What an adding generator brings after it.
     abbrev brought : Machine → ℕ → ℕ
     brought n g = cond (addsToWord s w g && afterReplacing s w g order) (pAt of n g) 0
 
     -- With no generator sounding and items that count: the place of the last replacing one among all.
-    pub place-is : wordAfter of (c .silent) s countingItems order w ≡ placeReplacing s w order
+    pub place-is : (k : ℕ) → s .ticks ≤ k → (items : Items) → HasItems s (λ i. i) items → wordAfter of (c .sounding k) s items order w ≡ placeReplacing s w order
     unfolding wordAfter
-    place-is =
-        let n = c .silent in
+    place-is k high items counting =
+        let n = c .sounding k in
+        let silent : (g : ℕ) → g < s .ticks → pAt of n g ≡ 0 = λ g l. c .others-silent k g l (λ e. omega arith) in
         let none = total-none (brought n) order
-        (λ i l. nothing (addsToWord s w (getD order i 0)) (afterReplacing s w (getD order i 0) order) _ (c .all-silent (getD order i 0) (o .below i l))) in
-        rw (replaced, c .all-silent last last-low, counting-item (placeReplacing s w order) place-low, none) (omega (arith, place-low))
+        (λ i l. nothing (addsToWord s w (getD order i 0)) (afterReplacing s w (getD order i 0) order) _ (silent (getD order i 0) (o .below i l))) in
+        rw (replaced, silent last last-low, counting (placeReplacing s w order) place-low, none)
+        (omega (arith, place-low, count-below-le (s .replacing) (s .ticks), follows n (c .sounding-like k) .few))
 
     -- With one generator sounding and items that are 0.
-    module _ (k : ℕ) (low : k < s .ticks) where
+    module _ (k : ℕ) (low : k < s .ticks) (items : Items) (silent : HasItems s (λ i. 0) items) where
       abbrev n : Machine
       n = c .sounding k
 
-      one-sounds : wordAfter of n s silentItems order w ≡ (pAt of n last + cond (addsToWord s w k && afterReplacing s w k order) (pAt of n k) 0) % 2 ^ 20
+      one-sounds : wordAfter of n s items order w ≡ (pAt of n last + cond (addsToWord s w k && afterReplacing s w k order) (pAt of n k) 0) % 2 ^ 20
       unfolding wordAfter
       one-sounds =
           let one = total-one (s .ticks) order (o .once) (o .below) (brought n) k low
-          (λ g l d. nothing (addsToWord s w g) (afterReplacing s w g order) _ (c .others-silent k g low l d)) in
-          rw (replaced, silent-item (placeReplacing s w order) place-low, one)
+          (λ g l d. nothing (addsToWord s w g) (afterReplacing s w g order) _ (c .others-silent k g l d)) in
+          rw (replaced, silent (placeReplacing s w order) place-low, one)
           (ap (λ (x : ℕ). (x + cond (addsToWord s w k && afterReplacing s w k order) (pAt of n k) 0) % 2 ^ 20) (omega arith))
 
       sound-low : pAt of n k < 2 ^ 20
-      sound-low = follows n (c .sounding-like k low) .turns k low .p-low
+      sound-low = follows n (c .sounding-like k) .turns k low .p-low
 
       -- No replacing generator is an adding one.
       never-both : (g : ℕ) → g < s .ticks → replacesWord s w g ≡ true → addsToWord s w g ≡ false
       never-both g l q =
-          rw (follows n (c .sounding-like k low) .turns g l .alone (and-second (s .onWord w g) (s .replacing g) q)) (and-false (s .onWord w g))
+          rw (follows n (c .sounding-like k) .turns g l .alone (and-second (s .onWord w g) (s .replacing g) q)) (and-false (s .onWord w g))
 
       -- The sounding one replaces the word: it is heard where it is the last.
-      pub last-is : replacesWord s w k ≡ true → wordAfter of (c .sounding k) s silentItems order w ≡ cond (eqb (lastReplacing s w order) k) (pAt of (c .sounding k) k) 0
+      pub last-is : replacesWord s w k ≡ true → wordAfter of (c .sounding k) s items order w ≡ cond (eqb (lastReplacing s w order) k) (pAt of (c .sounding k) k) 0
       last-is q = one-sounds ∙ rw (never-both k low q) (go (eqb last k) refl)
         where
           go : (b : Bool) → eqb (lastReplacing s w order) k ≡ b → (pAt of n (lastReplacing s w order) + 0) % 2 ^ 20 ≡ cond b (pAt of n k) 0
           go true t = rw (eqb-true last k t) (omega (arith, sound-low))
-          go false t = omega (arith, c .others-silent k last low last-low (eqb-false last k t))
+          go false t = omega (arith, c .others-silent k last last-low (eqb-false last k t))
 
       -- The sounding one adds to the word: it is heard where it stands after the last replacing one.
-      pub adder-is : addsToWord s w k ≡ true → wordAfter of (c .sounding k) s silentItems order w ≡ cond (afterReplacing s w k order) (pAt of (c .sounding k) k) 0
-      adder-is q = one-sounds ∙ rw (q, c .others-silent k last low last-low apart) (go (afterReplacing s w k order))
+      pub adder-is : addsToWord s w k ≡ true → wordAfter of (c .sounding k) s items order w ≡ cond (afterReplacing s w k order) (pAt of (c .sounding k) k) 0
+      adder-is q = one-sounds ∙ rw (q, c .others-silent k last last-low apart) (go (afterReplacing s w k order))
         where
           apart : lastReplacing s w order ≢ k
           apart z = true≢false (sym q ∙ ap (addsToWord s w) (sym z) ∙ never-both last last-low last-replaces)

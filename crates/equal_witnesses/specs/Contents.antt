@@ -1,4 +1,4 @@
--- Contents that tell two orders of the generators apart, whatever the text: machines that have given settings and other words, and read lists.
+-- What contents must be to tell two orders of the generators apart, whatever the text: machines that have given settings and other words, and read lists.
 -- Assumes nothing.
 use Prim.Native.Nat.{ℕ, _+_, _<_}
 use mathlib.Core.Bool.{Bool, true}
@@ -6,7 +6,7 @@ use mathlib.Core.List.{[]}
 use mathlib.Core.Logic.{_≢_}
 use mathlib.Core.Path.{_≡_}
 use lib.ListN.{getD, take}
-use Rattle.lists.specs.Lists.{tabulate, zeros}
+use Rattle.lists.specs.Lists.{countBelow}
 use Rattle.layout.specs.Layout.{generatorAt, dacAt, GMODE}
 use Rattle.layout.specs.Machine.{Machine, Items}
 use Rattle.sums.specs.Sums.{generatorThis}
@@ -25,21 +25,15 @@ pub record Contents (of : Generators) (s : Settings) (Like : Machine → Type 0)
   pub sending : Machine
   pub sending-like : Like sending
   pub sources : (a b : ℕ) → a < s .ticks → b < s .ticks → sendsAt of sending a ≡ sendsAt of sending b → s .source a ≡ s .source b
-  -- For each generator one on which it sounds and all others are silent; and one on which all are.
+  -- For each number one on which the generator of this number sounds and all others are silent.
   pub sounding : ℕ → Machine
-  pub sounding-like : (k : ℕ) → k < s .ticks → Like (sounding k)
+  pub sounding-like : (k : ℕ) → Like (sounding k)
   pub sounds : (k : ℕ) → k < s .ticks → 0 < pAt of (sounding k) k
-  pub others-silent : (k g : ℕ) → k < s .ticks → g < s .ticks → g ≢ k → pAt of (sounding k) g ≡ 0
-  pub silent : Machine
-  pub silent-like : Like silent
-  pub all-silent : (g : ℕ) → g < s .ticks → pAt of silent g ≡ 0
+  pub others-silent : (k g : ℕ) → g < s .ticks → g ≢ k → pAt of (sounding k) g ≡ 0
 
--- A read list whose items are all 0, and one whose items count up from 0; both have an item for each of 256 generators.
-unfoldable pub silentItems : Items
-silentItems = zeros 256
-
-unfoldable pub countingItems : Items
-countingItems = tabulate (λ i. i) 0 256
+-- A read list has items by a rule for all generators that replace.
+abbrev pub HasItems : Settings → (ℕ → ℕ) → Items → Type 0
+HasItems s rule items = (i : ℕ) → i < countBelow (s .replacing) (s .ticks) → getD items i 0 ≡ rule i
 
 -- Two stages leave the same as far as orders can be told apart by it: each GMODE, the DAC words, generator-this and the written items.
 pub record SameHeard (t u : Taken) : Type 0 where

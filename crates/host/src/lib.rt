@@ -7,6 +7,7 @@ ghost use Rattle.update.specs.Update.{outcome, updateOf, takenCount};
 ghost use mathlib.Core.Bool.{cond};
 ghost use Rattle.compare.specs.Compare.{compareOf};
 ghost use Rattle.any_order.specs.AnyOrder.{anyOrderOf};
+ghost use Rattle.parts.specs.Parts.{partsOf};
 use sums::Clipped;
 
 // A fresh machine.
@@ -77,4 +78,24 @@ pub extern "C" fn karvelorn_any_order(m: &[u32], alike: &mut u32) -> u32
     let answer = any_order::any_order(m);
     *alike = answer.alike as u32;
     answer.number
+}
+
+// What parts two orders. The answer is the number of the refusing question or 0; point gets 0 where they are equal, else the first of the four points that
+// fails, and place the lowest place at which it fails; contents and items get what shows it.
+#[no_mangle]
+pub extern "C" fn karvelorn_parts(
+    m: &[u32],
+    first: &[u32],
+    second: &[u32],
+    contents: &mut [u32],
+    items: &mut [u32],
+    point: &mut u32,
+    place: &mut u32,
+) -> u32
+    ensures { λ r. ⌜ record { number = r; point = now (point .exit); place = now (place .exit); contents = now (contents .exit); items = now (items .exit) } ≡ partsOf (now (m .entry)) (now (first .entry)) (now (second .entry)) (now (contents .entry)) (now (items .entry)) ⌝ }
+{
+    let told = parts::parts(m, first, second, contents, items);
+    *point = told.point;
+    *place = told.place;
+    told.number
 }

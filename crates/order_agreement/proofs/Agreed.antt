@@ -55,8 +55,9 @@ module _ (s : Settings) (o₁ o₂ : Order) (is₁ : IsOrder (s .ticks) o₁) (i
       back : k - s .distance ≡ g
       back = omega arith
 
-  neighbours-to : Agreeing s o₁ o₂ → (g : ℕ) → g < s .ticks → neighbourSame s o₁ o₂ g ≡ true
-  neighbours-to ag g h = on-condition _ _ (λ e. beq-from _ _ (at e))
+  pub neighbour-at : (g : ℕ) → ((k : ℕ) → s .distance + k ≡ g → s .waits g ≡ true → s .triggering k ≡ true → before k g o₁ ≡ before k g o₂)
+      → neighbourSame s o₁ o₂ g ≡ true
+  neighbour-at g f = on-condition _ _ (λ e. beq-from _ _ (at e))
     where
       k : ℕ
       k = g - s .distance
@@ -65,8 +66,7 @@ module _ (s : Settings) (o₁ o₂ : Order) (is₁ : IsOrder (s .ticks) o₁) (i
       at e =
           let q = and-parts (leb (s .distance) g && s .waits g) (s .triggering k) e in
           let r = and-parts (leb (s .distance) g) (s .waits g) (q .0) in
-          let back : s .distance + k ≡ g = omega (arith, leb-true (s .distance) g (r .0)) in
-          rw back at (ag .neighbours k (omega arith) (rw back (r .1)) (q .1))
+          f k (omega (arith, leb-true (s .distance) g (r .0))) (r .1) (q .1)
 
   -- The second, at each DAC.
   feeders-from : ((d : ℕ) → d < dacs → feederSame s o₁ o₂ d ≡ true)
@@ -75,11 +75,11 @@ module _ (s : Settings) (o₁ o₂ : Order) (is₁ : IsOrder (s .ticks) o₁) (i
   feeders-from f d g l h e =
       eqb-true _ _ (condition-met _ _ (f d l) (some-from (s .ticks) o₁ (is₁ .once) (is₁ .below) (s .feeds d) g h e))
 
-  feeders-to : Agreeing s o₁ o₂ → (d : ℕ) → d < dacs → feederSame s o₁ o₂ d ≡ true
-  feeders-to ag d l =
+  pub feeder-at : (d : ℕ) → ((g : ℕ) → g < s .ticks → s .feeds d g ≡ true → s .source (lastOf (s .feeds d) o₁) ≡ s .source (lastOf (s .feeds d) o₂))
+      → feederSame s o₁ o₂ d ≡ true
+  feeder-at d f =
       on-condition _ _
-      (λ e. eq-eqb _ _
-      (ag .feeders d (lastOf (s .feeds d) o₁) l (last-below (s .ticks) o₁ (is₁ .once) (is₁ .below) (s .feeds d) e) (last-passes (s .feeds d) o₁ e)))
+      (λ e. eq-eqb _ _ (f (lastOf (s .feeds d) o₁) (last-below (s .ticks) o₁ (is₁ .once) (is₁ .below) (s .feeds d) e) (last-passes (s .feeds d) o₁ e)))
 
   -- The third, at each place of the written list.
   writers-from : ((i : ℕ) → i < writersOf s o₁ o₂ → writerSame s o₁ o₂ i ≡ true) → sources o₁ ≡ sources o₂
@@ -87,8 +87,8 @@ module _ (s : Settings) (o₁ o₂ : Order) (is₁ : IsOrder (s .ticks) o₁) (i
       ext-getD 0 (sources o₁) (sources o₂) (sources-length o₁ is₁ ∙ sym (sources-length o₂ is₂))
       (λ i h. eqb-true _ _ (f i (omega (arith, sources-length o₁ is₁))))
 
-  writers-to : Agreeing s o₁ o₂ → (i : ℕ) → i < writersOf s o₁ o₂ → writerSame s o₁ o₂ i ≡ true
-  writers-to ag i h = eq-eqb _ _ (ap (λ (l : List ℕ). getD l i 0) (ag .writers))
+  pub writer-at : (i : ℕ) → map (s .source) (keep (s .writes) o₁) ≡ map (s .source) (keep (s .writes) o₂) → writerSame s o₁ o₂ i ≡ true
+  writer-at i e = eq-eqb _ _ (ap (λ (l : List ℕ). getD l i 0) e)
 
   -- The fourth, at each sum word.
   words-from : ((w : ℕ) → w < quadrantWords → wordSame s o₁ o₂ w ≡ true)
@@ -103,12 +103,12 @@ module _ (s : Settings) (o₁ o₂ : Order) (is₁ : IsOrder (s .ticks) o₁) (i
         adders = λ k n a. beq-true _ _ (condition-met _ _ (below-at _ (s .ticks) (q .1) k n) a);
       }
 
-  words-to : Agreeing s o₁ o₂ → (w : ℕ) → w < quadrantWords → wordSame s o₁ o₂ w ≡ true
-  words-to ag w l =
+  pub word-at : (w : ℕ) → ((g : ℕ) → g < s .ticks → replacesWord s w g ≡ true → SameWord s w o₁ o₂) → wordSame s o₁ o₂ w ≡ true
+  word-at w f =
       on-condition _ _
       (λ e.
       let q : SameWord s w o₁ o₂
-      = ag .words w (lastReplacing s w o₁) l (last-below (s .ticks) o₁ (is₁ .once) (is₁ .below) (replacesWord s w) e) (last-passes (replacesWord s w) o₁ e) in
+      = f (lastReplacing s w o₁) (last-below (s .ticks) o₁ (is₁ .once) (is₁ .below) (replacesWord s w) e) (last-passes (replacesWord s w) o₁ e) in
       and-both _ _ (and-both _ _ (eq-eqb _ _ (q .last)) (eq-eqb _ _ (q .place)))
       (below-from _ (s .ticks) (λ g h. on-condition _ _ (λ a. beq-from _ _ (q .adders g h a)))))
 
@@ -141,9 +141,8 @@ module _ (s : Settings) (o₁ o₂ : Order) (is₁ : IsOrder (s .ticks) o₁) (i
       (eq-eqb _ (writersOf s o₁ o₂) (nowhere-failing _ (writersOf s o₁ o₂) (q .writers))))
       (eq-eqb _ quadrantWords (nowhere-failing _ quadrantWords (q .words)))
 
-  pub from-points : agrees s o₁ o₂ ≡ true → Agreeing s o₁ o₂
-  from-points e =
-      let q = none-fails e in
+  pub none-agree : NoneFails → Agreeing s o₁ o₂
+  none-agree q =
       record {
         neighbours = neighbours-from (q .neighbours);
         feeders = feeders-from (q .feeders);
@@ -151,9 +150,18 @@ module _ (s : Settings) (o₁ o₂ : Order) (is₁ : IsOrder (s .ticks) o₁) (i
         words = words-from (q .words);
       }
 
+  pub from-points : agrees s o₁ o₂ ≡ true → Agreeing s o₁ o₂
+  from-points e = none-agree (none-fails e)
+
   pub to-points : Agreeing s o₁ o₂ → agrees s o₁ o₂ ≡ true
   to-points ag =
-      fails-none (record { neighbours = neighbours-to ag; feeders = feeders-to ag; writers = writers-to ag; words = words-to ag })
+      fails-none
+      (record {
+        neighbours = λ g h. neighbour-at g (λ k e w t. rw e at (ag .neighbours k (rw e h) (rw e w) t));
+        feeders = λ d l. feeder-at d (λ g h e. ag .feeders d g l h e);
+        writers = λ i h. writer-at i (ag .writers);
+        words = λ w l. word-at w (λ g h e. ag .words w g l h e);
+      })
 
 pub points-agree : (s : Settings) (o₁ o₂ : Order) → IsOrder (s .ticks) o₁ → IsOrder (s .ticks) o₂ → (agrees s o₁ o₂ ≡ true) ↔ Agreeing s o₁ o₂
 points-agree s o₁ o₂ is₁ is₂ = (from-points s o₁ o₂ is₁ is₂, to-points s o₁ o₂ is₁ is₂)

@@ -1,14 +1,20 @@
--- Two orders agree where the code finds that none of the four points fails: what it hands to the points are the fields of the two traces.
+-- The first point that fails is found one point after the other; what is handed to the points are the fields of the two traces.
 -- Assumes nothing.
-use mathlib.Core.Path.{_≡_, refl, ap}
-use mathlib.Core.Bool.{_&&_}
-use Prim.Native.Nat.{ℕ}
+use mathlib.Core.Path.{_≡_, refl, sym, ap, _∙_}
+use mathlib.Core.Logic.{_≢_}
+use mathlib.Core.Bool.{true, false}
+use Prim.Native.Nat.{ℕ, _≤_, _<_}
+use native.Mathlib.Omega.{arith}
+use borrow.Author.Tests.{eq-eqb, ne-eqb}
 use lib.Dec.{eqb}
-use Rattle.layout.specs.Layout.{quadrantWords, dacs}
+use Rattle.lists.proofs.Counts.{count-below-le}
+use Rattle.layout.specs.Layout.{generators, quadrantWords, dacs}
 use Rattle.layout.specs.Machine.{Machine, Order, ticksOf}
 use Rattle.order.specs.Order.{IsOrder}
+use Rattle.order_lists.proofs.Failing.{failing-lowest}
 use Rattle.order_agreement.specs.Agreement.{settingsOf}
-use Rattle.order_agreement.specs.Points.{neighbourPoint, feederPoint, writerPoint, wordPoint, agrees}
+use Rattle.order_agreement.specs.Points.{Failing, neighbourSame, feederSame, writerSame, wordSame, writersOf, neighbourPoint, feederPoint, writerPoint, wordPoint, agrees, soundingAt, failingWord, firstPoint}
+use Rattle.order_agreement.proofs.FirstPoint.{fails-at, first-agrees}
 use Rattle.order_traces.specs.Traces.{Traceable, Trace, traceOf}
 use Rattle.order_traces.proofs.Holds.{trace-holds}
 use Rattle.order_points.specs.Loops.{sidesOf}
@@ -30,9 +36,71 @@ module _ (m : Machine) (o₁ o₂ : Order) {t₁ t₂ : Trace} (e₁ : t₁ ≡ 
 pub writes-of : (m : Machine) (o : Order) {t : Trace} → t ≡ traceOf m o → t .counts .writes ≡ traceOf m o .counts .writes
 writes-of m o e = ap (λ (t : Trace). t .counts .writes) e
 
-pub agrees-by : (m : Machine) (o₁ o₂ : Order) {n neighbour feeder writer word t : ℕ} → Traceable m → IsOrder (ticksOf m) o₁
-    → n ≡ traceOf m o₁ .counts .writes → neighbour ≡ neighbourPoint (settingsOf m) o₁ o₂ → feeder ≡ feederPoint (settingsOf m) o₁ o₂
-    → writer ≡ writerPoint (settingsOf m) o₁ o₂ → word ≡ wordPoint (settingsOf m) o₁ o₂ → t ≡ ticksOf m
-    → (eqb neighbour t && eqb feeder dacs && eqb writer n && eqb word quadrantWords) ≡ agrees (settingsOf m) o₁ o₂
-unfolding agrees
-agrees-by m o₁ o₂ ready o en e₁ e₂ e₃ e₄ et = rw (e₁, e₂, e₃, e₄, et, en, trace-holds m o₁ ready o .writers)
+-- The first point that fails, by what the code finds one after the other.
+module _ (m : Machine) (o₁ o₂ : Order) where
+  -- The fourth point.
+  module _ {w : ℕ} (is : w ≡ wordPoint (settingsOf m) o₁ o₂) where
+    pub no-word : w ≡ quadrantWords → _≡_ {A = Failing} (record { point = 0; place = 0; sounding = 0 }) (failingWord (settingsOf m) o₁ o₂)
+    unfolding failingWord
+    no-word e = rw (← is, e)
+
+    pub failing-at : w ≢ quadrantWords → (w < quadrantWords) × (wordSame (settingsOf m) o₁ o₂ w ≡ false)
+    unfolding wordPoint
+    failing-at h =
+        let f = fails-at (wordSame (settingsOf m) o₁ o₂) quadrantWords (ne-eqb _ quadrantWords (λ e. h (is ∙ e))) in
+        rw is (f .below, f .fails)
+
+    pub some-word : w ≢ quadrantWords → {k : ℕ} → k ≡ soundingAt (settingsOf m) o₁ o₂ w
+        → _≡_ {A = Failing} (record { point = 4; place = w; sounding = k }) (failingWord (settingsOf m) o₁ o₂)
+    unfolding failingWord
+    some-word h e = rw (← is, ne-eqb w quadrantWords h, e)
+
+  -- The others, one after the other.
+  module _ {g t : ℕ} (is-g : g ≡ neighbourPoint (settingsOf m) o₁ o₂) (is-t : t ≡ ticksOf m) where
+    pub neighbour-within : g ≤ t
+    unfolding neighbourPoint
+    neighbour-within = rw (is-g, is-t) (failing-lowest (neighbourSame (settingsOf m) o₁ o₂) (ticksOf m) .within)
+
+    pub first-fails : g ≢ t → _≡_ {A = Failing} (record { point = 1; place = g; sounding = 0 }) (firstPoint (settingsOf m) o₁ o₂)
+    unfolding firstPoint
+    first-fails h = rw (ne-eqb (neighbourPoint (settingsOf m) o₁ o₂) (ticksOf m) (λ e. h (is-g ∙ e ∙ sym is-t)), is-g)
+
+    module _ (holds : g ≡ t) {d : ℕ} (is-d : d ≡ feederPoint (settingsOf m) o₁ o₂) where
+      pub feeder-within : d ≤ dacs
+      unfolding feederPoint
+      feeder-within = rw is-d (failing-lowest (feederSame (settingsOf m) o₁ o₂) dacs .within)
+
+      first-holds : eqb (neighbourPoint (settingsOf m) o₁ o₂) (ticksOf m) ≡ true
+      first-holds = eq-eqb _ _ (sym is-g ∙ holds ∙ is-t)
+
+      pub second-fails : d ≢ dacs → _≡_ {A = Failing} (record { point = 2; place = d; sounding = 0 }) (firstPoint (settingsOf m) o₁ o₂)
+      unfolding firstPoint
+      second-fails h = rw (first-holds, ne-eqb (feederPoint (settingsOf m) o₁ o₂) dacs (λ e. h (is-d ∙ e)), is-d)
+
+      module _ (fed : d ≡ dacs) {i n : ℕ} (is-i : i ≡ writerPoint (settingsOf m) o₁ o₂) (is-n : n ≡ writersOf (settingsOf m) o₁ o₂) where
+        pub writer-within : i ≤ n
+        unfolding writerPoint
+        writer-within = rw (is-i, is-n) (failing-lowest (writerSame (settingsOf m) o₁ o₂) (writersOf (settingsOf m) o₁ o₂) .within)
+
+        second-holds : eqb (feederPoint (settingsOf m) o₁ o₂) dacs ≡ true
+        second-holds = eq-eqb _ _ (sym is-d ∙ fed)
+
+        pub third-fails : i ≢ n → _≡_ {A = Failing} (record { point = 3; place = i; sounding = 0 }) (firstPoint (settingsOf m) o₁ o₂)
+        unfolding firstPoint
+        third-fails h =
+            rw (first-holds, second-holds, ne-eqb (writerPoint (settingsOf m) o₁ o₂) (writersOf (settingsOf m) o₁ o₂) (λ e. h (is-i ∙ e ∙ sym is-n)), is-i)
+
+        pub fourth : i ≡ n → {f : Failing} → f ≡ failingWord (settingsOf m) o₁ o₂ → f ≡ firstPoint (settingsOf m) o₁ o₂
+        unfolding firstPoint
+        fourth e q = rw (first-holds, second-holds, eq-eqb (writerPoint (settingsOf m) o₁ o₂) (writersOf (settingsOf m) o₁ o₂) (sym is-i ∙ e ∙ is-n)) q
+
+-- As many generators write data as the trace counts.
+pub writers-are : (m : Machine) (o₁ o₂ : Order) → Traceable m → IsOrder (ticksOf m) o₁ → {n : ℕ} → n ≡ traceOf m o₁ .counts .writes → n ≡ writersOf (settingsOf m) o₁ o₂
+writers-are m o₁ o₂ ready o e = e ∙ trace-holds m o₁ ready o .writers
+
+pub writers-few : (m : Machine) (o₁ o₂ : Order) → Traceable m → writersOf (settingsOf m) o₁ o₂ ≤ generators
+writers-few m o₁ o₂ ready = omega (arith, count-below-le (settingsOf m .writes) (ticksOf m), ready .ticks)
+
+-- None fails just where the orders agree.
+pub none-named : (m : Machine) (o₁ o₂ : Order) {f : Failing} → f ≡ firstPoint (settingsOf m) o₁ o₂ → eqb (f .point) 0 ≡ agrees (settingsOf m) o₁ o₂
+none-named m o₁ o₂ e = rw e (first-agrees (settingsOf m) o₁ o₂)

@@ -1,16 +1,149 @@
-// Whether two orders of the generators agree on the four points together.
+// The first of the four points that fails, and whether two orders of the generators agree on the four together.
+// Arrays numbered 1 are of the first order, 2 of the second.
 ghost use mathlib.Core.Path.{_≡_};
 ghost use Rattle.layout.specs.Machine.{ticksOf};
 ghost use Rattle.order.specs.Order.{IsOrder};
 ghost use Rattle.order_agreement.specs.Agreement.{settingsOf};
-ghost use Rattle.order_agreement.specs.Points.{agrees};
-ghost use Rattle.order_traces.specs.Traces.{Traceable};
+ghost use Rattle.order_agreement.specs.Points.{failingWord, firstPoint, agrees};
+ghost use Rattle.order_traces.specs.Traces.{Traceable, traceOf};
+ghost use Rattle.order_points.specs.Loops.{sidesOf};
+use order_traces::Feeders;
+use order_traces::GeneratorPlaces;
+use order_traces::SumWords;
+use order_traces::Writers;
 
-// Whether none of the four points fails.
-pub fn agrees(m: &[u32], first: &[u32], second: &[u32]) -> bool
+// The first of the four points that fails: its number, 1 to 4, the lowest place at which it fails, and for the fourth the generator
+// that is to sound so that a pass shows it. All are 0 where none fails.
+pub struct Failing {
+    pub point: u32,
+    pub place: u32,
+    pub sounding: usize,
+}
+
+// The fourth point where the others hold.
+fn failing_word(
+    m: &[u32],
+    first: &[u32],
+    second: &[u32],
+    place1: &GeneratorPlaces,
+    place2: &GeneratorPlaces,
+    last1: &SumWords,
+    last2: &SumWords,
+    among1: &SumWords,
+    among2: &SumWords,
+) -> Failing
     requires { ⌜ Traceable (now m) ⌝ }
     requires { ⌜ IsOrder (ticksOf (now m)) (now first) × IsOrder (ticksOf (now m)) (now second) ⌝ }
-    ensures { λ r. ⌜ r ≡ agrees (settingsOf (now (m .entry))) (now (first .entry)) (now (second .entry)) ⌝ }
+    requires { ⌜ record { first = now place1; second = now place2 } ≡ sidesOf (now m) (now first) (now second) ⌝ }
+    requires { ⌜ (record { last = now last1; among = now among1 } ≡ traceOf (now m) (now first) .replaced) × (record { last = now last2; among = now among2 } ≡ traceOf (now m) (now second) .replaced) ⌝ }
+    ensures { λ r. ⌜ record { point = r .point; place = r .place; sounding = r .sounding } ≡ failingWord (settingsOf (now (m .entry))) (now (first .entry)) (now (second .entry)) ⌝ }
+{
+    let w = order_points::word_point(
+        m,
+        first,
+        second,
+        place1,
+        place2,
+        last1,
+        last2,
+        among1,
+        among2,
+    );
+    if w == layout::QUADRANT_WORDS {
+        return Failing {
+            point: 0,
+            place: 0,
+            sounding: 0,
+        };
+    }
+    let sounding = order_sounding::sounding(
+        m,
+        first,
+        second,
+        place1,
+        place2,
+        last1,
+        last2,
+        among1,
+        among2,
+        w,
+    );
+    Failing {
+        point: 4,
+        place: w as u32,
+        sounding,
+    }
+}
+
+// The first point that fails, by what the traces of two orders hold; n generators write data.
+fn first_failing(
+    m: &[u32],
+    first: &[u32],
+    second: &[u32],
+    place1: &GeneratorPlaces,
+    place2: &GeneratorPlaces,
+    fed1: &Feeders,
+    fed2: &Feeders,
+    written1: &Writers,
+    written2: &Writers,
+    last1: &SumWords,
+    last2: &SumWords,
+    among1: &SumWords,
+    among2: &SumWords,
+    n: usize,
+) -> Failing
+    requires { ⌜ Traceable (now m) ⌝ }
+    requires { ⌜ IsOrder (ticksOf (now m)) (now first) × IsOrder (ticksOf (now m)) (now second) ⌝ }
+    requires { ⌜ record { first = now place1; second = now place2 } ≡ sidesOf (now m) (now first) (now second) ⌝ }
+    requires { ⌜ (now fed1 ≡ traceOf (now m) (now first) .fed) × (now fed2 ≡ traceOf (now m) (now second) .fed) ⌝ }
+    requires { ⌜ (now written1 ≡ traceOf (now m) (now first) .written) × (now written2 ≡ traceOf (now m) (now second) .written) ⌝ }
+    requires { ⌜ (record { last = now last1; among = now among1 } ≡ traceOf (now m) (now first) .replaced) × (record { last = now last2; among = now among2 } ≡ traceOf (now m) (now second) .replaced) ⌝ }
+    requires { ⌜ n ≡ traceOf (now m) (now first) .counts .writes ⌝ }
+    ensures { λ r. ⌜ record { point = r .point; place = r .place; sounding = r .sounding } ≡ firstPoint (settingsOf (now (m .entry))) (now (first .entry)) (now (second .entry)) ⌝ }
+{
+    let g = order_points::neighbour_point(m, first, second, place1, place2);
+    let t = layout::ticks(m);
+    if g != t {
+        return Failing {
+            point: 1,
+            place: g as u32,
+            sounding: 0,
+        };
+    }
+    let d = order_points::feeder_point(m, first, second, fed1, fed2);
+    if d != layout::DACS {
+        return Failing {
+            point: 2,
+            place: d as u32,
+            sounding: 0,
+        };
+    }
+    let i = order_points::writer_point(m, first, second, written1, written2, n);
+    if i != n {
+        return Failing {
+            point: 3,
+            place: i as u32,
+            sounding: 0,
+        };
+    }
+    failing_word(
+        m,
+        first,
+        second,
+        place1,
+        place2,
+        last1,
+        last2,
+        among1,
+        among2,
+    )
+}
+
+// The first point that fails.
+pub fn first_point(m: &[u32], first: &[u32], second: &[u32]) -> Failing
+    requires { ⌜ Traceable (now m) ⌝ }
+    requires { ⌜ IsOrder (ticksOf (now m)) (now first) × IsOrder (ticksOf (now m)) (now second) ⌝ }
+    ensures { λ r. ⌜ record { point = r .point; place = r .place; sounding = r .sounding } ≡ firstPoint (settingsOf (now (m .entry))) (now (first .entry)) (now (second .entry)) ⌝ }
 {
     let mut place1 = [0u8; layout::GENERATORS];
     let mut place2 = [0u8; layout::GENERATORS];
@@ -40,21 +173,30 @@ pub fn agrees(m: &[u32], first: &[u32], second: &[u32]) -> bool
         &mut last2,
         &mut among2,
     );
-    let n = done.writes;
-    let neighbour = order_points::neighbour_point(m, first, second, &place1, &place2);
-    let feeder = order_points::feeder_point(m, first, second, &fed1, &fed2);
-    let writer = order_points::writer_point(m, first, second, &written1, &written2, n);
-    let word = order_points::word_point(
+    first_failing(
         m,
         first,
         second,
         &place1,
         &place2,
+        &fed1,
+        &fed2,
+        &written1,
+        &written2,
         &last1,
         &last2,
         &among1,
         &among2,
-    );
-    let t = layout::ticks(m);
-    (neighbour == t) & (feeder == layout::DACS) & (writer == n) & (word == layout::QUADRANT_WORDS)
+        done.writes,
+    )
+}
+
+// Whether none of the four points fails.
+pub fn agrees(m: &[u32], first: &[u32], second: &[u32]) -> bool
+    requires { ⌜ Traceable (now m) ⌝ }
+    requires { ⌜ IsOrder (ticksOf (now m)) (now first) × IsOrder (ticksOf (now m)) (now second) ⌝ }
+    ensures { λ r. ⌜ r ≡ agrees (settingsOf (now (m .entry))) (now (first .entry)) (now (second .entry)) ⌝ }
+{
+    let failing = first_point(m, first, second);
+    failing.point == 0
 }

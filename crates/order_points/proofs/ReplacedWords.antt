@@ -117,19 +117,19 @@ module _ (m : Machine) (o₁ o₂ : Order) (ready : Traceable m) (ordered : IsOr
 
   -- A word with a 0111.
   module _ (w : ℕ) (h : w < quadrantWords) (e : some (replacesWord (settingsOf m) w) o₁ ≡ true) where
-    first-last : getD (first .last) w 0 ≡ suc (lastReplacing (settingsOf m) w o₁)
+    pub first-last : getD (traceOf m o₁ .replaced .last) w 0 ≡ suc (lastReplacing (settingsOf m) w o₁)
     unfolding latest
     first-last = held₁ .last w h ∙ rw e
 
-    second-last : getD (second .last) w 0 ≡ suc (lastReplacing (settingsOf m) w o₂)
+    pub second-last : getD (traceOf m o₂ .replaced .last) w 0 ≡ suc (lastReplacing (settingsOf m) w o₂)
     unfolding latest
     second-last = held₂ .last w h ∙ rw (some-two w, e)
 
-    first-among : getD (first .among) w 0 ≡ placeReplacing (settingsOf m) w o₁
+    pub first-among : getD (traceOf m o₁ .replaced .among) w 0 ≡ placeReplacing (settingsOf m) w o₁
     unfolding latest
     first-among = held₁ .among w h ∙ rw e
 
-    second-among : getD (second .among) w 0 ≡ placeReplacing (settingsOf m) w o₂
+    pub second-among : getD (traceOf m o₂ .replaced .among) w 0 ≡ placeReplacing (settingsOf m) w o₂
     unfolding latest
     second-among = held₂ .among w h ∙ rw (some-two w, e)
 

@@ -21,7 +21,7 @@ use order_traces::Writers;
 type Marks = [u8; layout::QUADRANT_WORDS];
 
 // Whether g and h stand in the same sequence in two orders, by their places.
-fn same_side(place1: &GeneratorPlaces, place2: &GeneratorPlaces, g: usize, h: usize) -> bool
+pub fn same_side(place1: &GeneratorPlaces, place2: &GeneratorPlaces, g: usize, h: usize) -> bool
     requires { ⌜ (g < generators) × (h < generators) ⌝ }
     ensures { λ r. ⌜ r ≡ sideBy (record { first = now (place1 .entry); second = now (place2 .entry) }) g h ⌝ }
 {

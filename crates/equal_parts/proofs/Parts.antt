@@ -1,0 +1,188 @@
+-- The contents for the first point that fails part the two orders: were the passes to end the same, no point would fail, by the readings that demand 3's harder direction rests on.
+-- Assumes nothing.
+use mathlib.Core.Path.{_≡_, refl, sym, ap, _∙_, subst, subst⁻¹}
+use mathlib.Core.Logic.{_↔_, _≢_}
+use mathlib.Core.Bool.{Bool, true, false}
+use Prim.Native.Nat.{ℕ, _+_, _*_, _/_, _^_, _≤_, _<_}
+use native.Mathlib.Omega.{arith}
+use borrow.Author.Tests.{eqb-true, eqb-false, eq-eqb, ne-eqb}
+use lib.Dec.{eqb, lit<}
+use lib.ListN.{length, getD}
+use Rattle.lists.specs.Lists.{countBelow}
+use Rattle.lists.proofs.Choices.{of-cond}
+use Rattle.lists.proofs.Counts.{count-below-same}
+use Rattle.layout.specs.Machine.{Machine, Order, Items, Places, Memory, ticksOf, runModeAt}
+use Rattle.modes.specs.Modes.{readData, writeData}
+use Rattle.modes.proofs.RunModes.{replaces-is}
+use Rattle.fills.proofs.Filled.{filled-length, filled-other, filled-at}
+use Rattle.machine.proofs.SoundMachine.{sound-controls}
+use Rattle.order.specs.Order.{inMode}
+use Rattle.order.proofs.Entries.{order-passes}
+use Rattle.delay_questions.specs.Questions.{memoryGood}
+use Rattle.pass_model.specs.Generators.{of1978}
+use Rattle.pass_model.specs.Pass.{Call, by, passRefusal, passOf}
+use Rattle.pass_model.proofs.Asked.{is-whole, is-sound}
+use Rattle.pass_laws.specs.Good.{Good}
+use Rattle.pass_laws.proofs.Passing.{pass-number}
+use Rattle.order_agreement.specs.Agreement.{settingsOf}
+use Rattle.order_agreement.specs.Points.{firstPoint}
+use Rattle.order_agreement.proofs.FirstPoint.{first-agrees}
+use Rattle.order_contents.specs.Contents.{contentsFor, itemFor, itemsFor}
+use Rattle.compare.specs.Compare.{compareOf}
+use Rattle.compare.proofs.Answers.{ComparePassed, compare-passes, compare-number, compare-agrees}
+use Rattle.equal_endings.specs.Ends.{takenIn}
+use Rattle.equal_witnesses.specs.Contents.{HasItems, SameHeard}
+use Rattle.equal_witnesses.proofs.Points.{none-parted}
+use Rattle.equal_1978.proofs.Contents.{SameRegisters}
+use Rattle.equal_1978.proofs.Telling.{contents-1978, contents-are}
+use Rattle.equal_orders.specs.Equal.{SameSettings, Equal}
+use Rattle.equal_orders.proofs.Finished.{OrderPasses, pass-let, inactive-let, same-heard}
+use Rattle.equal_orders.proofs.Settings.{follows, content-settings}
+use Rattle.equal_orders.proofs.Theorem.{compare-says}
+use Rattle.parts.specs.Parts.{Parting, partsRefusal, shown, partsOf}
+use Rattle.parts.proofs.Answers.{PartsPassed, parts-passes, parts-number, parts-shown, parts-refused}
+use Rattle.equal_parts.specs.Parting.{Parted, PartingContents}
+
+-- As many generators are in a run mode with the same settings.
+in-mode-same : (m n : Machine) → ticksOf m ≤ 256 → SameSettings m n → (r : ℕ) → inMode n r ≡ inMode m r
+unfolding inMode
+in-mode-same m n few s r =
+    rw (← (s .ticks)) (count-below-same (λ g. eqb (runModeAt n g) r) (λ g. eqb (runModeAt m g) r) (ticksOf m)
+    (λ g h. ap (λ (x : ℕ). eqb (x / 2 ^ 6) r) (sym (s .modes g (omega (arith, few))))))
+
+-- The generators that replace are those that read data.
+replacing-count : (m : Machine) → countBelow (settingsOf m .replacing) (ticksOf m) ≡ inMode m readData
+unfolding inMode
+replacing-count m = count-below-same (settingsOf m .replacing) (λ g. eqb (runModeAt m g) readData) (ticksOf m) (λ g h. replaces-is (runModeAt m g))
+
+module _ (m : Machine) (good : Good m) (o₁ o₂ : Order) (p₁ : OrderPasses (ticksOf m) o₁) (p₂ : OrderPasses (ticksOf m) o₂) (before : Items) (reads : inMode m readData ≤ length before) where
+  few : ticksOf m ≤ 256
+  few = sound-controls m (good .is-sound) .tHigh
+
+  abbrev point : ℕ
+  point = firstPoint (settingsOf m) o₁ o₂ .point
+
+  abbrev sounding : ℕ
+  sounding = firstPoint (settingsOf m) o₁ o₂ .sounding
+
+  -- The contents.
+  module _ (p s : ℕ) where
+    contents-same : SameRegisters m (contentsFor m p s)
+    contents-same =
+        subst (SameRegisters m) (contents-are m good p s)
+        (of-cond (SameRegisters m) (eqb p 1) (contents-1978 m good .triggering-like)
+        (of-cond (SameRegisters m) (eqb p 4) (contents-1978 m good .sounding-like s) (contents-1978 m good .sending-like)))
+
+    -- The items.
+    items-long : length (itemsFor m p s before) ≡ length before
+    unfolding itemsFor
+    items-long = filled-length 0 1 (inMode m readData) (itemFor p s) before
+
+    items-beyond : (i : ℕ) → inMode m readData ≤ i → getD (itemsFor m p s before) i 0 ≡ getD before i 0
+    unfolding itemsFor
+    items-beyond i h = filled-other 0 1 (inMode m readData) (itemFor p s) before i (λ k b e. omega arith)
+
+    items-has : HasItems (settingsOf m) (itemFor p s) (itemsFor m p s before)
+    unfolding itemsFor
+    items-has i h =
+        let low : i < inMode m readData = rw (replacing-count m) at h in
+        let place : 0 + 1 * i ≡ i = omega arith in
+        rw place at (filled-at 0 1 (inMode m readData) (itemFor p s) before i (lit< tt) low (omega (arith, low, reads)))
+
+  -- Passes from them run, and part.
+  module _ (fails : firstPoint (settingsOf m) o₁ o₂ .point ≢ 0) (places : Places) (memory : Memory) (room : inMode m writeData ≤ length places) (held : memoryGood memory ≡ true) where
+    abbrev n : Machine
+    n = contentsFor m point sounding
+
+    abbrev call : Call
+    call = record { order = o₁; items = itemsFor m point sounding before; places = places; memory = memory }
+
+    same : SameRegisters m (contentsFor m (firstPoint (settingsOf m) o₁ o₂ .point) (firstPoint (settingsOf m) o₁ o₂ .sounding))
+    same = contents-same point sounding
+
+    settings : SameSettings m n
+    settings = content-settings m n same
+
+    few-there : ticksOf n ≤ 256
+    few-there = rw (same .ticks) few
+
+    runs : (o : Order) → OrderPasses (ticksOf m) o → passRefusal n (by o call) ≡ 0
+    runs o p =
+        inactive-let n (same .good) few-there (same .inactive) o call (rw (same .ticks) p)
+        (rw (in-mode-same m n few settings readData, items-long point sounding) reads) (rw (in-mode-same m n few settings writeData) room) held
+
+    parted : Parted (passOf n (by o₁ call)) (passOf n (by o₂ call))
+    unfolding inMode
+    parted =
+        record {
+          first-runs = pass-number n (by o₁ call) ∙ runs o₁ p₁;
+          second-runs = pass-number n (by o₂ call) ∙ runs o₂ p₂;
+          apart = λ machine written.
+              let heard = same-heard of1978 n (same .good .whole) few-there call o₁ o₂ (rw (pass-let n o₁ call (runs o₁ p₁), pass-let n o₂ call (runs o₂ p₂)) at machine)
+              (rw (pass-let n o₁ call (runs o₁ p₁), pass-let n o₂ call (runs o₂ p₂)) at written) in
+              fails
+              (none-parted of1978 (settingsOf m) (SameRegisters m) (λ k r. follows m k (content-settings m k r) good (r .good)) (contents-1978 m good) o₁ o₂
+              (order-passes (ticksOf m) o₁ p₁) (order-passes (ticksOf m) o₂ p₂) (call .items) places room (items-has point sounding)
+              (subst⁻¹ (λ (k : Machine). SameHeard (takenIn of1978 k (call .items) places o₁) (takenIn of1978 k (call .items) places o₂)) (contents-are m good point sounding) heard));
+        }
+
+  parting : firstPoint (settingsOf m) o₁ o₂ .point ≢ 0
+      → PartingContents m o₁ o₂ before (contentsFor m (firstPoint (settingsOf m) o₁ o₂ .point) (firstPoint (settingsOf m) o₁ o₂ .sounding))
+      (itemsFor m (firstPoint (settingsOf m) o₁ o₂ .point) (firstPoint (settingsOf m) o₁ o₂ .sounding) before)
+  parting fails =
+      let same = contents-same point sounding in
+      record {
+        good = same .good;
+        settings = content-settings m _ same;
+        enough = rw (items-long point sounding) reads;
+        as-long = items-long point sounding;
+        beyond = items-beyond point sounding;
+        part = parted fails;
+      }
+
+module _ (m : Machine) (o₁ o₂ : Order) (contents : Machine) (items : Items) where
+  none : partsOf m o₁ o₂ contents items .number ≡ 0 → partsRefusal m o₁ o₂ contents items ≡ 0
+  none e = sym (parts-number m o₁ o₂ contents items) ∙ e
+
+  answer : partsOf m o₁ o₂ contents items .number ≡ 0 → partsOf m o₁ o₂ contents items ≡ shown m (firstPoint (settingsOf m) o₁ o₂) contents items
+  answer e = parts-shown m o₁ o₂ contents items (none e)
+
+  -- A call that is not refused names no point just where the orders are equal.
+  pub parts-says : partsOf m o₁ o₂ contents items .number ≡ 0 → (partsOf m o₁ o₂ contents items .point ≡ 0) ↔ Equal m o₁ o₂
+  parts-says e = (λ z. says .0 (agrees ∙ eq-eqb _ 0 (sym named ∙ z)), λ q. named ∙ eqb-true _ 0 (sym agrees ∙ says .1 q))
+    where
+      passed : PartsPassed m o₁ o₂ contents items
+      passed = parts-passes m o₁ o₂ contents items (none e)
+
+      named : partsOf m o₁ o₂ contents items .point ≡ firstPoint (settingsOf m) o₁ o₂ .point
+      named = ap (λ (r : Parting). r .point) (answer e)
+
+      agrees : compareOf m o₁ o₂ .equal ≡ eqb (firstPoint (settingsOf m) o₁ o₂ .point) 0
+      agrees = compare-agrees m o₁ o₂ (passed .compared) ∙ sym (first-agrees (settingsOf m) o₁ o₂)
+
+      says : (compareOf m o₁ o₂ .equal ≡ true) ↔ Equal m o₁ o₂
+      says = compare-says m o₁ o₂ (compare-number m o₁ o₂ ∙ passed .compared)
+
+  -- Where no point is named, as in a refusal, the run and the list stay.
+  pub none-shown : partsOf m o₁ o₂ contents items .point ≡ 0 → (partsOf m o₁ o₂ contents items .contents ≡ contents) × (partsOf m o₁ o₂ contents items .items ≡ items)
+  none-shown z = go (eqb (partsRefusal m o₁ o₂ contents items) 0) refl
+    where
+      go : (b : Bool) → eqb (partsRefusal m o₁ o₂ contents items) 0 ≡ b
+          → (partsOf m o₁ o₂ contents items .contents ≡ contents) × (partsOf m o₁ o₂ contents items .items ≡ items)
+      go true q =
+          let is = parts-shown m o₁ o₂ contents items (eqb-true _ 0 q) in
+          let zero : firstPoint (settingsOf m) o₁ o₂ .point ≡ 0 = sym (ap (λ (r : Parting). r .point) is) ∙ z in
+          (ap (λ (r : Parting). r .contents) is ∙ rw zero, ap (λ (r : Parting). r .items) is ∙ rw zero)
+      go false q =
+          let is = parts-refused m o₁ o₂ contents items (eqb-false _ 0 q) in
+          (ap (λ (r : Parting). r .contents) is, ap (λ (r : Parting). r .items) is)
+
+  -- Where a point is named, what the run and the list hold parts the orders.
+  pub contents-part : partsOf m o₁ o₂ contents items .number ≡ 0 → partsOf m o₁ o₂ contents items .point ≢ 0
+      → PartingContents m o₁ o₂ items (partsOf m o₁ o₂ contents items .contents) (partsOf m o₁ o₂ contents items .items)
+  contents-part e h =
+      let passed = parts-passes m o₁ o₂ contents items (none e) in
+      let asked = compare-passes m o₁ o₂ (passed .compared) in
+      let fails : firstPoint (settingsOf m) o₁ o₂ .point ≢ 0 = λ z. h (ap (λ (r : Parting). r .point) (answer e) ∙ z) in
+      rw (answer e, ne-eqb (firstPoint (settingsOf m) o₁ o₂ .point) 0 fails)
+      (parting m (record { whole = is-whole m o₁ (asked .machine); is-sound = is-sound m o₁ (asked .machine) }) o₁ o₂ (asked .first) (asked .second) items (passed .reads) fails)

@@ -1,0 +1,79 @@
+-- `order_sounding::adder_point` meets its contract: the test passes at the generators passed.
+-- Assumes nothing.
+use mathlib.Core.Path.{_≡_, sym, ap, _∙_}
+use Prim.Native.Nat.{_≤_, _-_}
+use native.Mathlib.Omega.{arith}
+use borrow.Author.Tests.{not-true, not-false}
+use Rattle.layout.specs.Machine.{ticksOf}
+use Rattle.order_lists.specs.Sequences.{firstFailing}
+use Rattle.order_lists.proofs.Loops.{failing-zero, failing-next, failing-here}
+use Rattle.order_points.specs.Loops.{Sides}
+use Rattle.order_sounding.specs.Loops.{adderOn}
+use Rattle.order_sounding.proofs.adder_point.Statement.{statement}
+use Rattle.order_sounding.proofs.adder_point.Tie as tie
+
+abbrev Inv-loop : tie.InvT-loop
+Inv-loop m place1 place2 w l t g₀ g = (g ≤ t) × (firstFailing (adderOn m (record { first = place1; second = place2 }) w l) g ≡ g)
+
+abbrev μ-loop : tie.MeasureT-loop
+μ-loop m place1 place2 w l t g₀ g = t - g
+
+ticks-requires : tie.Need-ticks-requires Inv-loop μ-loop
+ticks-requires c κs = c .before .pre .0 .reaches
+
+loop-holds : tie.Need-loop-holds Inv-loop μ-loop
+loop-holds c = (omega arith, failing-zero _)
+
+adder-same-requires : tie.Need-adder-same-requires Inv-loop μ-loop
+adder-same-requires c κs =
+    let z = c .before in
+    let b = z .before .before .before in
+    (b .pre .0 .reaches, (b .pre .1, omega (arith, z .before .ticks .ensures, b .pre .0 .ticks)))
+
+returns : tie.Need-returns Inv-loop μ-loop
+returns c =
+    let asked = c .before in
+    let z = asked .before .before in
+    let a = z .before .before .before .args in
+    let sides : Sides = record { first = a .place1 .now; second = a .place2 .now } in
+    sym (failing-here (adderOn (a .m .now) sides (a .w) (a .l)) (z .loop .g) (ticksOf (a .m .now)) (omega (arith, z .before .ticks .ensures)) (z .loop .inv .1)
+    (sym (asked .adder-same .ensures) ∙ not-true _ (c .if1 .taken)))
+
+add-g : tie.Need-add-g Inv-loop μ-loop
+add-g c = omega arith
+
+loop-less : tie.Need-loop-less Inv-loop μ-loop
+loop-less c = omega arith
+
+loop-again : tie.Need-loop-again Inv-loop μ-loop
+loop-again c =
+    let asked = c .before in
+    let z = asked .before .before in
+    let a = z .before .before .before .args in
+    let sides : Sides = record { first = a .place1 .now; second = a .place2 .now } in (
+      omega arith,
+      failing-next (adderOn (a .m .now) sides (a .w) (a .l)) (z .loop .g) (z .loop .inv .1) (sym (asked .adder-same .ensures) ∙ not-false _ (c .if1 .left)),
+    )
+
+returns-2 : tie.Need-returns-2 Inv-loop μ-loop
+returns-2 c =
+    let z = c .before in
+    let a = z .before .before .before .args in
+    let sides : Sides = record { first = a .place1 .now; second = a .place2 .now } in
+    let e : z .loop .g ≡ ticksOf (a .m .now) = omega (arith, z .before .ticks .ensures) in
+    sym (z .loop .inv .1) ∙ ap (firstFailing (adderOn (a .m .now) sides (a .w) (a .l))) e
+
+pub adder-point-spec : {M : Type 1} → statement M
+adder-point-spec =
+    tie.close
+    (tie.spec
+    Inv-loop
+    μ-loop
+    ticks-requires
+    loop-holds
+    adder-same-requires
+    returns
+    add-g
+    loop-less
+    loop-again
+    returns-2)

@@ -1,0 +1,11 @@
+-- The adding generators of a word as the code asks about them, by the places of the generators in two orders.
+-- Readers need only `soundingAt`, to which a law joins this. Assumes nothing.
+use Prim.Native.Nat.{ℕ}
+use mathlib.Core.Bool.{Bool, true, cond}
+use Rattle.layout.specs.Machine.{Machine}
+use Rattle.order_agreement.specs.Agreement.{settingsOf, addsToWord}
+use Rattle.order_points.specs.Loops.{Sides, sideBy}
+
+-- Whether g, if it adds to word w, stands on the same side of generator l in both orders.
+unfoldable pub adderOn : Machine → Sides → ℕ → ℕ → ℕ → Bool
+adderOn m sides w l g = cond (addsToWord (settingsOf m) w g) (sideBy sides l g) true

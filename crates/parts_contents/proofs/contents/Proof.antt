@@ -1,0 +1,59 @@
+-- `parts_contents::contents` meets its contract: the contents are chosen by the point.
+-- Assumes nothing.
+use borrow.Author.Needs.{needs}
+use borrow.Author.Tests.{eq-eqb, ne-eqb}
+use Rattle.order_contents.specs.Contents.{contentsFor}
+use Rattle.parts_contents.proofs.contents.Statement.{statement}
+use Rattle.parts_contents.proofs.contents.Tie as tie
+
+triggering-requires : tie.Need-triggering-requires
+triggering-requires c κs = search needs
+
+same-length : tie.Need-same-length
+same-length c = search needs
+
+returns : tie.Need-returns
+unfolding contentsFor
+returns c =
+    let done = c .before .before in
+    rw (eq-eqb _ 1 (done .before .before .if1 .taken)) (done .triggering .ensures)
+
+sounding-requires : tie.Need-sounding-requires
+sounding-requires c κs = search needs
+
+same-length-2 : tie.Need-same-length-2
+same-length-2 c = search needs
+
+returns-2 : tie.Need-returns-2
+unfolding contentsFor
+returns-2 c =
+    let done = c .before .before in
+    let chosen = done .before .before in
+    rw (ne-eqb _ 1 (chosen .before .if1 .left), eq-eqb _ 4 (chosen .if2 .taken)) (done .sounding .ensures)
+
+sending-requires : tie.Need-sending-requires
+sending-requires c κs = search needs
+
+same-length-3 : tie.Need-same-length-3
+same-length-3 c = search needs
+
+returns-3 : tie.Need-returns-3
+unfolding contentsFor
+returns-3 c =
+    let done = c .before .before in
+    let chosen = done .before .before in
+    rw (ne-eqb _ 1 (chosen .before .if1 .left), ne-eqb _ 4 (chosen .if2 .left)) (done .sending .ensures)
+
+pub contents-spec : {M : Type 1} → statement M
+contents-spec =
+    tie.close
+    (tie.spec
+    triggering-requires
+    same-length
+    returns
+    sounding-requires
+    same-length-2
+    returns-2
+    sending-requires
+    same-length-3
+    returns-3)

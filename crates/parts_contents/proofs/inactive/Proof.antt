@@ -1,0 +1,29 @@
+-- `parts_contents::inactive` meets its contract: a copy, with the modifiers' modes filled.
+-- Assumes nothing.
+use borrow.Author.Needs.{needs}
+use mathlib.Core.Path.{_≡_, ap, _∙_}
+use Rattle.order_contents.specs.Contents.{inactiveModifiers}
+use Rattle.parts_contents.proofs.inactive.Statement.{statement}
+use Rattle.parts_contents.proofs.inactive.Tie as tie
+
+copy-requires : tie.Need-copy-requires
+copy-requires c κs = search needs
+
+add-fill : tie.Need-add-fill
+add-fill c = search needs
+
+fill-requires : tie.Need-fill-requires
+fill-requires c κs = search needs
+
+same-length : tie.Need-same-length
+same-length c = search needs
+
+returns : tie.Need-returns
+unfolding inactiveModifiers
+returns c =
+    let filled = c .before .before in
+    let copied = filled .before .before .before .before in
+    rw (← (copied .copy .ensures)) (filled .fill .ensures)
+
+pub inactive-spec : {M : Type 1} → statement M
+inactive-spec = tie.close (tie.spec copy-requires add-fill fill-requires same-length returns)

@@ -1,0 +1,37 @@
+-- `parts_contents::items` meets its contract: they count where no generator is to sound, and are 0 elsewhere.
+-- Assumes nothing.
+use borrow.Author.Needs.{needs}
+use mathlib.Core.Path.{_∙_}
+use Rattle.parts_contents.proofs.Filling.{items-count, items-silent}
+use Rattle.parts_contents.proofs.items.Statement.{statement}
+use Rattle.parts_contents.proofs.items.Tie as tie
+
+number-requires : tie.Need-number-requires
+number-requires c κs = search needs
+
+same-length : tie.Need-same-length
+same-length c = search needs
+
+returns : tie.Need-returns
+returns c =
+    let numbered = c .before .before in
+    let chosen = numbered .before .before in
+    let a = chosen .before .before .args in
+    numbered .number .ensures ∙ items-count (a .point) (a .s) (a .n) (a .run .now) (chosen .if1 .taken)
+
+fill-requires : tie.Need-fill-requires
+fill-requires c κs = search needs
+
+same-length-2 : tie.Need-same-length-2
+same-length-2 c = search needs
+
+returns-2 : tie.Need-returns-2
+returns-2 c =
+    let filled = c .before .before in
+    let chosen = filled .before .before in
+    let a = chosen .before .before .args in
+    filled .fill .ensures ∙ items-silent (a .point) (a .s) (a .n) (a .run .now) (chosen .if1 .left)
+
+pub items-spec : {M : Type 1} → statement M
+items-spec =
+    tie.close (tie.spec number-requires same-length returns fill-requires same-length-2 returns-2)

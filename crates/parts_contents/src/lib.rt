@@ -1,0 +1,108 @@
+// Contents that show which point fails, written into a run of a machine's words and into a read list.
+ghost use mathlib.Core.Path.{_≡_};
+ghost use Prim.Native.Nat.{_≤_};
+ghost use lib.ListN.{length};
+ghost use Rattle.layout.specs.Layout.{machineLength, generators};
+ghost use Rattle.fills.specs.Fills.{filled};
+ghost use Rattle.order_contents.specs.Contents.{inactiveModifiers, triggeringContents, sendingContents, onesLast, soundingContents, contentsFor, itemFor};
+
+// The machine, with every modifier inactive.
+fn inactive(m: &[u32], run: &mut [u32])
+    requires { ⌜ (length (now m) ≡ machineLength) × (length (now run) ≡ machineLength) ⌝ }
+    ensures { λ _. ⌜ now (run .exit) ≡ inactiveModifiers (now (m .entry)) ⌝ }
+{
+    fills::copy(m, run);
+    fills::fill(
+        run,
+        layout::MODIFIERS_AT + layout::MMODE,
+        layout::MODIFIER_WORDS,
+        layout::MODIFIERS,
+        0,
+    );
+}
+
+// Every envelope that is on overflows.
+fn triggering(m: &[u32], run: &mut [u32])
+    requires { ⌜ (length (now m) ≡ machineLength) × (length (now run) ≡ machineLength) ⌝ }
+    ensures { λ _. ⌜ now (run .exit) ≡ triggeringContents (now (m .entry)) ⌝ }
+{
+    inactive(m, run);
+    fills::fill(
+        run,
+        layout::GP,
+        layout::GENERATOR_WORDS,
+        layout::GENERATORS,
+        1,
+    );
+    fills::fill(
+        run,
+        layout::GQ,
+        layout::GENERATOR_WORDS,
+        layout::GENERATORS,
+        layout::GQ_LIMIT - 1,
+    );
+}
+
+// The word at each GFM is that GFM.
+fn sending(m: &[u32], run: &mut [u32])
+    requires { ⌜ (length (now m) ≡ machineLength) × (length (now run) ≡ machineLength) ⌝ }
+    ensures { λ _. ⌜ now (run .exit) ≡ sendingContents (now (m .entry)) ⌝ }
+{
+    inactive(m, run);
+    fills::number(run, layout::GENERATOR_LAST_AT, layout::QUADRANT_WORDS, 0);
+    fills::number(run, layout::MODIFIER_LAST_AT, layout::QUADRANT_WORDS, 64);
+}
+
+// Every F is 1.
+fn ones(m: &[u32], run: &mut [u32])
+    requires { ⌜ (length (now m) ≡ machineLength) × (length (now run) ≡ machineLength) ⌝ }
+    ensures { λ _. ⌜ now (run .exit) ≡ onesLast (now (m .entry)) ⌝ }
+{
+    inactive(m, run);
+    fills::fill(run, layout::GENERATOR_LAST_AT, 1, layout::QUADRANT_WORDS, 1);
+    fills::fill(run, layout::MODIFIER_LAST_AT, 1, layout::QUADRANT_WORDS, 1);
+}
+
+// Generator s alone sounds; none does where s is no generator's number.
+fn sounding(m: &[u32], s: usize, run: &mut [u32])
+    requires { ⌜ (length (now m) ≡ machineLength) × (length (now run) ≡ machineLength) ⌝ }
+    ensures { λ _. ⌜ now (run .exit) ≡ soundingContents (now (m .entry)) s ⌝ }
+{
+    let step = layout::GENERATOR_WORDS;
+    let n = layout::GENERATORS;
+    ones(m, run);
+    parts_levels::levels(m, s, run);
+    fills::fill(run, layout::GQ, step, n, 0);
+    fills::fill(run, layout::GM, step, n, 0);
+    fills::fill(run, layout::GN, step, n, 1);
+    fills::fill(run, layout::GK, step, n, 128);
+    fills::fill(run, layout::GJ, step, n, 134217472);
+}
+
+// Contents with the settings of a machine that show where a point fails; generator s is to sound for the fourth.
+pub fn contents(m: &[u32], point: u32, s: usize, run: &mut [u32])
+    requires { ⌜ (length (now m) ≡ machineLength) × (length (now run) ≡ machineLength) ⌝ }
+    ensures { λ _. ⌜ now (run .exit) ≡ contentsFor (now (m .entry)) point s ⌝ }
+{
+    if point == 1 {
+        triggering(m, run);
+        return;
+    }
+    if point == 4 {
+        sounding(m, s, run);
+        return;
+    }
+    sending(m, run);
+}
+
+// The items that go with them, for n generators that read data.
+pub fn items(point: u32, s: usize, n: usize, run: &mut [u32])
+    requires { ⌜ (n ≤ length (now run)) × (n ≤ generators) ⌝ }
+    ensures { λ _. ⌜ now (run .exit) ≡ filled 0 1 n (itemFor point s) (now (run .entry)) ⌝ }
+{
+    if (point == 4) & (s == layout::GENERATORS) {
+        fills::number(run, 0, n, 0);
+        return;
+    }
+    fills::fill(run, 0, 1, n, 0);
+}

@@ -1,0 +1,50 @@
+-- `parts_levels::level` meets its contract: by whether the generator is to sound.
+-- Assumes nothing.
+use borrow.Author.Needs.{needs}
+use native.Mathlib.Omega.{arith}
+use Rattle.parts_levels.proofs.SilentLevels.{sounds-here, silent-here}
+use Rattle.parts_levels.proofs.level.Statement.{statement}
+use Rattle.parts_levels.proofs.level.Tie as tie
+
+mul-silent-level : tie.Need-mul-silent-level
+mul-silent-level c = search needs
+
+add-silent-level : tie.Need-add-silent-level
+add-silent-level c = search needs
+
+mul-silent-level-2 : tie.Need-mul-silent-level-2
+mul-silent-level-2 c = search needs
+
+shared-slice-read-silent-level : tie.Need-shared-slice-read-silent-level
+shared-slice-read-silent-level c = search needs
+
+silent-level-requires : tie.Need-silent-level-requires
+silent-level-requires c κs = search needs
+
+add-result : tie.Need-add-result
+add-result c = omega (arith, c .before .silent-level .ensures .1)
+
+returns : tie.Need-returns
+returns c =
+    let silent = c .before in
+    let a = silent .before .before .before .args in
+    sounds-here (a .m .now) (a .s) (a .g) (silent .silent-level .ensures .0) (c .if1 .taken)
+
+returns-2 : tie.Need-returns-2
+returns-2 c =
+    let silent = c .before in
+    let a = silent .before .before .before .args in
+    silent-here (a .m .now) (a .s) (a .g) (silent .silent-level .ensures .0) (silent .silent-level .ensures .1) (c .if1 .left)
+
+pub level-spec : {M : Type 1} → statement M
+level-spec =
+    tie.close
+    (tie.spec
+    mul-silent-level
+    add-silent-level
+    mul-silent-level-2
+    shared-slice-read-silent-level
+    silent-level-requires
+    add-result
+    returns
+    returns-2)
