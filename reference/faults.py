@@ -60,6 +60,16 @@ class Faults:
         self.count_not_asked = False
         self.reader_leaves_256 = False
         self.count_is_file_place = False
+        # What parts two orders.
+        self.last_point_named = False
+        self.highest_place_named = False
+        self.neighbour_named = False
+        self.written_places_from_1 = False
+        self.silent_contents = False
+        self.settings_below_t_alone = False
+        self.equal_orders_lend = False
+        self.lent_asked_if_unequal = False
+        self.short_list_taken = False
 
 
 faults = Faults()

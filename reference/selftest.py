@@ -6,11 +6,11 @@ Run from the repository root as: python3 -m reference.selftest
 import sys
 
 from reference.cases import (any_orders, benches, clipped, commands, comparisons, delays,
-                             examples, generators, modifiers, passes, questions)
+                             examples, generators, modifiers, parts, passes, questions)
 from reference.faults import NAMES, switched_on
 
-MODULES = (examples, generators, modifiers, passes, clipped, delays, questions, commands,
-           comparisons, any_orders, benches)
+MODULES = (examples, generators, modifiers, passes, clipped, questions, commands, comparisons,
+           any_orders, parts, delays, benches)
 GROUPS = [group for module in MODULES for group in module.GROUPS]
 
 
@@ -58,7 +58,7 @@ def report_faults():
 
 def main():
     """Runs everything; gives the exit status."""
-    total, bad = report(GROUPS + list(comparisons.TRIALS + any_orders.TRIALS))
+    total, bad = report(GROUPS + list(comparisons.TRIALS + any_orders.TRIALS + parts.TRIALS))
     faults, missed = report_faults()
     print(f"reference: {total + faults} checks, {bad + missed} failed")
     return 1 if bad or missed else 0

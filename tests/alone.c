@@ -10,6 +10,7 @@ void _start(void);
 void _start(void)
 {
     static uint32_t machine[KARVELORN_WORDS], memory[KARVELORN_MEMORY_WORDS], word;
+    static uint32_t contents[KARVELORN_WORDS], point, place;
     static size_t count;
     static uint8_t clipped[64];
     karvelorn_fresh(machine, KARVELORN_WORDS);
@@ -18,4 +19,5 @@ void _start(void)
     karvelorn_update(machine, KARVELORN_WORDS, 0, 0, &count);
     karvelorn_compare(machine, KARVELORN_WORDS, &word, 1, &word, 1, &word);
     karvelorn_any_order(machine, KARVELORN_WORDS, &word);
+    karvelorn_parts(machine, KARVELORN_WORDS, &word, 1, &word, 1, contents, KARVELORN_WORDS, 0, 0, &point, &place);
 }

@@ -19,7 +19,8 @@ from pass_requests import (BAD_ORDERS, damaged_machine, good_order, swapped, wal
 from reference import layout
 from reference.delay import units_in_time
 from reference.machine import put_update_ticks, run_pass
-from reference.orders import POINTS, compare, parting
+from reference.orders import compare
+from reference.parts import parting
 
 COMPARE, PASSES = range(2)
 CONTENTS = 12
@@ -191,12 +192,6 @@ def tried(request):
     same = one.memory == other.memory
     return Answer(max(one.number, other.number), 0, int(alike), int(same),
                   int(one.memory != words))
-
-
-def failing(request):
-    """The points that two good orders fail, by number from 1."""
-    return tuple(i for i, point in enumerate(POINTS, 1)
-                 if point(request.machine, request.first) != point(request.machine, request.second))
 
 
 def of_machine(chance, machine, number):

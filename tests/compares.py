@@ -19,10 +19,11 @@ from collections import Counter
 # First, since it makes the reference known.
 from library import Test, build, compared, counts, met_seldom, packed, read_arguments
 
-from compare_requests import COMPARE, Answer, all_requests, failing, tried
+from compare_requests import COMPARE, Answer, all_requests, tried
 from count_requests import OTHER_COUNT
 from reference import layout
 from reference.delay import units_refusal
+from reference.parts import failing
 
 COUNT, SEED = 20000, 1978
 HEAD, NUMBERS = struct.Struct("<7I"), struct.Struct("<5I")
@@ -86,7 +87,7 @@ def events(request, answer):
         return
     yield "yes" if answer.equal else "no", 1
     yield "a pass would be refused by 11 or 12", units_refusal(request.machine) != 0
-    points = failing(request)
+    points = failing(request.machine, request.first, request.second)
     if points:
         ending = " alone fails" if len(points) == 1 else " fail"
         yield "point " + " and ".join(map(str, points)) + ending, 1

@@ -4,8 +4,8 @@
  * places; the length of the delay memory, the number that it is made from and how many of its words are others), then
  * the words of the four runs, then those other words of the delay memory, each as its slot and the word.
  *
- * An answer is the number (32 bits), the counts read and written (64 bits each), the mark of each generator-this word (a
- * byte each, all 0 of a fresh machine), the words of the machine and of the places, then how many words of the delay
+ * An answer is the number (32 bits), the counts read and written (64 bits each), the mark of each generator-this word
+ * (a byte each, all 0 of a fresh machine), the words of the machine and of the places, then how many words of the delay
  * memory are not as they were (32 bits), and the first CHANGED of these by slot, each as its slot and the word; pairs
  * that are not needed are 0. Every word of the delay memory is looked at.
  */

@@ -6,7 +6,8 @@ from reference import layout
 from reference.cases.build import generator, machine, modifier
 from reference.machine import RANGES, put_update_ticks, run_pass
 from reference.modifier import FORMULAS
-from reference.orders import compare, parting
+from reference.orders import compare
+from reference.parts import parting
 
 
 def says(generators, first, second):
