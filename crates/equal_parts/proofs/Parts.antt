@@ -29,7 +29,7 @@ use Rattle.order_agreement.specs.Points.{firstPoint}
 use Rattle.order_agreement.proofs.FirstPoint.{first-agrees}
 use Rattle.order_contents.specs.Contents.{contentsFor, itemFor, itemsFor}
 use Rattle.compare.specs.Compare.{compareOf}
-use Rattle.compare.proofs.Answers.{ComparePassed, compare-passes, compare-number, compare-agrees}
+use Rattle.compare.proofs.Answers.{compare-passes, compare-number, compare-agrees}
 use Rattle.equal_endings.specs.Ends.{takenIn}
 use Rattle.equal_witnesses.specs.Contents.{HasItems, SameHeard}
 use Rattle.equal_witnesses.proofs.Points.{none-parted}

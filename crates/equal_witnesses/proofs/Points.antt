@@ -2,12 +2,12 @@
 -- so where a point fails its contents part the orders, and orders that leave the same from all contents agree.
 -- Assumes nothing.
 use mathlib.Core.Path.{_≡_, refl, sym, ap, ap₂, _∙_, subst}
-use mathlib.Core.Bool.{Bool, true, false, cond, not, _&&_, true≢false}
+use mathlib.Core.Bool.{Bool, true, false, cond, _&&_, true≢false}
 use mathlib.Core.List.{List, map}
 use Prim.Native.Nat.{ℕ, _+_, _^_, _≤_, _<_}
 use native.Mathlib.Omega.{arith}
 use native.Mathlib.Nat.{zero-add}
-use borrow.Author.Tests.{eqb-true, eqb-false, eq-eqb, ne-eqb, ltb-true, ltb-false}
+use borrow.Author.Tests.{eqb-true, eq-eqb, ne-eqb, ltb-true, ltb-false}
 use lib.Dec.{eqb, ltb}
 use lib.ListN.{length, getD, take, drop, length-map}
 use lib.Seq.{sets, sets-eq, take-at}
@@ -26,10 +26,10 @@ use Rattle.order_lists.specs.Sequences.{keep, lastOf, before, latest, firstFail
 use Rattle.order_lists.proofs.Failing.{failing-lowest, failing-nowhere}
 use Rattle.order_lists.proofs.Mapped.{map-tells}
 use Rattle.order_lists.proofs.Orders.{keep-below, length-keep}
-use Rattle.order_agreement.specs.Agreement.{Settings, replacesWord, addsToWord, lastReplacing, placeReplacing, afterReplacing, SameWord, Agreeing}
+use Rattle.order_agreement.specs.Agreement.{Settings, replacesWord, lastReplacing, placeReplacing, afterReplacing, SameWord, Agreeing}
 use Rattle.order_agreement.specs.Points.{Failing, neighbourSame, feederSame, writerSame, wordSame, adderSame, writersOf, soundingAt, firstPoint}
-use Rattle.order_agreement.proofs.Agreed.{on-condition, condition-met, neighbour-at, feeder-at, writer-at, word-at, NoneFails, none-agree}
-use Rattle.order_agreement.proofs.FirstPoint.{FailsAt, by-point}
+use Rattle.order_agreement.proofs.Agreed.{on-condition, condition-met, neighbour-at, feeder-at, writer-at, word-at, none-agree}
+use Rattle.order_agreement.proofs.FirstPoint.{by-point}
 use Rattle.order_contents.specs.Contents.{byPoint, itemFor}
 use Rattle.equal_endings.specs.Follows.{turnAt, pAt, sendsAt, Follows}
 use Rattle.equal_endings.specs.Ends.{toldIn, takenIn, wordAfter, StageEnds}

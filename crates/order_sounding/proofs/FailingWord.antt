@@ -2,11 +2,10 @@
 -- Assumes nothing.
 use mathlib.Core.Path.{_≡_, refl, sym, ap, _∙_}
 use mathlib.Core.Logic.{_≢_}
-use mathlib.Core.Bool.{Bool, true, false, cond, not, Bool·beq, true≢false}
+use mathlib.Core.Bool.{Bool, true, false, cond, true≢false}
 use Prim.Native.Nat.{ℕ, suc, _-_, _≤_, _<_}
 use native.Mathlib.Omega.{arith}
 use borrow.Author.Tests.{eq-eqb, ne-eqb}
-use lib.Dec.{eqb}
 use lib.ListN.{getD}
 use Rattle.layout.specs.Layout.{generators, quadrantWords}
 use Rattle.layout.specs.Machine.{Machine, Order, ticksOf}
@@ -14,10 +13,10 @@ use Rattle.order.specs.Order.{IsOrder}
 use Rattle.order_lists.specs.Sequences.{some, firstFailing}
 use Rattle.order_lists.proofs.Orders.{last-below}
 use Rattle.order_lists.proofs.Loops.{failing-same}
-use Rattle.order_agreement.specs.Agreement.{settingsOf, replacesWord, addsToWord, lastReplacing, placeReplacing}
+use Rattle.order_agreement.specs.Agreement.{settingsOf, replacesWord, lastReplacing, placeReplacing}
 use Rattle.order_agreement.specs.Points.{wordSame, adderSame, soundingAt}
 use Rattle.order_traces.specs.Traces.{Traceable, Replaced, traceOf}
-use Rattle.order_points.specs.Loops.{Sides, sidesOf, sideBy}
+use Rattle.order_points.specs.Loops.{Sides, sidesOf}
 use Rattle.order_points.proofs.Neighbours.{sides-held}
 use Rattle.order_points.proofs.ReplacedWords.{first-last, second-last, first-among, second-among}
 use Rattle.order_sounding.specs.Loops.{adderOn}

@@ -1,8 +1,8 @@
 -- `parts::parts` meets its contract: a refused call and one about equal orders write nothing, another the contents and items by the point.
 -- Assumes nothing.
 use borrow.Author.Needs.{needs}
-use mathlib.Core.Path.{_≡_, refl, sym, _∙_}
-use Rattle.parts.proofs.Answers.{Ready, is-ready, says-refused, says-equal, says-parted}
+use mathlib.Core.Path.{sym, _∙_}
+use Rattle.parts.proofs.Answers.{is-ready, says-refused, says-equal, says-parted}
 use Rattle.parts.proofs.parts.Statement.{statement}
 use Rattle.parts.proofs.parts.Tie as tie
 

@@ -1,7 +1,6 @@
 -- `parts_contents::inactive` meets its contract: a copy, with the modifiers' modes filled.
 -- Assumes nothing.
 use borrow.Author.Needs.{needs}
-use mathlib.Core.Path.{_≡_, ap, _∙_}
 use Rattle.order_contents.specs.Contents.{inactiveModifiers}
 use Rattle.parts_contents.proofs.inactive.Statement.{statement}
 use Rattle.parts_contents.proofs.inactive.Tie as tie

@@ -1,7 +1,6 @@
 -- `parts_levels::silent_level` meets its contract: by the envelope mode.
 -- Assumes nothing.
 use borrow.Author.Needs.{needs}
-use Prim.Native.Nat.{_^_}
 use lib.Dec.{lit<}
 use Rattle.parts_levels.proofs.SilentLevels.{linear-level}
 use Rattle.parts_levels.proofs.silent_level.Statement.{statement}
