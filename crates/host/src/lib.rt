@@ -64,9 +64,9 @@ pub extern "C" fn karvelorn_compare(
     ensures { λ r. ⌜ r ≡ compareOf (now (m .entry)) (now (first .entry)) (now (second .entry)) .number ⌝ }
     ensures { λ _. ⌜ now (equal .exit) ≡ cond (compareOf (now (m .entry)) (now (first .entry)) (now (second .entry)) .equal) 1 0 ⌝ }
 {
-    let told = compare::compare(m, first, second);
-    *equal = told.equal as u32;
-    told.number
+    let compared = compare::compare(m, first, second);
+    *equal = compared.equal as u32;
+    compared.number
 }
 
 // Whether every order leaves the same. The answer is the number of the refusing question or 0; alike gets 1 where every order does, else 0.

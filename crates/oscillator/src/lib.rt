@@ -94,8 +94,5 @@ pub fn sum_of_cosines(table: &Quarter, k: u32, gn: u32, gm: u32) -> SignMagnitud
     let below = sine::magnitude(table, k) << gm;
     let magnitude = capped(above / below);
     let sign = (sine::sign(index) + sine::sign(k)) % 2;
-    SignMagnitude {
-        sign,
-        magnitude,
-    }
+    SignMagnitude { sign, magnitude }
 }
