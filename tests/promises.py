@@ -1,6 +1,6 @@
 """Checks the sources for what the gate's proofs cannot tell: no call that users reach has a
-`requires`, each has its equation with its definition, none that the C host or the program `ring`
-calls is missing from the list, every other pub function has a promise with an equation, the named
+`requires`, each has its equation with its definition, none that the C host or the programs `ring` and `wav`
+call is missing from the list, every other pub function has a promise with an equation, the named
 forms stand, and the claims are those of tests/claims.txt, field by field.
 
     python3 tests/promises.py
@@ -22,6 +22,7 @@ REACHABLE = {
     ("any_order", "any_order"): "anyOrderOf",
     ("bench_file", "read"): "readOf",
     ("bench_gathering", "gather"): "gathered",
+    ("bench_wave", "wave"): "waveOf",
     ("bench_text", "refusal_line"): "refusalLine",
     ("host", "karvelorn_fresh"): "freshRun",
     ("host", "karvelorn_pass"): "passOf",
@@ -29,6 +30,9 @@ REACHABLE = {
     ("host", "karvelorn_compare"): "compareOf",
     ("host", "karvelorn_any_order"): "anyOrderOf",
 }
+
+# Calls that read and write: what a program reads or writes has no contract in the language.
+STREAMS = {("bench_streams", "read_all"), ("bench_streams", "refuse")}
 
 # The named forms: what it is, the crate, and a pattern that its source has.
 FORMS = (
@@ -71,11 +75,11 @@ def ensured(head):
 
 
 def reached():
-    """The calls that the C host exports and that the program `ring` makes."""
+    """The calls that the C host exports and that the programs `ring` and `wav` make."""
     exported = re.findall(r'pub extern "C" fn (\w+)', library_of("host"))
-    program = (CRATES / "ring" / "src" / "main.rt").read_text()
-    called = re.findall(r"\b(\w+)::([a-z]\w*)\(", program)
-    return {("host", name) for name in exported} | {(crate, name) for crate, name in called if (CRATES / crate).is_dir()}
+    programs = "".join((CRATES / name / "src" / "main.rt").read_text() for name in ("ring", "wav"))
+    called = re.findall(r"\b(\w+)::([a-z]\w*)\(", programs)
+    return {("host", name) for name in exported} | {(crate, name) for crate, name in called if (CRATES / crate).is_dir()} - STREAMS
 
 
 def fields(path, record):
@@ -107,7 +111,7 @@ def faults():
             yield f"{crate}::{name} has no equation with {definition}"
     for folder in sorted(CRATES.iterdir()):
         for name, head in contracts_of(folder.name):
-            if not any(sign in clause for clause in ensured(head) for sign in EQUATIONS):
+            if (folder.name, name) not in STREAMS and not any(sign in clause for clause in ensured(head) for sign in EQUATIONS):
                 yield f"{folder.name}::{name} has no equation"
     for what, crate, pattern in FORMS:
         if not re.search(pattern, library_of(crate)):

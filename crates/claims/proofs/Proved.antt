@@ -18,6 +18,8 @@ use Rattle.update_laws.proofs.Lengths.{command-length, update-length}
 use Rattle.equal_orders.proofs.Theorem.{demand-3, compare-says, refused-says-no}
 use Rattle.equal_orders.proofs.WorkedExamples.{worked-examples}
 use Rattle.equal_any_order.proofs.AnyOrder.{any-order-says, any-order-refused, one-order, orders-apart}
+use Rattle.wave_format.proofs.Samples.{sample-exact}
+use Rattle.bench_ringing.proofs.Printing.{printed-heard}
 use Rattle.bench_ringing.proofs.RungFile.{rung-file}
 use Rattle.bench_gathering.proofs.Gatherings.{gathered-file}
 use Rattle.claims.specs.Claims.{Claims}
@@ -52,4 +54,6 @@ claims =
       table-returns = table-returns;
       steps-are-output = rung-file;
       gathered-are-output = gathered-file;
+      printed-heard = printed-heard;
+      sample-exact = sample-exact;
     }

@@ -1,10 +1,10 @@
--- `refuse` meets its contract: the line of a refusal has room in its buffer.
+-- `bench_streams::refuse` meets its contract: the line of a refusal has room in its buffer.
 -- Assumes nothing.
 use mathlib.Core.Path.{refl}
-use Rattle.ring.proofs.Parts.{refusal-within}
+use Rattle.bench_streams.proofs.Parts.{refusal-within}
 use borrow.Author.Needs.{needs}
-use Rattle.ring.proofs.refuse.Statement.{statement}
-use Rattle.ring.proofs.refuse.Tie as tie
+use Rattle.bench_streams.proofs.refuse.Statement.{statement}
+use Rattle.bench_streams.proofs.refuse.Tie as tie
 
 refusal-line-requires : tie.Need-refusal-line-requires
 refusal-line-requires c κs = search needs

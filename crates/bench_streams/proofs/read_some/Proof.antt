@@ -1,9 +1,9 @@
--- `read_some` meets its contract: what was read lies within the buffer.
+-- `bench_streams::read_some` meets its contract: what was read lies within the buffer.
 -- Assumes nothing.
-use Rattle.ring.proofs.Parts.{bytes-within, failed-within}
+use Rattle.bench_streams.proofs.Parts.{bytes-within, failed-within}
 use borrow.Author.Needs.{needs}
-use Rattle.ring.proofs.read_some.Statement.{statement}
-use Rattle.ring.proofs.read_some.Tie as tie
+use Rattle.bench_streams.proofs.read_some.Statement.{statement}
+use Rattle.bench_streams.proofs.read_some.Tie as tie
 
 read-requires : tie.Need-read-requires
 read-requires c κs = search needs

@@ -1,13 +1,13 @@
--- `read_all` meets its contract: each turn reads at least a byte, and what was read lies within the buffer.
+-- `bench_streams::read_all` meets its contract: each turn reads at least a byte, and what was read lies within the buffer.
 -- Assumes nothing.
 use mathlib.Core.Path.{_≡_, _∙_}
 use Prim.Native.Nat.{_≤_, _-_}
 use native.Mathlib.Omega.{arith}
 use lib.ListN.{length}
 use borrow.Author.Needs.{needs}
-use Rattle.ring.proofs.Parts.{bytes-within, failed-within, more-within}
-use Rattle.ring.proofs.read_all.Statement.{statement}
-use Rattle.ring.proofs.read_all.Tie as tie
+use Rattle.bench_streams.proofs.Parts.{bytes-within, failed-within, more-within}
+use Rattle.bench_streams.proofs.read_all.Statement.{statement}
+use Rattle.bench_streams.proofs.read_all.Tie as tie
 
 abbrev Inv-loop : tie.InvT-loop
 Inv-loop buffer₀ n₀ buffer n = (length buffer ≡ length buffer₀) × (n ≤ length buffer)
