@@ -76,10 +76,10 @@ EXAMPLE_PRINTED = b"pass=1 left=0 right=0\npass=2 left=131040 right=0\n"
 def shown():
     """The example of the scope, printed as it stands there, the bell and the belfry."""
     yield known("the example of the scope", EXAMPLE, EXAMPLE_PRINTED)
-    for name in ("bell", "belfry"):
+    for name in ("short_bell", "belfry"):
         with open(os.path.join(ROOT, "examples", name + ".txt"), "rb") as example:
-            made = file(f"the {name}", example.read())
-        assert name == "bell" or echo_lines(made.printed) > 200, "the belfry has no echo"
+            made = file(f"examples/{name}", example.read())
+        assert name == "short_bell" or echo_lines(made.printed) > 200, "the belfry has no echo"
         yield made
 
 

@@ -1,6 +1,6 @@
 """Writes the bench file of a small bell: five partials, a strike that is triggered, and a clapper made by modifiers.
 
-    python3 examples/bell.py > examples/bell.txt
+    python3 examples/short_bell.py > examples/short_bell.txt
 
 Each line of a bench file is `word=PLACE:VALUE` or `command=XXXXXXXX`; this script names what they are.
 """
