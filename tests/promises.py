@@ -24,11 +24,11 @@ REACHABLE = {
     ("bench_gathering", "gather"): "gathered",
     ("bench_wave", "wave"): "waveOf",
     ("bench_text", "refusal_line"): "refusalLine",
-    ("host", "karvelorn_fresh"): "freshRun",
-    ("host", "karvelorn_pass"): "passOf",
-    ("host", "karvelorn_update"): "updateOf",
-    ("host", "karvelorn_compare"): "compareOf",
-    ("host", "karvelorn_any_order"): "anyOrderOf",
+    ("karvelorn", "karvelorn_fresh"): "freshRun",
+    ("karvelorn", "karvelorn_pass"): "passOf",
+    ("karvelorn", "karvelorn_update"): "updateOf",
+    ("karvelorn", "karvelorn_compare"): "compareOf",
+    ("karvelorn", "karvelorn_any_order"): "anyOrderOf",
 }
 
 # Calls that read and write: what a program reads or writes has no contract in the language.
@@ -43,9 +43,9 @@ FORMS = (
     ("a tail at the count taken", "update", r"&commands\[taken\.\.\]"),
     ("sum memory as four arrays of 64", "sums", r"= \[u32; layout::QUADRANT_WORDS\];\s*pub type Sums = \[Quadrant; layout::QUADRANTS\];"),
     ("sum memory by value in a pass", "pass", r"let mut s = sums::load\("),
-    ("pass for C", "host", r'pub extern "C" fn karvelorn_pass\('),
-    ("update for C", "host", r'pub extern "C" fn karvelorn_update\('),
-    ("compare for C", "host", r'pub extern "C" fn karvelorn_compare\('),
+    ("pass for C", "karvelorn", r'pub extern "C" fn karvelorn_pass\('),
+    ("update for C", "karvelorn", r'pub extern "C" fn karvelorn_update\('),
+    ("compare for C", "karvelorn", r'pub extern "C" fn karvelorn_compare\('),
     ("16 rows of switches", "modes", r"pub type Rows = \[\[u8; 4\]; 16\];[^;]*const SWITCHES: Rows ="),
     ("sweep takes self and gives it back", "generator", r"pub fn sweep\(mut self\) -> Generator"),
     ("turn takes self and gives it back", "generator", r"pub fn turn\(mut self, [^)]*\) -> Generator"),
@@ -76,10 +76,10 @@ def ensured(head):
 
 def reached():
     """The calls that the C host exports and that the programs `ring` and `wav` make."""
-    exported = re.findall(r'pub extern "C" fn (\w+)', library_of("host"))
+    exported = re.findall(r'pub extern "C" fn (\w+)', library_of("karvelorn"))
     programs = "".join((CRATES / name / "src" / "main.rt").read_text() for name in ("ring", "wav"))
     called = re.findall(r"\b(\w+)::([a-z]\w*)\(", programs)
-    return {("host", name) for name in exported} | {(crate, name) for crate, name in called if (CRATES / crate).is_dir()} - STREAMS
+    return {("karvelorn", name) for name in exported} | {(crate, name) for crate, name in called if (CRATES / crate).is_dir()} - STREAMS
 
 
 def fields(path, record):

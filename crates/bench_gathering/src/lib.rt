@@ -100,7 +100,16 @@ fn gather_by(
             return here;
         }
         let next = step_into(
-            output, here, m, commands, memory, order, number, out, sine, decay,
+            output,
+            here,
+            m,
+            commands,
+            memory,
+            order,
+            number,
+            out,
+            sine,
+            decay,
         );
         let took = next.taken != here.taken;
         number = bench_ringing::next_number(m, memory, number, took);

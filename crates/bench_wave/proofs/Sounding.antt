@@ -140,7 +140,7 @@ behind-header out r {size} {part} {next} h es ep en =
       es ∙ ap (λ (s : Step). length (s .bytes)) bytes-are,
       (
         ap (λ (l : List ℕ). take headerBytes out ++ (l ++ drop (length out - headerBytes) (drop headerBytes out))) (ep ∙ ap (λ (s : Step). sets lent 0 (s .bytes)) bytes-are)
-        ∙ part-back out (gathered Frames (length out - headerBytes) r .bytes) headerBytes h,
+            ∙ part-back out (gathered Frames (length out - headerBytes) r .bytes) headerBytes h,
         ap (λ (x : Ringing). x .number) en ∙ ap (λ (s : Step). s .next .number) bytes-are,
       ),
     )

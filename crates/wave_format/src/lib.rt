@@ -7,6 +7,7 @@ ghost use Rattle.wave_format.specs.WaveFormat.{littleEndian, frame, fram
 
 // How many bytes a frame and the header have.
 pub const FRAME_BYTES: usize = 6;
+
 pub const HEADER_BYTES: usize = 44;
 
 // The low k bytes of x, the lowest first. k falls at each call, as in the definition.

@@ -1,10 +1,10 @@
--- `host::karvelorn_update` meets its contract.
+-- `karvelorn::karvelorn_update` meets its contract.
 -- Assumes nothing.
 use borrow.Author.Needs.{needs}
 use native.Mathlib.Omega.{arith}
 use Rattle.update.proofs.Updating.{left-within, count-is, tail-of}
-use Rattle.host.proofs.karvelorn_update.Statement.{statement}
-use Rattle.host.proofs.karvelorn_update.Tie as tie
+use Rattle.karvelorn.proofs.karvelorn_update.Statement.{statement}
+use Rattle.karvelorn.proofs.karvelorn_update.Tie as tie
 
 update-requires : tie.Need-update-requires
 update-requires c κs = search needs

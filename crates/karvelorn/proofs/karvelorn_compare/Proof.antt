@@ -1,4 +1,4 @@
--- `host::karvelorn_compare` meets its contract: the answer is compare's, and a truth value becomes 1 or 0.
+-- `karvelorn::karvelorn_compare` meets its contract: the answer is compare's, and a truth value becomes 1 or 0.
 -- Assumes nothing.
 use mathlib.Core.Path.{_≡_, refl, ap, _∙_}
 use mathlib.Core.Bool.{Bool, true, false, cond}
@@ -6,8 +6,8 @@ use Prim.Native.Nat.{ℕ}
 use mir.Val.{boolByte}
 use borrow.Author.Needs.{needs}
 use Rattle.compare.specs.Compare.{Comparison}
-use Rattle.host.proofs.karvelorn_compare.Statement.{statement}
-use Rattle.host.proofs.karvelorn_compare.Tie as tie
+use Rattle.karvelorn.proofs.karvelorn_compare.Statement.{statement}
+use Rattle.karvelorn.proofs.karvelorn_compare.Tie as tie
 
 number : (b : Bool) → boolByte b ≡ cond b 1 0
 number true = refl

@@ -1,8 +1,8 @@
--- `host::karvelorn_pass` meets its contract: it hands on what the pass answers.
+-- `karvelorn::karvelorn_pass` meets its contract: it hands on what the pass answers.
 -- Assumes nothing.
 use borrow.Author.Needs.{needs}
-use Rattle.host.proofs.karvelorn_pass.Statement.{statement}
-use Rattle.host.proofs.karvelorn_pass.Tie as tie
+use Rattle.karvelorn.proofs.karvelorn_pass.Statement.{statement}
+use Rattle.karvelorn.proofs.karvelorn_pass.Tie as tie
 
 pass-requires : tie.Need-pass-requires
 pass-requires c κs = search needs

@@ -1,4 +1,4 @@
--- `host::karvelorn_any_order` meets its contract: the answer is any_order's, and a truth value becomes 1 or 0.
+-- `karvelorn::karvelorn_any_order` meets its contract: the answer is any_order's, and a truth value becomes 1 or 0.
 -- Assumes nothing.
 use mathlib.Core.Path.{_≡_, refl, ap, _∙_}
 use mathlib.Core.Bool.{Bool, true, false, cond}
@@ -6,8 +6,8 @@ use Prim.Native.Nat.{ℕ}
 use mir.Val.{boolByte}
 use borrow.Author.Needs.{needs}
 use Rattle.any_order.specs.AnyOrder.{Answer}
-use Rattle.host.proofs.karvelorn_any_order.Statement.{statement}
-use Rattle.host.proofs.karvelorn_any_order.Tie as tie
+use Rattle.karvelorn.proofs.karvelorn_any_order.Statement.{statement}
+use Rattle.karvelorn.proofs.karvelorn_any_order.Tie as tie
 
 number : (b : Bool) → boolByte b ≡ cond b 1 0
 number true = refl
