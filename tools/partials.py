@@ -28,6 +28,7 @@ FULL = 4095 * 4093 / 64  # the peak of a generator at its loudest
 RANGE = 2 ** 19 - 1  # the most that a DAC word holds
 HALVING = 20 * math.log10(2)  # a halving in dB; the envelope halves for each 2^20 of GQ
 CENTS, LEVEL, DECAY = 1.0, 0.5, 0.05  # what counts as reached: within so many cents, dB, and so much of the decay
+QUIET = 200  # levels are within so many dB
 QUIETEST = 16  # a peak below which rounding to whole numbers changes the decay by more than that
 MASKED = 0.035  # a quieter partial is masked where the lines of louder ones may reach so much of its peak: then its decay may be off by 5 %
 STEPS = 256  # so many steps of the envelope make a halving: the size of the exponential's table
@@ -65,13 +66,14 @@ class Row:
         return self.hz == 0
 
 
-def number(text, what, line, least):
+def number(text, what, line, least, most=math.inf):
+    """A number of the table, above the least and below the most."""
     try:
         value = float(text)
     except ValueError:
         raise Wrong(f"line {line}: {what} is not a number: {text!r}") from None
-    if not math.isfinite(value) or value <= least:
-        raise Wrong(f"line {line}: {what} must be above {least:g}: {text}" if least > -math.inf else f"line {line}: {what} is not a number: {text!r}")
+    if not least < value < most:
+        raise Wrong(f"line {line}: {what} must be above {least:g}{'' if most == math.inf else f' and below {most:g}'}: {text}")
     return value
 
 
@@ -94,7 +96,7 @@ def read_table(path):
             raise Wrong(f"line {line}: a name that is empty or was there before: {name!r}")
         if channel not in ("left", "right", "both"):
             raise Wrong(f"line {line}: the channel must be left, right or both: {channel!r}")
-        rows.append(Row(name, 0.0 if hz == "noise" else number(hz, "the frequency", line, 0), number(db, "the level", line, -math.inf), number(t60, "the decay", line, 0), channel, line))
+        rows.append(Row(name, 0.0 if hz == "noise" else number(hz, "the frequency", line, 0), number(db, "the level", line, -QUIET, QUIET), number(t60, "the decay", line, 0), channel, line))
     if not rows:
         raise Wrong("the table has no partial")
     if sum(row.noise for row in rows) > 1:
@@ -122,7 +124,7 @@ def envelope(gq):
 def set_registers(row, rate, gain):
     """GJ, GM, GP and GQ that come nearest to a row."""
     peak = FULL * 10 ** ((row.db + gain) / 20)
-    row.gp = round(60 / HALVING * 2 ** 20 / (rate * row.t60))
+    row.gp = round(min(60 / HALVING * 2 ** 20 / (rate * row.t60), 2 ** 19 - 1))
     if row.noise:
         level = peak / 128  # peaks of noise times envelope: 4 * 32 * V
     else:
@@ -303,8 +305,17 @@ def make(table, passes=MOST_PASSES, rate=None, seconds=None, gain=None):
         raise Wrong(f"a file has 0 to {MOST_PASSES} passes: {passes}")
     n = ticks(rate, seconds, passes)
     gain = fit(rows, 1 / (TICK * n), gain)
+    if sum_of_peaks(rows) == 0:
+        raise Wrong("nothing would be heard: every partial is too quiet")
     text = bench_text(lay_out(rows, n), passes)
     return text, list(report(rows, n, passes, gain)), rows, n, gain
+
+
+def finite(text):
+    """A number on the command line."""
+    if not abs(float(text)) < 1e9:
+        raise ValueError
+    return float(text)
 
 
 def main():
@@ -312,9 +323,8 @@ def main():
     parser.add_argument("table")
     parser.add_argument("-o", dest="file", required=True)
     parser.add_argument("--passes", type=int, default=MOST_PASSES)
-    parser.add_argument("--rate", type=float)
-    parser.add_argument("--seconds", type=float)
-    parser.add_argument("--gain", type=float)
+    for option in ("--rate", "--seconds", "--gain"):
+        parser.add_argument(option, type=finite)
     asked = parser.parse_args()
     try:
         text, lines, _, _, _ = make(asked.table, asked.passes, asked.rate, asked.seconds, asked.gain)

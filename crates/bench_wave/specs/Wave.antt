@@ -1,6 +1,6 @@
 -- What program wav writes for every text: a RIFF/WAVE file of what is heard, or a refusal.
 -- Assumes nothing.
-use Prim.Native.Nat.{ℕ}
+use Prim.Native.Nat.{ℕ, _+_, _*_}
 use mathlib.Core.Bool.{cond}
 use mathlib.Core.List.{List, [], _∷_, _++_}
 use lib.Dec.{eqb}
@@ -9,8 +9,9 @@ use Rattle.layout.specs.Layout.{nAt}
 use Rattle.layout.specs.Machine.{Machine}
 use Rattle.questions.specs.Questions.{asked}
 use Rattle.machine.specs.Questions.{question1, question2}
-use Rattle.wave_format.specs.WaveFormat.{rateOf, header}
-use Rattle.bench_text.specs.Text.{refusalLine}
+use Rattle.wave_format.specs.WaveFormat.{frameBytes, rateOf, header, headerBytes}
+use Rattle.bench_text.specs.Text.{lineBytes, refusalLine}
+use Rattle.bench_lines.specs.Lines.{mostPasses}
 use Rattle.bench_file.specs.BenchFile.{Reading, fileOf, isBenchFile}
 use Rattle.bench_ringing.specs.Ringing.{memoryAtFirst}
 use Rattle.bench_ringing.specs.Heard.{Heard, heardRefused, heard, framesOf}
@@ -41,6 +42,6 @@ waveOf text =
     let h = heardText text in
     record { output = waveFile (getD (fileOf text .machine) nAt 0) h; error = cond (eqb (h .number) 0) [] (refusalLine (h .number)) }
 
--- The room for the longest file, and for a line behind it.
+-- The room for the longest file: its header, a frame of each pass, and what a step asks to be free.
 abbrev pub waveRoom : ℕ
-waveRoom = 393318
+waveRoom = headerBytes + frameBytes * mostPasses + lineBytes

@@ -17,7 +17,7 @@ ghost use Rattle.bench_wave.specs.Wave.{heardText, waveFile, waveOf};
 use bench_ringing::Output;
 use bench_ringing::Progress;
 
-// The room for the longest file, and for a line behind it.
+// The room for the longest file: 44 bytes of header, 6 for each of 65,535 passes, and 64 that a step asks to be free.
 pub const WAVE_ROOM: usize = 393318;
 
 // What was made of a text: the number of its refusal or 0, and the length of its file.
