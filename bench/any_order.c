@@ -79,7 +79,7 @@ static void make_generator(uint32_t *g, uint32_t run, uint32_t words, uint32_t s
 /* Any modes; here and there a reader. */
 static void make_machine(uint32_t *m, uint32_t t, uint32_t words, uint32_t sources) {
     karvelorn_fresh(m, KARVELORN_WORDS);
-    m[T] = t;
+    set_ticks(m, t);
     for (uint32_t i = 0; i < 256; i++)
         make_generator(m + GENERATOR_WORDS * i, draw(3) ? runs[draw(4)] : READ_DATA, words, sources);
 }
@@ -88,7 +88,7 @@ static void make_machine(uint32_t *m, uint32_t t, uint32_t words, uint32_t sourc
 static void make_holding(uint32_t *m, uint32_t t) {
     uint32_t lower = 0;
     karvelorn_fresh(m, KARVELORN_WORDS);
-    m[T] = t;
+    set_ticks(m, t);
     for (uint32_t i = 0; i < t; i++) {
         uint32_t *g = m + GENERATOR_WORDS * i, run = i == t - 1 ? READ_DATA : runs[draw(4)];
         if (run == WAIT && (lower == RUNNING_B || lower == RUNNING_C)) run = RUNNING_A;

@@ -95,7 +95,7 @@ static const uint32_t runs[16] = {RUNNING_A, RUNNING_B, RUNNING_C, WAIT,      RU
 /* Generators in all run modes, on `words` sum words, through `sources` GFMs. */
 static void make_machine(uint32_t *m, uint32_t t, uint32_t words, uint32_t sources) {
     karvelorn_fresh(m, KARVELORN_WORDS);
-    m[T] = t;
+    set_ticks(m, t);
     for (uint32_t i = 0; i < t; i++) {
         uint32_t *g = m + GENERATOR_WORDS * i;
         g[GO] = draw(20);

@@ -9,7 +9,7 @@
 
 enum { GO, GJ, GK, GN, GM, GP, GQ, GL, GSUM, GFM, GMODE, WORDS };
 
-static uint16_t quarter[2048], entries[256];
+static uint16_t quarter[2048], entries[1024];
 static const uint8_t switches[16][4] = {
     [7] = {0, 1, 0, 2}, [9] = {1, 0, 0, 0}, [13] = {1, 1, 1, 1}, [14] = {1, 1, 1, 1}, [15] = {1, 1, 0, 1},
 };
@@ -17,7 +17,7 @@ static const uint8_t switches[16][4] = {
 /* The tables come from a file that the benchmark makes with the reference. */
 static void load_tables(const char *path) {
     FILE *f = fopen(path, "rb");
-    if (!f || fread(quarter, 2, 2048, f) != 2048 || fread(entries, 2, 256, f) != 256) {
+    if (!f || fread(quarter, 2, 2048, f) != 2048 || fread(entries, 2, 1024, f) != 1024) {
         fprintf(stderr, "leaves: cannot read the tables\n");
         exit(1);
     }
@@ -48,10 +48,17 @@ static uint32_t sound(uint32_t *g, const uint8_t *on, uint32_t f, int *triggers)
     } else if (mode == 2) {
         negative = k >= 4096;
         w = 2048;
-    } else {
+    } else if (mode == 3) {
         w = leaves20(high, f) || (on[0] && leaves20(gk, j)) ? 2048 : 0;
+    } else {
+        uint32_t s = 2 * LOW(k * g[GN], 12), i = s & 2047, l = k & 2047;
+        uint32_t above = 4095u * quarter[s & 2048 ? 2047 - i : i];
+        uint32_t below = (uint32_t)quarter[k & 2048 ? 2047 - l : l] << g[GM];
+        w = above / below;
+        if (w > 4095) w = 4095;
+        negative = (s >= 4096) != (k >= 4096);
     }
-    uint32_t h = g[GQ] >> 12, q = env >= 2 ? (uint32_t)entries[h & 255] >> (h >> 8) : h;
+    uint32_t x = g[GQ] >> 10, q = env >= 2 ? (uint32_t)entries[x & 1023] >> (x >> 10) : g[GQ] >> 12;
     uint32_t v = LOW(env & 1 ? g[GL] + q : g[GL] - q, 12);
     uint32_t p = (w * v + 32) / 64;
     if (on[0]) {

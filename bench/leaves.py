@@ -18,19 +18,20 @@ PLAIN = {"-O2": "target/bench/leaves_O2", "-O3": "target/bench/leaves_O3"}
 RUNS = 61
 SEED = 1978
 GENERATORS = 256
-# The job's name in C, its number in Rattle, what is measured, how often, and how many of them that makes.
+SINE, SUM_OF_COSINES = (0b0000, 0b1000), (0b0100,)
+# The job's name in C, its number in Rattle, what is measured, the oscillator modes, how often, and how many of them that makes.
 JOBS = (
-    ("generators", 0, "generator's turn", 30_000, GENERATORS),
-    ("products", 1, "product", 10_000_000, 1),
+    ("generators", 0, "generator's turn", SINE, 30_000, GENERATORS),
+    ("generators", 0, "generator's turn in 0100", SUM_OF_COSINES, 15_000, GENERATORS),
+    ("products", 1, "product", SINE, 10_000_000, 1),
 )
 RUN_MODES = (0b1111,) * 9 + (0b1110,) * 9 + (0b0111, 0b0000)
-OSCILLATOR_MODES = (0b0000, 0b1000)
 
 
-def generator(chance):
+def generator(chance, modes):
     """The eleven words of a generator that sounds, most often: GO, GJ .. GMODE."""
     words = [chance.getrandbits(width) for width in (20, 28, 20, 11, 4, 20, 24, 12, 6, 7)]
-    gmode = chance.choice(RUN_MODES) << 6 | chance.getrandbits(2) << 4 | chance.choice(OSCILLATOR_MODES)
+    gmode = chance.choice(RUN_MODES) << 6 | chance.getrandbits(2) << 4 | chance.choice(modes)
     return words + [gmode]
 
 
@@ -47,8 +48,10 @@ def timed(command, given):
     return printed, spent() - before
 
 
-def measure(job, number, what, count, each, words):
+def measure(job, number, what, modes, count, each):
     """The programs by turns; prints the line of a job, and says whether their checksums agree."""
+    chance = random.Random(SEED)
+    words = [word for _ in range(GENERATORS) for word in generator(chance, modes)]
     body = struct.pack("<%dI" % len(words), *words)
     commands = [([RATTLE], struct.pack("<2I", number, count) + body)]
     commands += [([program, TABLES, job, str(count)], body) for program in PLAIN.values()]
@@ -71,10 +74,8 @@ def measure(job, number, what, count, each, words):
 
 def main():
     with open(TABLES, "wb") as tables:
-        tables.write(struct.pack("<2304H", *SINE, *EXPONENTIAL))
-    chance = random.Random(SEED)
-    words = [word for _ in range(GENERATORS) for word in generator(chance)]
-    agree = [measure(*job, words) for job in JOBS]
+        tables.write(struct.pack("<3072H", *SINE, *EXPONENTIAL))
+    agree = [measure(*job) for job in JOBS]
     sys.exit(0 if all(agree) else 1)
 
 

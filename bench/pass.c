@@ -81,7 +81,7 @@ static uint32_t output(const uint32_t *g, int turning, uint32_t f, uint32_t j) {
         w = leaves20(g[GJ] >> 8, f) || (turning && leaves20(g[GK], j)) ? 2048 : 0;
         negative = 0;
     }
-    uint32_t h = g[GQ] >> 12, q = env >= 2 ? (uint32_t)entries[h & 255] >> (h >> 8) : h;
+    uint32_t x = g[GQ] >> 10, q = env >= 2 ? (uint32_t)entries[x & 1023] >> (x >> 10) : g[GQ] >> 12;
     uint32_t v = LOW(env & 1 ? g[GL] + q : g[GL] - q, 12);
     uint32_t p = (w * v + 32) / 64;
     return LOW(negative ? 0u - p : p, 20);
@@ -101,10 +101,16 @@ static int decay(uint32_t *g, int is_free) {
     return over;
 }
 
+/* A signed sum of 20 bits; the mark is set where it leaves its range. */
+static uint32_t add_marked(uint32_t a, uint32_t b, uint8_t *mark) {
+    *mark |= (uint8_t)leaves20(a, b);
+    return LOW(a + b, 20);
+}
+
 static void set_run_mode(uint32_t *g, uint32_t run) { g[GMODE] = run << 6 | LOW(g[GMODE], 6); }
 
 static void generators(uint32_t *m, uint32_t s[4][64], const uint32_t *order, const uint32_t *items, uint32_t *places,
-                       size_t *read, size_t *written) {
+                       size_t *read, size_t *written, uint8_t *clipped) {
     uint8_t triggered[257] = {0}; /* at g+1 */
     size_t reads = 0, writes = 0;
     uint32_t t = m[T];
@@ -114,7 +120,7 @@ static void generators(uint32_t *m, uint32_t s[4][64], const uint32_t *order, co
         uint32_t f = s[g[GFM] >> 6 ? MODIFIER_LAST : GENERATOR_LAST][g[GFM] & 63], j = LOW((g[GJ] >> 8) + f, 20);
         if (run >= RUNNING_C) {
             uint32_t *sum = &s[GENERATOR_THIS][g[GSUM]];
-            *sum = LOW(*sum + output(g, 1, f, j), 20);
+            *sum = add_marked(*sum, output(g, 1, f, j), &clipped[g[GSUM]]);
             turn(g, j);
             if (decay(g, run != RUNNING_A) && run != RUNNING_A) {
                 triggered[n + 1] = 1;
@@ -124,7 +130,7 @@ static void generators(uint32_t *m, uint32_t s[4][64], const uint32_t *order, co
             turn(g, j);
             if (triggered[n]) set_run_mode(g, RUNNING_C);
         } else if (run == READ_DATA) {
-            s[GENERATOR_THIS][g[GSUM]] = LOW(output(g, 0, f, j) + items[reads++], 20);
+            s[GENERATOR_THIS][g[GSUM]] = add_marked(output(g, 0, f, j), LOW(items[reads++], 20), &clipped[g[GSUM]]);
             decay(g, 0);
         } else if (run == WRITE_DATA) {
             places[writes++] = f;
@@ -256,7 +262,7 @@ static void modifiers(uint32_t *m, uint32_t *memory, uint32_t s[4][64]) {
 __attribute__((noinline)) uint32_t plain_pass(uint32_t *m, size_t words, const uint32_t *order, size_t entries,
                                               const uint32_t *items, size_t items_len, uint32_t *places,
                                               size_t places_len, uint32_t *memory, size_t memory_words, size_t *read,
-                                              size_t *written) {
+                                              size_t *written, uint8_t *clipped) {
 #ifdef UNASKED /* the caller knows that every question is answered yes */
     uint32_t s[4][64], number = 0;
     (void)refusal, (void)words, (void)entries, (void)items_len, (void)places_len, (void)memory_words;
@@ -264,9 +270,10 @@ __attribute__((noinline)) uint32_t plain_pass(uint32_t *m, size_t words, const u
     uint32_t s[4][64], number = refusal(m, words, order, entries, items_len, places_len, memory, memory_words);
 #endif
     *read = *written = 0;
+    memset(clipped, 0, KARVELORN_MARKS);
     if (number) return number;
     memcpy(s, m + SUMS, sizeof s);
-    generators(m, s, order, items, places, read, written);
+    generators(m, s, order, items, places, read, written, clipped);
     modifiers(m, memory, s);
     memset(m + SUMS, 0, sizeof s);
     memcpy(m + SUMS + 64, s[GENERATOR_THIS], sizeof s[0]);
@@ -280,7 +287,7 @@ __attribute__((noinline)) uint32_t plain_pass(uint32_t *m, size_t words, const u
 /* The timing. */
 
 typedef uint32_t pass_function(uint32_t *, size_t, const uint32_t *, size_t, const uint32_t *, size_t, uint32_t *,
-                               size_t, uint32_t *, size_t, size_t *, size_t *);
+                               size_t, uint32_t *, size_t, size_t *, size_t *, uint8_t *);
 
 pass_function plain_pass_o3;
 
@@ -288,11 +295,13 @@ static const double limit = 1.1; /* the ratio to gcc -O2 at most */
 
 static pass_function *const sides[SIDES] = {karvelorn_pass, plain_pass, plain_pass_o3};
 static uint32_t machines[SIDES][KARVELORN_WORDS], memories[SIDES][KARVELORN_MEMORY_WORDS], order[256];
+static uint8_t marks[SIDES][KARVELORN_MARKS];
+static int marked; /* whether some pass set a mark */
 
 /* Sines under exponential envelopes, sticky and free in turn, and T/2 mixing modifiers. */
 static void make_machine(uint32_t *m, uint32_t t) {
     karvelorn_fresh(m, KARVELORN_WORDS);
-    m[T] = t;
+    set_ticks(m, t);
     for (uint32_t i = 0; i < t; i++) {
         uint32_t *g = m + GENERATOR_WORDS * i;
         g[GO] = draw(4);
@@ -349,12 +358,13 @@ static double timed(int side, size_t memory_words, uint32_t answer, int passes) 
     double start = now();
     for (int i = 0; i < passes; i++)
         others += sides[side](m, KARVELORN_WORDS, order, m[T], NULL, 0, NULL, 0, memories[side], memory_words, &read,
-                              &written) != answer;
+                              &written, marks[side]) != answer;
     double time = (now() - start) / passes;
     if (others) {
         fprintf(stderr, "pass: another answer than %u\n", answer);
         exit(1);
     }
+    for (int i = 0; i < KARVELORN_MARKS; i++) marked |= marks[side][i];
     return time;
 }
 
@@ -363,9 +373,10 @@ static int good(const char *call, double times[SIDES][ROUNDS]) {
     int within = print_times(call, times) <= limit, same = 1;
     for (int side = PLAIN; side < SIDES; side++)
         same &= !memcmp(machines[side], machines[PROVED], sizeof *machines) &&
-                !memcmp(memories[side], memories[PROVED], sizeof *memories);
+                !memcmp(memories[side], memories[PROVED], sizeof *memories) &&
+                !memcmp(marks[side], marks[PROVED], sizeof *marks);
     if (!within) printf("%s: above the limit of %.2f to C -O2\n", call, limit);
-    if (!same) printf("%s: the machines or delay memories differ\n", call);
+    if (!same) printf("%s: the machines, delay memories or marks differ\n", call);
     return within && same;
 }
 
@@ -405,7 +416,8 @@ int main(void) {
     all &= time_pass(1, 0, 80);
     all &= time_pass(256, 32, 20);
     all &= time_question_10(256, 20);
-    return all ? 0 : 1;
+    if (!marked) puts("no pass set a mark");
+    return all && marked ? 0 : 1;
 }
 
 #endif

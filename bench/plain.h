@@ -21,6 +21,7 @@ enum { GO, GJ, GK, GN, GM, GP, GQ, GL, GSUM, GFM, GMODE, GENERATOR_WORDS };
 enum { M0, M1, L0, L1, MIN, MRM, MSUM, MMODE, MODIFIER_WORDS };
 enum { X, Y, Z, P, FIRST, SECOND, THIRD, DELAY_WORDS };
 enum { MODIFIERS = 2816, SUMS = 3840, DACS = 4096, DX = 4112, T, N, COUNTER, LINGERING, LINGER_PASS, OVERRUN, DELAYS };
+enum { UPDATE_TICKS = KARVELORN_UPDATE_TICKS };
 enum { GENERATOR_THIS, GENERATOR_LAST, MODIFIER_THIS, MODIFIER_LAST };
 enum { WRITE_DAC = 2, WRITE_DATA = 3, READ_DATA = 7, WAIT = 9, RUNNING_C = 13, RUNNING_B = 14, RUNNING_A = 15 };
 enum { INVOKE_DELAY = 7 }; /* a modifier's function */
@@ -50,17 +51,27 @@ static uint32_t bad_modifiers(const uint32_t *m) {
 
 static uint32_t bad_delays(const uint32_t *m) {
     uint32_t bad = 0;
-    for (const uint32_t *d = m + DELAYS; d < m + KARVELORN_WORDS; d += DELAY_WORDS)
+    for (const uint32_t *d = m + DELAYS; d < m + UPDATE_TICKS; d += DELAY_WORDS)
         bad |= d[X] >> 16 | d[Y] >> 16 | d[Z] >> 16 | d[P] >> 4 | d[FIRST] >> 20 | d[SECOND] >> 20 | d[THIRD] >> 20 |
                (~built_delay >> (d[P] & 15) & 1);
     return bad;
 }
 
+enum { OVERHEAD_TICKS = 8 };
+
+static uint32_t update_ticks(uint32_t t, uint32_t n) { return n > t + OVERHEAD_TICKS ? n - t - OVERHEAD_TICKS : 0; }
+
 static int sound_machine(const uint32_t *m) {
     uint32_t bad = bad_generators(m) | bad_modifiers(m) | bad_delays(m);
     for (int i = SUMS; i <= DX; i++) bad |= m[i] >> 20;
     bad |= m[COUNTER] >> 20 | m[LINGER_PASS] >> 20 | m[LINGERING] >> 1 | m[OVERRUN] >> 1;
-    return !bad && m[T] >= 1 && m[T] <= 256 && m[N] >= 2 && m[N] <= 1025;
+    return !bad && m[T] >= 1 && m[T] <= 256 && m[N] >= 2 && m[N] <= 1025 && m[UPDATE_TICKS] == update_ticks(m[T], m[N]);
+}
+
+/* T of a machine that is made, with the update ticks that follow. */
+SHARED void set_ticks(uint32_t *m, uint32_t t) {
+    m[T] = t;
+    m[UPDATE_TICKS] = update_ticks(t, m[N]);
 }
 
 /* Question 6. */

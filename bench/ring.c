@@ -7,15 +7,16 @@
 #include <string.h>
 
 enum { FILE_MOST = 65536, COMMANDS_MOST = 4096, GENERATORS = 256, BUFFER = 8192, LINE_MOST = 64 };
-enum { DACS = 4096, T = 4113, N, COUNTER };
+enum { DACS = 4096, T = 4113, N, COUNTER, UPDATE_TICKS = KARVELORN_UPDATE_TICKS };
 
 uint32_t plain_pass(uint32_t *m, size_t words, const uint32_t *order, size_t entries, const uint32_t *items,
                     size_t items_len, uint32_t *places, size_t places_len, uint32_t *memory, size_t memory_words,
-                    size_t *read, size_t *written);
+                    size_t *read, size_t *written, uint8_t *clipped);
 uint32_t plain_update(uint32_t *m, size_t words, const uint32_t *commands, size_t count, size_t *taken);
 
 static char text[FILE_MOST + 2], buffer[BUFFER];
 static uint32_t machine[KARVELORN_WORDS], memory[KARVELORN_MEMORY_WORDS], commands[COMMANDS_MOST], order[GENERATORS];
+static uint8_t marks[KARVELORN_MARKS];
 
 /* Reads the file's lines; gives the passes. */
 static uint32_t read_file(size_t *count) {
@@ -28,11 +29,12 @@ static uint32_t read_file(size_t *count) {
         if (!strncmp(line, "word=", 5)) {
             char *colon;
             unsigned long place = strtoul(line + 5, &colon, 10);
-            machine[place % KARVELORN_WORDS] = (uint32_t)strtoul(colon + 1, NULL, 10);
+            machine[place % UPDATE_TICKS] = (uint32_t)strtoul(colon + 1, NULL, 10);
         } else if (*count < COMMANDS_MOST) {
             commands[(*count)++] = (uint32_t)strtoul(line + 8, NULL, 16);
         }
     }
+    machine[UPDATE_TICKS] = machine[N] > machine[T] + 8 ? machine[N] - machine[T] - 8 : 0;
     return passes;
 }
 
@@ -72,7 +74,7 @@ int main(void) {
     while (passes-- && !refused) {
         size_t entries = machine[T] <= GENERATORS ? machine[T] : 0;
         refused = plain_pass(machine, KARVELORN_WORDS, order, entries, NULL, 0, NULL, 0, memory,
-                             KARVELORN_MEMORY_WORDS, &read, &written);
+                             KARVELORN_MEMORY_WORDS, &read, &written, marks);
         if (!refused) {
             refused = plain_update(machine, KARVELORN_WORDS, commands + from, count - from, &taken);
             from += taken;

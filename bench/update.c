@@ -6,7 +6,7 @@
 #include <string.h>
 
 enum { PAUSE = 1 };
-enum { OVERHEAD_TICKS = 8, BEHIND_MOST = 4096 };
+enum { BEHIND_MOST = 4096 };
 
 /* The bits first to last of a command, numbered 4 to 35 from the left as in the 1978 text. */
 #define FIELD(c, first, last) ((c) >> (35 - (last)) & ((1u << ((last) - (first) + 1)) - 1))
@@ -81,6 +81,7 @@ static int timer(uint32_t *m, uint32_t c) {
 static void ticks(uint32_t *m, uint32_t c) {
     if (FLAG(c, 32)) m[N] = FIELD(c, 14, 23) + 2;
     else m[T] = FIELD(c, 14, 23) + 1;
+    m[UPDATE_TICKS] = update_ticks(m[T], m[N]);
 }
 
 /* A register of so many bits, right-adjusted with sign extended or left-adjusted with its low bits from DX. */
@@ -154,7 +155,7 @@ __attribute__((noinline)) uint32_t plain_update(uint32_t *m, size_t words, const
 #endif
     if (m[LINGERING] && m[COUNTER] != m[LINGER_PASS]) return 0;
     m[LINGERING] = 0;
-    size_t most = m[N] > m[T] + OVERHEAD_TICKS ? m[N] - m[T] - OVERHEAD_TICKS : 0;
+    size_t most = m[UPDATE_TICKS];
     for (size_t i = 0; i < count && i < most; i++) {
         uint32_t number = command_refusal(commands[i]);
         if (number) return number;

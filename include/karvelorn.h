@@ -6,14 +6,17 @@
  *
  * A run of words is a pointer to its first uint32_t and then how many words it has. A machine is a run that the host
  * owns, and so is the delay memory beside it, which a pass is handed; between calls the host may read and write any of
- * their words.
+ * their words. A host that sets T or N itself must set the update ticks too, machine[KARVELORN_UPDATE_TICKS]: N-T-8,
+ * and 0 (not a difference that wraps) where N is less than T+8. A machine whose word disagrees with its T and N gets 2.
+ * A command that sets T or N sets it as well, and nothing else writes it.
  *
  * What the host must see to, for every call:
  * - each pointer is aligned for its type;
  * - a run has valid memory for its whole length, for reading, and for writing too where it is not const; with length 0
  *   the pointer may be NULL;
- * - a pointer that a call answers through (read, written, taken, equal) is not NULL and has valid memory for one. What
- *   was there before is not looked at, and the call always sets it, in a refusal too;
+ * - a pointer that a call answers through (read, written, clipped, taken, equal, alike) is not NULL and has valid memory
+ *   for one, clipped for KARVELORN_MARKS. What was there before is not looked at, and the call always sets it, in a
+ *   refusal too;
  * - what a call writes (the runs that are not const, delay memory too, and what it answers through) overlaps nothing
  *   else that is handed to the same call, and nothing else reads or writes it during the call. Runs that are const may
  *   overlap each other.
@@ -22,7 +25,8 @@
  *
  * Each call answers 0, or the number of the first of its questions that is answered no:
  *   1  Has the machine KARVELORN_WORDS words?
- *   2  Are all words of the machine within their width and range, with built modes and no MIN or MRM top bits 11?
+ *   2  Are all words of the machine within their width and range, with built modes and no MIN or MRM top bits 11, and
+ *      are the update ticks those of T and N?
  *   3  Is the command built, its modes and addresses too, disabled fields aside?
  *   4  Is the number of a TICKS with Q 0 at most 255?
  *   5  Has the order T entries?
@@ -55,13 +59,14 @@
  *   4118           overrun, 0 or 1
  *   4119 + 7u ..   delay unit u, 0 to 31: X (16), Y (16), Z (16), P (4), and three words on their way to the modifier
  *                  (20 each), next due first
+ *   4343           the update ticks, N-T-8, or 0 if that is negative: how many commands an update takes at most
  *
  * Modes and addresses, from the left bit on:
  *   GMODE   run mode (4 bits): 0000 inactive, 0001 pause, 0010 to a DAC (the one that GO's low 4 bits name), 0011 write
  *           data, 0111 read data, 1001 wait, 1101, 1110 and 1111 running; envelope mode (2): 00 and 10 take Q from GL,
- *           01 and 11 add it, 10 and 11 by the exponential; oscillator mode (4): 0000 sine of GK, 0001 sawtooth, 0010
- *           square, 0011 pulse train, 1000 sine of J, the high 20 bits of GJ plus the word at GFM. Other run and
- *           oscillator modes are not built
+ *           01 and 11 add it, where Q is the high 12 bits of GQ or, in 10 and 11, the exponential of its high 14;
+ *           oscillator mode (4): 0000 sine of GK, 0001 sawtooth, 0010 square, 0011 pulse train, 0100 sum of cosines,
+ *           1000 sine of J, the high 20 bits of GJ plus the word at GFM. Other run and oscillator modes are not built
  *   GFM     0 generator-last or 1 modifier-last, then the word (6)
  *   MMODE   function (5): 00000 inactive, 00010 noise, 00011 triggered noise, 00100 latch, 00110 threshold, 00111
  *           invoke delay unit, 01000 two poles, 01001 with M0 variable, 01011 with M1 variable, 01100 two zeros, 01101
@@ -90,14 +95,16 @@
 #include <stddef.h>
 #include <stdint.h>
 
-#define KARVELORN_WORDS 4343
+#define KARVELORN_WORDS 4344
+#define KARVELORN_UPDATE_TICKS 4343
 #define KARVELORN_MEMORY_WORDS 65536
+#define KARVELORN_MARKS 64
 
 #ifdef __cplusplus
 extern "C" {
 #endif
 
-/* Makes a run of words a fresh machine: zero but for T = 1 and N = 265, whatever it held.
+/* Makes a run of words a fresh machine: zero but for T = 1, N = 265 and the update ticks, 256, whatever it held.
  *
  *   machine, words   the run, and its length: KARVELORN_WORDS
  *
@@ -119,18 +126,23 @@ uint32_t karvelorn_fresh(uint32_t *machine, size_t words);
  *                         it is zero, but for what the host puts there, such as tables; each pass of the machine then
  *                         gets it as the last one left it
  *   read, written         get how many items were read and written, both 0 in a refusal
+ *   clipped               gets KARVELORN_MARKS marks, one byte for each generator-this word: 1 where a signed sum in it,
+ *                         P added into it or P plus a read item's low 20 bits replacing it, left -524288 to 524287 in
+ *                         this pass, though the word may have come back since; else 0. All are 0 in a refusal. The
+ *                         word itself wraps. Which marks are set may depend on the order, also of equal orders
  *
  * Answers 0, 1, 2, 5, 6, 7, 8, 10, 11 or 12. A refused pass changes no word of the machine or of delay memory, and no
  * place.
  */
 uint32_t karvelorn_pass(uint32_t *machine, size_t words, const uint32_t *order, size_t entries,
                         const uint32_t *items, size_t items_len, uint32_t *places, size_t places_len,
-                        uint32_t *memory, size_t memory_words, size_t *read, size_t *written);
+                        uint32_t *memory, size_t memory_words, size_t *read, size_t *written,
+                        uint8_t clipped[KARVELORN_MARKS]);
 
 /* One update: commands change the machine between two passes. They are taken one after the other from the first on, at
- * most N-T-8 of them (none if that is negative) by N and T as the update begins. While the machine lingers and the
- * counter isn't the Linger pass, none is taken and nothing changes; otherwise lingering ends, and commands are taken
- * until a Linger waits or the ticks or the commands end.
+ * most as many as the update ticks, N-T-8 or none if that is negative, by N and T as the update begins. While the
+ * machine lingers and the counter isn't the Linger pass, none is taken and nothing changes; otherwise lingering ends,
+ * and commands are taken until a Linger waits or the ticks or the commands end.
  *
  *   machine, words          the machine, and its length: KARVELORN_WORDS; the update changes it in place
  *   commands, commands_len  the commands. There may be more than are taken
@@ -149,7 +161,8 @@ uint32_t karvelorn_pass(uint32_t *machine, size_t words, const uint32_t *order, 
  *                                                 data, 10 loads Z and P
  *   data(20)                  00010 xx TT xxx     TIMER: TT 01 sets the counter, 10 is a Linger, 11 clears the counter
  *                                                 and is a Linger
- *   x(10) number(10)          00011 xx 0 Q xxx    TICKS: Q 0 sets T to number + 1, Q 1 sets N to number + 2
+ *   x(10) number(10)          00011 xx 0 Q xxx    TICKS: Q 0 sets T to number + 1, Q 1 sets N to number + 2;
+ *                                                 either sets the update ticks
  *   data(20)                  001 E generator(8)  GQ, right-adjusted (E 0) or left-adjusted (E 1)
  *   data(20)                  010 E generator(8)  GJ, right-adjusted (E 0) or left-adjusted (E 1)
  *   data(20)                  0110 generator(8)   GP
@@ -175,8 +188,8 @@ uint32_t karvelorn_update(uint32_t *machine, size_t words, const uint32_t *comma
 /* Whether two orders of the generators are equal, so that it makes no difference which one a pass goes by: on every
  * machine with the settings of this one, whatever its other words hold, and with any read items and any delay memory,
  * passes by the two orders leave the same value in each word of the machine and of delay memory and write the same
- * items in the same sequence. Settings are T, every GMODE, GSUM and GFM, and the low 4 bits of GO of each generator in
- * run mode 0010.
+ * items in the same sequence; what a pass answers in clipped is not compared. Settings are T, every GMODE, GSUM and
+ * GFM, and the low 4 bits of GO of each generator in run mode 0010.
  *
  *   machine, words          the machine, and its length: KARVELORN_WORDS; it is only read
  *   first, first_entries    an order: the numbers 0 to T-1, each once; first_entries is T

@@ -30,6 +30,36 @@ class Faults:
         self.readers_by_word = False
         self.adders_above_t = False
         self.refused_says_yes = False
+        # Sum of cosines.
+        self.gn_signed = False
+        self.p_of_11_bits = False
+        self.index_p = False
+        self.cap_before_gm = False
+        self.cosines_rounded_up = False
+        self.sign_of_s_alone = False
+        # The exponential of 14 bits.
+        self.exponential_of_12_bits = False
+        self.shift_div_256 = False
+        self.wrong_entry = False
+        self.root_of_order_256 = False
+        self.linear_of_14_bits = False
+        # Marks of sum words that clipped over.
+        self.mark_of_next_word = False
+        self.only_last_sum_marks = False
+        self.replacement_never_marks = False
+        self.replacement_clears_mark = False
+        self.item_high_bits_mark = False
+        self.unsigned_carry_marks = False
+        self.marks_in_refusal = False
+        # Update ticks written down.
+        self.count_by_7 = False
+        self.count_1_is_0 = False
+        self.count_wraps = False
+        self.t_forgets_count = False
+        self.n_forgets_count = False
+        self.count_not_asked = False
+        self.reader_leaves_256 = False
+        self.count_is_file_place = False
 
 
 faults = Faults()

@@ -1,4 +1,4 @@
-"""One generator's turn, by the nine steps of document 01."""
+"""One generator's turn, by the nine steps of document 01 with requests Q-4 and Q-5 of 02."""
 
 from reference import layout
 from reference.faults import faults
@@ -7,6 +7,7 @@ from reference.words import leaves_range, low, signed
 
 SIGNED_K_LEAST = -4096
 HALF_SCALE = 2048
+COSINES_MOST = 4095
 
 
 def acting_mode(gmode, told):
@@ -34,7 +35,34 @@ def turned(gk, j):
     return low(total, 20), leaves_range(total, 20)
 
 
-def wave(mode, k, gm, left_range):
+def cosines_index(k, gn):
+    """The index of s in 0100: 2p, where p is the low 12 bits of the signed K times GN."""
+    if faults.gn_signed:
+        gn = signed(gn, 11)
+    p = low(k * gn, 11 if faults.p_of_11_bits else 12)
+    return p if faults.index_p else 2 * p
+
+
+def cosines_magnitude(s, d, gm):
+    """The whole part of 4,095 times |s| over (|d| times 2^GM), at most 4,095."""
+    if faults.cap_before_gm:
+        return min(COSINES_MOST * s // d, COSINES_MOST) >> gm
+    if faults.cosines_rounded_up:
+        return min(-(-COSINES_MOST * s // (d << gm)), COSINES_MOST)
+    return min(COSINES_MOST * s // (d << gm), COSINES_MOST)
+
+
+def sum_of_cosines(k, gn, gm):
+    """W in 0100: s is the sine at index 2p, d the sine at K; the sign is that of s times d."""
+    s_negative, s = sine(cosines_index(k, gn))
+    d_negative, d = sine(low(k, 13))
+    magnitude = cosines_magnitude(s, d, gm)
+    if faults.sign_of_s_alone:
+        d_negative = False
+    return -magnitude if s_negative != d_negative else magnitude
+
+
+def wave(mode, k, gn, gm, left_range):
     """Step 6: W by the oscillator mode, from the signed K."""
     if mode == layout.SAWTOOTH:
         return 0 if k == SIGNED_K_LEAST else k
@@ -42,6 +70,8 @@ def wave(mode, k, gm, left_range):
         return -HALF_SCALE if k < 0 else HALF_SCALE
     if mode == layout.PULSE_TRAIN:
         return HALF_SCALE if left_range else 0
+    if mode == layout.SUM_OF_COSINES:
+        return sum_of_cosines(k, gn, gm)
     negative, magnitude = sine(low(k, 13))
     shifted = magnitude >> gm
     return -shifted if negative else shifted
@@ -54,10 +84,16 @@ def decay(gq, gp, free):
     return (gq if overflow and not free else low(total, 24)), overflow
 
 
-def envelope(mode, gl, h):
-    """Step 8: V, 12 bits unsigned."""
-    exponential_mode = mode in (layout.L_MINUS_EXPONENTIAL, layout.L_PLUS_EXPONENTIAL)
-    q = exponential(h) if exponential_mode else h
+def level(mode, gq):
+    """Q of step 8: the high 12 bits of GQ, or the exponential of its high 14."""
+    if mode in (layout.L_MINUS_Q, layout.L_PLUS_Q):
+        return gq >> (10 if faults.linear_of_14_bits else 12)
+    return exponential(gq >> 12 << 2 if faults.exponential_of_12_bits else gq >> 10)
+
+
+def envelope(mode, gl, gq):
+    """Step 8: V, 12 bits unsigned, from GQ as it was before step 7."""
+    q = level(mode, gq)
     minus = mode in (layout.L_MINUS_Q, layout.L_MINUS_EXPONENTIAL)
     return low(gl - q if minus else gl + q, 12)
 
@@ -98,12 +134,11 @@ def generator_turn(words, f, told):
     if switches.oscillator:
         gk_after, left_again = turned(gk, j)
         left_range = left_range or left_again
-    w = wave(oscillator, k, gm, left_range)
+    w = wave(oscillator, k, gn, gm, left_range)
 
-    h = gq >> 12
     gq_after, overflow = decay(gq, gp, switches.free) if switches.envelope else (gq, False)
     triggers = switches.free and overflow
-    p = output(w, envelope(layout.envelope_mode(gmode), gl, h))
+    p = output(w, envelope(layout.envelope_mode(gmode), gl, gq))
 
     gmode_after = layout.with_run_mode(gmode, next_mode(mode, triggers, told))
     after = [go, gj_after, gk_after, gn, gm, gp, gq_after, gl, gsum, gfm, gmode_after]

@@ -5,7 +5,7 @@ Every number of the layout has its home here. Names are those of the 1978 text.
 
 from typing import NamedTuple
 
-MACHINE_WORDS = 4343
+MACHINE_WORDS = 4344
 
 # Generator g has eleven words from 11g; below are their places within the eleven.
 GENERATORS = 256
@@ -49,6 +49,11 @@ DELAY_UNIT_WORDS = 7
 X, Y, Z, P, FIRST, SECOND, THIRD = range(DELAY_UNIT_WORDS)
 DELAY_UNIT_NAMES = ("X", "Y", "Z", "P", "first word", "second word", "third word")
 DELAY_UNIT_WIDTHS = (16, 16, 16, 4, 20, 20, 20)
+
+# The count of commands that fit in a pass, worked out from T and N. A bench file names the places
+# before it.
+UPDATE_TICKS = 4343
+FILE_PLACES = 4343
 
 # Delay memory: words beside the machine, which a pass is handed.
 MEMORY_WORDS = 65536
@@ -97,8 +102,9 @@ SINE_OF_K = 0b0000
 SAWTOOTH = 0b0001
 SQUARE = 0b0010
 PULSE_TRAIN = 0b0011
+SUM_OF_COSINES = 0b0100
 SINE_OF_J = 0b1000
-OSCILLATOR_MODES = (SINE_OF_K, SAWTOOTH, SQUARE, PULSE_TRAIN, SINE_OF_J)
+OSCILLATOR_MODES = (SINE_OF_K, SAWTOOTH, SQUARE, PULSE_TRAIN, SUM_OF_COSINES, SINE_OF_J)
 
 # Envelope modes, the two bits between; all four are built.
 L_MINUS_Q = 0b00

@@ -1,10 +1,11 @@
 """The machine: a fresh one, its questions, and a pass.
 
-The turns, delay units, products and tables have files of their own; the turns, products
-and tables are offered here too.
+The turns, delay units, sum words, products and tables have files of their own; the turns,
+products and tables are offered here too.
 """
 
 from operator import le
+from typing import NamedTuple
 
 from reference import layout
 from reference.delay import (delay_mode_built, memory_refusal, take_word, units_refusal,
@@ -13,6 +14,7 @@ from reference.faults import faults
 from reference.generator import acting_mode, generator_turn
 from reference.modifier import (FORMULAS, delay_turn, integer_product, modifier_turn,
                                 product)
+from reference.sums import add_to, all_marks, mark, no_marks, replace_by
 from reference.tables import exponential, sine
 from reference.words import low
 
@@ -23,6 +25,23 @@ __all__ = [
 ]
 
 
+# The count of update ticks
+
+def update_ticks(t, n):
+    """How many commands fit in a pass: N-T-8, or 0 if that is negative."""
+    if faults.count_by_7:
+        return max(n - t - 7, 0)
+    if faults.count_wraps:
+        return low(n - t - layout.OVERHEAD_TICKS, 32)
+    count = max(n - t - layout.OVERHEAD_TICKS, 0)
+    return 0 if faults.count_1_is_0 and count == 1 else count
+
+
+def put_update_ticks(machine):
+    """Puts the count of the machine's own T and N, in place."""
+    machine[layout.UPDATE_TICKS] = update_ticks(machine[layout.T], machine[layout.N])
+
+
 # A fresh machine, and a delay memory of zeros
 
 def zero_memory():
@@ -31,10 +50,11 @@ def zero_memory():
 
 
 def fresh_machine():
-    """The words of a fresh machine: zero but for T and N."""
+    """The words of a fresh machine: zero but for T, N and their count."""
     machine = [0] * layout.MACHINE_WORDS
     machine[layout.T] = layout.FRESH_T
     machine[layout.N] = layout.FRESH_N
+    put_update_ticks(machine)
     return machine
 
 
@@ -78,6 +98,8 @@ def word_ranges():
     ranges += [wide(20), (layout.T_LEAST, layout.T_MOST), (layout.N_LEAST, layout.N_MOST)]
     ranges += [wide(20), wide(1), wide(20), wide(1)]
     ranges += [wide(w) for w in layout.DELAY_UNIT_WIDTHS] * layout.DELAY_UNITS
+    # The count is T's and N's: count_agrees asks about it.
+    ranges += [wide(32)]
     return ranges
 
 
@@ -116,12 +138,18 @@ def modes_built(run):
             and all(map(delay_mode_built, set(delay_unit_column(run, layout.P)))))
 
 
+def count_agrees(run):
+    """Whether the count of update ticks is that of the machine's own T and N."""
+    return (faults.count_not_asked
+            or run[layout.UPDATE_TICKS] == update_ticks(run[layout.T], run[layout.N]))
+
+
 def refusal(run):
     """Questions 1 and 2 of a run of words: 0, 1 or 2."""
     if len(run) != layout.MACHINE_WORDS:
         return 1
     in_range = all(map(le, LEAST, run)) and all(map(le, run, MOST))
-    return 0 if in_range and modes_built(run) else 2
+    return 0 if in_range and modes_built(run) and count_agrees(run) else 2
 
 
 # Questions 5 to 8, and those of a pass
@@ -154,12 +182,20 @@ def pass_refusal(machine, order, items, places, memory):
 
 # The pass
 
-def add_to(machine, place, word):
-    """Adds a 20-bit word into a sum memory word, in place."""
-    machine[place] = low(machine[place] + word, layout.SUM_WIDTH)
+class Passed(NamedTuple):
+    """What a pass answers: its number, the counts read and written, and a mark for each
+    generator-this word, 1 if a sum into it left its range; then what it leaves."""
+
+    number: int
+    read: int
+    written: int
+    clipped: list
+    machine: list
+    places: list
+    memory: list
 
 
-def take_generator(machine, g, told, items, written):
+def take_generator(machine, g, told, items, written, clipped):
     """One generator's turn in place; items is what is left to read. Gives whether it triggers."""
     at = layout.generator_at(g)
     words = machine[at:at + layout.GENERATOR_WORDS]
@@ -171,21 +207,22 @@ def take_generator(machine, g, told, items, written):
         written.append(f)
     if mode == layout.WRITE_DAC:
         machine[layout.DACS_AT + words[layout.GO] % layout.DACS] = f
-    place = layout.GENERATOR_THIS + words[layout.GSUM]
+    word = words[layout.GSUM]
+    place = layout.GENERATOR_THIS + word
     if layout.RUN_MODES[mode].adding:
-        add_to(machine, place, p)
+        mark(clipped, word, add_to(machine, place, p), replaced=False)
     if mode == layout.READ_DATA:
-        machine[place] = low(p + items.pop(0), layout.SUM_WIDTH)
+        mark(clipped, word, replace_by(machine, place, p, items.pop(0)), replaced=True)
     return triggers
 
 
 def take_generators(machine, order, items):
-    """All generators in their order, in place; gives the count read and the items written."""
-    left, written, triggered = list(items), [], set()
+    """All generators in their order, in place; gives the count read, the items written, marks."""
+    left, written, triggered, clipped = list(items), [], set(), no_marks()
     for g in order:
-        if take_generator(machine, g, g - 1 in triggered, left, written):
+        if take_generator(machine, g, g - 1 in triggered, left, written, clipped):
             triggered.add(g)
-    return len(items) - len(left), written
+    return len(items) - len(left), written, clipped
 
 
 def word_read(machine, address, view):
@@ -242,12 +279,14 @@ def close(machine):
 
 
 def run_pass(machine, order, items, places, memory):
-    """A pass: its number, the counts read and written; machine, places and memory afterwards."""
+    """A pass over a delay memory; what it was handed stays as it is."""
     number = pass_refusal(machine, order, items, places, memory)
     if number:
-        return number, 0, 0, list(machine), list(places), list(memory)
+        marks = all_marks() if faults.marks_in_refusal else no_marks()
+        return Passed(number, 0, 0, marks, list(machine), list(places), list(memory))
     after, memory_after = list(machine), list(memory)
-    read, written = take_generators(after, order, items)
+    read, written, clipped = take_generators(after, order, items)
     take_modifiers(after, memory_after)
     close(after)
-    return 0, read, len(written), after, written + list(places)[len(written):], memory_after
+    places_after = written + list(places)[len(written):]
+    return Passed(0, read, len(written), clipped, after, places_after, memory_after)

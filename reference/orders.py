@@ -1,7 +1,7 @@
 """Comparison of two orders by the four points, and contents that part two unequal orders."""
 
 from reference import layout
-from reference.machine import fresh_machine, order_refusal, refusal
+from reference.machine import fresh_machine, order_refusal, put_update_ticks, refusal
 from reference.tables import exponential
 
 
@@ -84,6 +84,7 @@ def silent(machine):
     """A fresh machine with the same settings, in which no generator sounds."""
     bare = fresh_machine()
     bare[layout.T] = machine[layout.T]
+    put_update_ticks(bare)
     for g in range(layout.GENERATORS):
         at = layout.generator_at(g)
         for place in (layout.GMODE, layout.GSUM, layout.GFM):

@@ -6,7 +6,8 @@ Run as: python3 -m reference.ring < file
 import sys
 
 from reference import layout
-from reference.machine import fresh_machine, run_pass, zero_memory
+from reference.faults import faults
+from reference.machine import fresh_machine, put_update_ticks, run_pass, zero_memory
 from reference.update import run_update
 from reference.words import signed
 
@@ -28,7 +29,8 @@ def number(text, most):
 def initial_word(text):
     """The place and value of a word= line's right side, else None."""
     left, colon, right = text.partition(b":")
-    place, value = number(left, layout.MACHINE_WORDS - 1), number(right, VALUE_MOST)
+    places = layout.MACHINE_WORDS if faults.count_is_file_place else layout.FILE_PLACES
+    place, value = number(left, places - 1), number(right, VALUE_MOST)
     return None if not colon or place is None or value is None else (place, value)
 
 
@@ -78,10 +80,11 @@ def pass_lines(machine, passes, commands, seen):
     for _ in range(passes):
         # The order is a range and not a list: T may be beyond its range here.
         order = range(machine[layout.T])
-        refused, _, _, after, _, memory = run_pass(machine, order, [], [], memory)
+        done = run_pass(machine, order, [], [], memory)
+        refused, memory = done.number, done.memory
         if not refused:
-            seen(machine, after)
-            refused, taken, machine = run_update(after, commands)
+            seen(machine, done.machine)
+            refused, taken, machine = run_update(done.machine, commands)
             commands = commands[taken:]
         if refused:
             yield f"refused={refused}\n"
@@ -100,6 +103,9 @@ def ring(file, seen=lambda before, after: None):
     machine = fresh_machine()
     for place, value in words:
         machine[place] = value
+    if not faults.reader_leaves_256:
+        # Also with a T or N out of range: question 2 follows.
+        put_update_ticks(machine)
     return "".join(pass_lines(machine, passes, commands, seen)).encode()
 
 

@@ -5,12 +5,12 @@ Run from the repository root as: python3 -m reference.selftest
 
 import sys
 
-from reference.cases import (any_orders, benches, commands, comparisons, delays, examples,
-                             generators, modifiers, passes, questions)
+from reference.cases import (any_orders, benches, clipped, commands, comparisons, delays,
+                             examples, generators, modifiers, passes, questions)
 from reference.faults import NAMES, switched_on
 
-MODULES = (examples, generators, modifiers, passes, delays, questions, commands, comparisons,
-           any_orders, benches)
+MODULES = (examples, generators, modifiers, passes, clipped, delays, questions, commands,
+           comparisons, any_orders, benches)
 GROUPS = [group for module in MODULES for group in module.GROUPS]
 
 
@@ -37,20 +37,22 @@ def report(groups):
 
 
 def caught(fault):
-    """The names of the cases that fail while a fault is on."""
+    """The first group that fails while a fault is on, and the names of its cases that do."""
     with switched_on(fault):
-        return [f"{title}: {name}" for title, checks in GROUPS
-                for name, _, _ in failures(checks)[1]]
+        for title, checks in GROUPS:
+            if names := [name for name, _, _ in failures(checks)[1]]:
+                return title, names
+    return None, []
 
 
 def report_faults():
     """Prints a line for each fault; gives the count of faults and of those not caught."""
     missed = 0
     for fault in NAMES:
-        names = caught(fault)
+        title, names = caught(fault)
         missed += not names
-        found = f"caught by {len(names)} cases, first {names[0]}" if names else "NOT caught"
-        print(f"fault {fault}: {found}")
+        found = f"by {len(names)} cases of {title}, first {names[0]}" if names else "NOT"
+        print(f"fault {fault}: caught {found}")
     return len(NAMES), missed
 
 

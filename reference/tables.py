@@ -1,10 +1,13 @@
 """The two house tables, made by their rules in exact numbers."""
 
 from fractions import Fraction
+from functools import lru_cache
+
+from reference.faults import faults
 
 QUARTER = 2048
 SINE_MOST = 4095
-EXPONENTIALS = 256
+EXPONENTIALS = 1024
 EXPONENTIAL_FIRST = 4093
 
 
@@ -15,19 +18,22 @@ def sine_entry(j):
     return min(4096 * value.numerator // value.denominator, SINE_MOST)
 
 
-def exponential_table():
-    """Entry f is the largest e with e^256 times 2^f at most 4,093^256."""
-    most = EXPONENTIAL_FIRST**256
+@lru_cache(maxsize=None)
+def exponential_table(n, count):
+    """So many entries by the rule of n: entry f is the largest e with e^n 2^f at most 4,093^n.
+
+    A whole table has n entries: 256 of them in document 01, 1,024 since request Q-5."""
+    most = EXPONENTIAL_FIRST**n
     entries, e = [], EXPONENTIAL_FIRST
-    for f in range(EXPONENTIALS):
-        while e**256 << f > most:
+    for f in range(count):
+        while e**n << f > most:
             e -= 1
         entries.append(e)
     return tuple(entries)
 
 
 SINE = tuple(sine_entry(j) for j in range(QUARTER))
-EXPONENTIAL = exponential_table()
+EXPONENTIAL = exponential_table(EXPONENTIALS, EXPONENTIALS)
 
 
 def sine(k):
@@ -38,6 +44,14 @@ def sine(k):
     return quarter in (2, 3), SINE[j]
 
 
-def exponential(h):
-    """The exponential of H, 0..4,095."""
-    return EXPONENTIAL[h % EXPONENTIALS] >> h // EXPONENTIALS
+def exponential(number):
+    """The exponential of a 14-bit number, 0..16,383."""
+    f, shift = number % EXPONENTIALS, number // EXPONENTIALS
+    if faults.shift_div_256:
+        shift = number // 256
+    if faults.root_of_order_256:
+        return exponential_table(256, EXPONENTIALS)[f] >> shift
+    entry = EXPONENTIAL[f]
+    if faults.wrong_entry and f == EXPONENTIALS - 1:
+        entry += 1
+    return entry >> shift

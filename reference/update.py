@@ -6,8 +6,8 @@ Bit b of the 1978 text (4 to 35, from the left) is bit 35-b of the 32-bit word.
 from reference import layout
 from reference.delay import delay_mode_built
 from reference.faults import faults
-from reference.machine import (function_built, oscillator_mode_built, refusal, run_mode_built,
-                               source_built)
+from reference.machine import (function_built, oscillator_mode_built, put_update_ticks, refusal,
+                               run_mode_built, source_built)
 from reference.words import extended, low
 
 BEHIND_MOST = 4096
@@ -109,12 +109,14 @@ def ticks_refusal(command):
 
 
 def ticks(machine, command):
-    """Q 0 sets T = data+1, Q 1 sets N = data+2."""
-    number = field(command, 14, 23)
-    if field(command, 32, 32):
+    """Q 0 sets T = data+1, Q 1 sets N = data+2; each sets the count too."""
+    number, q = field(command, 14, 23), field(command, 32, 32)
+    if q:
         machine[layout.N] = number + 2
     else:
         machine[layout.T] = number + 1
+    if not (faults.n_forgets_count if q else faults.t_forgets_count):
+        put_update_ticks(machine)
 
 
 # Generators

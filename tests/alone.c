@@ -11,8 +11,10 @@ void _start(void)
 {
     static uint32_t machine[KARVELORN_WORDS], memory[KARVELORN_MEMORY_WORDS], word;
     static size_t count;
+    static uint8_t clipped[64];
     karvelorn_fresh(machine, KARVELORN_WORDS);
-    karvelorn_pass(machine, KARVELORN_WORDS, &word, 1, 0, 0, 0, 0, memory, KARVELORN_MEMORY_WORDS, &count, &count);
+    karvelorn_pass(machine, KARVELORN_WORDS, &word, 1, 0, 0, 0, 0, memory, KARVELORN_MEMORY_WORDS, &count, &count,
+                   clipped);
     karvelorn_update(machine, KARVELORN_WORDS, 0, 0, &count);
     karvelorn_compare(machine, KARVELORN_WORDS, &word, 1, &word, 1, &word);
     karvelorn_any_order(machine, KARVELORN_WORDS, &word);

@@ -10,11 +10,11 @@ import random
 from math import factorial
 from typing import NamedTuple
 
-from compare_requests import damaged
 from leaf_requests import biased
-from pass_requests import LENGTHS, whole_machine
+from pass_requests import LENGTHS, damaged_machine, whole_machine
 from reference import layout
 from reference.any_order import CLAUSES, any_order
+from reference.machine import put_update_ticks
 
 # Every pair of orders is tried with T at most FEW. From T on, NEXT generators have drawn settings.
 FEW, NEXT = 4, 8
@@ -269,6 +269,7 @@ def machines_of(chance, pool, number):
     t = ticks(chance, number)
     plan, base = draw_plan(chance), list(chance.choice(pool))
     base[layout.T] = t
+    put_update_ticks(base)
     put_above(chance, base, t, plan)
     put_holding(chance, base, t, plan)
     yield base, "all hold"
@@ -287,7 +288,7 @@ def machines_of(chance, pool, number):
 
 def refused(machine, number):
     """A damaged machine with its name: every sixth is of another length, some with both."""
-    other, name = damaged(machine, number)
+    other, name = damaged_machine(machine, number)
     if number % 12 == 1:
         length = LENGTHS[number // 12 % len(LENGTHS)]
         other, name = (other + other)[:length], f"{name}; {length} words"

@@ -22,6 +22,7 @@ from library import Test, compared, counts, met_seldom, packed, read_arguments, 
 
 from any_order_requests import (ADDING, FEW, NEXT, TRIGGERING, Answer, all_requests, asked,
                                 mode_at, setting)
+from count_requests import OTHER_COUNT
 from reference import layout
 from reference.any_order import CLAUSES, every_two_orders_agree, failing, reader_words
 
@@ -32,6 +33,7 @@ TRIED = 25
 # How often each kind is met at least, in COUNT machines.
 PROMISED = {
     "machines": 21000, "yes": 6000, "no": 6000, "refused by 1": 400, "refused by 2": 1200,
+    "refused by 2 for the count": 200,
     "values of T": 256, "T 1": 800, "T 2": 1500, "T 256": 800, "T 256, yes": 300, "T 256, no": 400,
     **{f"{clause} alone fails": 1000 for clause in CLAUSES},
     "several clauses fail": 300,
@@ -194,6 +196,8 @@ def events(request, answer):
     yield "machines"
     if answer.number:
         yield f"refused by {answer.number}"
+        if request.name.startswith(OTHER_COUNT) and answer.number == 2:
+            yield "refused by 2 for the count"
         return
     says, t = "yes" if answer.yes else "no", request.machine[layout.T]
     yield says

@@ -14,11 +14,12 @@ from zlib import crc32
 
 from delay_requests import Memory, invoke, made_word, memory_words, put_unit
 from leaf_requests import biased
-from pass_requests import BAD_ORDERS, DAMAGES, LENGTHS, good_order, whole_machine
+from pass_requests import (BAD_ORDERS, damaged_machine, good_order, swapped, walked,
+                           whole_machine)
 from reference import layout
 from reference.delay import units_in_time
-from reference.machine import run_pass
-from reference.orders import POINTS, agree, compare, parting
+from reference.machine import put_update_ticks, run_pass
+from reference.orders import POINTS, compare, parting
 
 COMPARE, PASSES = range(2)
 CONTENTS = 12
@@ -84,6 +85,7 @@ def put_settings(chance, machine, t):
     words, dacs = shared(chance, 64), shared(chance, 16)
     sources, quadrants = shared(chance, 64), chance.choice(((0,), (64,), (0, 64), (0, 64)))
     machine[layout.T] = t
+    put_update_ticks(machine)
     for g in range(t):
         at = layout.generator_at(g)
         mode = chance.choice(modes) << 6 | chance.randrange(4) << 4
@@ -95,26 +97,6 @@ def put_settings(chance, machine, t):
 
 
 # Pairs of orders
-
-def swapped(chance, order):
-    """The order with two neighbours exchanged, or any two."""
-    other = list(order)
-    if len(order) > 1:
-        i = chance.randrange(len(order) - 1)
-        j = chance.choice((i + 1, i + 1, chance.randrange(len(order))))
-        other[i], other[j] = other[j], other[i]
-    return other
-
-
-def walked(chance, machine, order):
-    """An order far from this one that agrees with it: exchanges that keep the agreement."""
-    other = order
-    for _ in range(2 * len(order) if len(order) < 16 else 8):
-        tried = swapped(chance, other)
-        if agree(machine, order, tried):
-            other = tried
-    return other
-
 
 def pairs(chance, machine):
     """Pairs of good orders of a machine, with their names."""
@@ -145,17 +127,6 @@ def refused_pairs(chance, machine):
     yield one, good, f"first {its_name}"
     yield good, other, f"second {other_name}"
     yield one, other, f"first {its_name}, second {other_name}"
-
-
-def damaged(machine, number):
-    """A machine that question 1 or 2 refuses, and what was done to it."""
-    if number % 6 == 0:
-        length = LENGTHS[number // 6 % len(LENGTHS)]
-        return (machine + machine)[:length], f"{length} words"
-    name, place, keep, bits = DAMAGES[number % len(DAMAGES)]
-    other = list(machine)
-    other[place] = other[place] & keep | bits
-    return other, name
 
 
 # The whole of the requests
@@ -216,8 +187,10 @@ def tried(request):
     places = [0] * layout.GENERATORS
     one, other = (run_pass(request.machine, order, request.items, places, words)
                   for order in (request.first, request.second))
-    same = one[-1] == other[-1]
-    return Answer(max(one[0], other[0]), 0, int(one == other), int(same), int(one[-1] != words))
+    alike = one._replace(clipped=[]) == other._replace(clipped=[])
+    same = one.memory == other.memory
+    return Answer(max(one.number, other.number), 0, int(alike), int(same),
+                  int(one.memory != words))
 
 
 def failing(request):
@@ -236,7 +209,7 @@ def of_machine(chance, machine, number):
             yield parted(chance, machine, first, second, request.name)
     for first, second, name in refused_pairs(chance, machine):
         yield compared(machine, first, second, name)
-    other, name = damaged(machine, number)
+    other, name = damaged_machine(machine, number)
     order = good_order(chance, machine[layout.T])
     second = chance.choice((order, order[:-1], [0, 0]))
     yield compared(other, order, second, name)

@@ -7,8 +7,9 @@
  *   contents and items at random: on how many passes by the two orders end alike, on how many they leave the same delay
  *   memory, and whether they changed a word of it;
  * - passes by the two orders from this very machine answer the larger number, 0, and the same three.
- * Two passes end alike where they leave the same machine and delay memory and write the same items. Delay memory is
- * made from the number to draw by, for each request anew; passes from contents at random go on with it.
+ * Two passes end alike where they leave the same machine and delay memory and write the same items; the marks of sum
+ * words that clipped over may differ. Delay memory is made from the number to draw by, for each request anew; passes
+ * from contents at random go on with it.
  */
 #include "karvelorn.h"
 #include "runs.h"
@@ -17,8 +18,9 @@ enum { COMPARE, PASSES };
 enum { MACHINE, FIRST, SECOND, ITEMS, RUNS };
 enum { GENERATORS = 256, GO = 0, GP = 5, GQ = 6, GSUM = 8, GFM = 9, GMODE = 10, GENERATOR_WORDS = 11 };
 enum { MODIFIERS = 128, MODIFIERS_AT = 2816, MODIFIER_WORDS = 8, MIN = 4, MRM = 5, MMODE = 7 };
-enum { SUMS_AT = 3840, DX = 4112, T, N, COUNTER, LINGERING, LINGER_PASS, OVERRUN };
+enum { SUM_WORDS = 64, SUMS_AT = 3840, DX = 4112, T, N, COUNTER, LINGERING, LINGER_PASS, OVERRUN };
 enum { UNITS = 32, UNITS_AT = 4119, X = 0, Y, Z, P, UNIT_WORDS = 7 };
+enum { UPDATE_TICKS = 4343, OVERHEAD_TICKS = 8 };
 enum { WRITE_DAC = 2, INVOKE_DELAY_UNIT = 7, DELAY_LINE = 8 };
 
 /* What a request tries and what came of it. */
@@ -95,6 +97,7 @@ static void draw_contents(uint32_t *m, const uint32_t *settings) {
     for (int u = 0; u < UNITS; u++) draw_unit(m + UNITS_AT + UNIT_WORDS * u);
     m[T] = settings[T];
     m[N] = 2 + draw(10);
+    m[UPDATE_TICKS] = m[N] > m[T] + OVERHEAD_TICKS ? m[N] - m[T] - OVERHEAD_TICKS : 0;
     m[LINGERING] = draw(1);
     m[OVERRUN] = draw(1);
     draw_naming(m, m[T]);
@@ -106,13 +109,14 @@ static void draw_contents(uint32_t *m, const uint32_t *settings) {
 static void try_both(const uint32_t *m, const run *r, const uint32_t *items, size_t items_len, outcome *came) {
     static uint32_t machines[2][KARVELORN_WORDS], places[2][GENERATORS];
     size_t read[2], written[2];
+    uint8_t clipped[SUM_WORDS];
     for (int k = 0; k < 2; k++) {
         const run *order = &r[FIRST + k];
         memcpy(machines[k], m, sizeof machines[k]);
         memset(places[k], 0, sizeof places[k]);
         uint32_t number = karvelorn_pass(machines[k], KARVELORN_WORDS, order->words, order->length, items, items_len,
                                          places[k], GENERATORS, memories[k], KARVELORN_MEMORY_WORDS, &read[k],
-                                         &written[k]);
+                                         &written[k], clipped);
         if (number > came->refused) came->refused = number;
     }
     int same_memory = !memcmp(memories[0], memories[1], sizeof memories[0]);

@@ -20,6 +20,7 @@ from collections import Counter
 from library import Test, build, compared, counts, met_seldom, packed, read_arguments
 
 from compare_requests import COMPARE, Answer, all_requests, failing, tried
+from count_requests import OTHER_COUNT
 from reference import layout
 from reference.delay import units_refusal
 
@@ -32,6 +33,7 @@ PROMISED = {
     "compares": 20000, "yes": 7000, "no": 3000, "values of T": 120, "pairs of passes": 80000,
     **{f"refused by {number}": least for number, least in
        ((1, 120), (2, 700), (5, 1200), (6, 1000))},
+    "refused by 2 for the count": 120,
     **{f"point {point} alone fails": 200 for point in (1, 2, 3, 4)},
     "a pass would be refused by 11 or 12": 1000, "pairs of passes with delay units": 20000,
     "parted": 3000, "parted with delay units": 1000,
@@ -80,6 +82,7 @@ def events(request, answer):
     yield "pairs of passes with delay units", answer.alike * answer.memory_changed
     if answer.number:
         yield f"refused by {answer.number}", 1
+        yield "refused by 2 for the count", request.name.startswith(OTHER_COUNT)
         return
     yield "yes" if answer.equal else "no", 1
     yield "a pass would be refused by 11 or 12", units_refusal(request.machine) != 0

@@ -17,7 +17,7 @@ static void check(const char *name, const void *memory, size_t count, size_t siz
 
 uint32_t __real_karvelorn_fresh(uint32_t *, size_t);
 uint32_t __real_karvelorn_pass(uint32_t *, size_t, const uint32_t *, size_t, const uint32_t *, size_t, uint32_t *,
-                               size_t, uint32_t *, size_t, size_t *, size_t *);
+                               size_t, uint32_t *, size_t, size_t *, size_t *, uint8_t *);
 uint32_t __real_karvelorn_update(uint32_t *, size_t, const uint32_t *, size_t, size_t *);
 
 uint32_t __wrap_karvelorn_fresh(uint32_t *machine, size_t words) {
@@ -27,7 +27,8 @@ uint32_t __wrap_karvelorn_fresh(uint32_t *machine, size_t words) {
 
 uint32_t __wrap_karvelorn_pass(uint32_t *machine, size_t words, const uint32_t *order, size_t entries,
                                const uint32_t *items, size_t items_len, uint32_t *places, size_t places_len,
-                               uint32_t *memory, size_t memory_words, size_t *read, size_t *written) {
+                               uint32_t *memory, size_t memory_words, size_t *read, size_t *written,
+                               uint8_t *clipped) {
     check("machine", machine, words, sizeof *machine);
     check("order", order, entries, sizeof *order);
     check("items", items, items_len, sizeof *items);
@@ -35,8 +36,9 @@ uint32_t __wrap_karvelorn_pass(uint32_t *machine, size_t words, const uint32_t *
     check("memory", memory, memory_words, sizeof *memory);
     check("read", read, 1, sizeof *read);
     check("written", written, 1, sizeof *written);
+    check("clipped", clipped, 64, sizeof *clipped);
     return __real_karvelorn_pass(machine, words, order, entries, items, items_len, places, places_len, memory,
-                                 memory_words, read, written);
+                                 memory_words, read, written, clipped);
 }
 
 uint32_t __wrap_karvelorn_update(uint32_t *machine, size_t words, const uint32_t *commands, size_t commands_len,

@@ -89,7 +89,7 @@ def near_decay(chance, x):
 
 def near_asymptote(chance, x):
     """GL puts V close to 0."""
-    v = envelope(layout.envelope_mode(x["GMODE"]), 0, x["GQ"] >> 12)
+    v = envelope(layout.envelope_mode(x["GMODE"]), 0, x["GQ"])
     x["GL"] = low(close(chance) - v, 12)
 
 
@@ -107,7 +107,7 @@ def near_quarter_by_j(chance, x):
 
 def near_rounding(chance, x):
     """K and V are small, so that W times V is close to the middle between two P."""
-    v = envelope(layout.envelope_mode(x["GMODE"]), 0, x["GQ"] >> 12)
+    v = envelope(layout.envelope_mode(x["GMODE"]), 0, x["GQ"])
     k = chance.choice((1, 2, 3, 4, 8, 16, 32))
     x["GK"] = low(128 * chance.choice((k, -k)), 20)
     x["GL"] = low((32 + 64 * chance.randrange(3)) // k + close(chance) - v, 12)
@@ -115,14 +115,21 @@ def near_rounding(chance, x):
 
 GENERATOR_SHAPES = (near_step_1, near_step_4, near_sweep, near_decay, near_asymptote,
                     near_quarter, near_quarter_by_j, near_rounding)
+# Run modes in which P goes to a sum word.
+HEARD = [mode for mode, switches in layout.RUN_MODES.items() if switches.envelope]
 GMODES = [run << 6 | env << 4 | osc for run, env, osc in
           pairs_of(layout.RUN_MODES, range(4), layout.OSCILLATOR_MODES)]
 
 
+def drawn_registers(chance):
+    """A generator's registers by name, all but GMODE."""
+    return {name: biased(chance, width) for name, width in zip(ELEVEN, layout.GENERATOR_WIDTHS)
+            if name != "GMODE"}
+
+
 def generator_request(chance, number):
     """A generator's turn; the modes and told go round with the number."""
-    x = {name: biased(chance, width) for name, width in zip(ELEVEN, layout.GENERATOR_WIDTHS)
-         if name != "GMODE"}
+    x = drawn_registers(chance)
     x["GMODE"] = GMODES[number // 2 % len(GMODES)]
     x["F"] = biased(chance, 20)
     if chance.randrange(2):
@@ -130,6 +137,30 @@ def generator_request(chance, number):
     for shape in chance.choices(GENERATOR_SHAPES, k=chance.randrange(4)):
         shape(chance, x)
     return (GENERATOR, *(x[name] for name in ELEVEN), x["F"], number % 2)
+
+
+# Sums of cosines
+
+def any_k(chance, x):
+    """GK puts K anywhere."""
+    x["GK"] = chance.getrandbits(20)
+
+
+def cosines_request(chance, gn, gm):
+    """A turn in 0100 that is heard: K mostly close to the end of a quarter, V enough to tell W."""
+    x = drawn_registers(chance)
+    run, env = chance.choice(HEARD), chance.randrange(4)
+    x.update(GN=gn, GM=gm, GMODE=run << 6 | env << 4 | layout.SUM_OF_COSINES)
+    chance.choice((near_quarter, near_quarter, near_quarter, any_k))(chance, x)
+    v = chance.choice((64, 2048, 4095, chance.randint(64, 4095)))
+    x["GL"] = low(v - envelope(env, 0, x["GQ"]), 12)
+    return (GENERATOR, *(x[name] for name in ELEVEN), biased(chance, 20), chance.randrange(2))
+
+
+def cosines_requests(chance):
+    """A turn for every GN with every GM."""
+    for gn, gm in pairs_of(range(1 << 11), range(1 << 4)):
+        yield cosines_request(chance, gn, gm)
 
 
 # Shapes of a modifier
@@ -200,9 +231,9 @@ def modifier_request(chance, number):
 # The whole of the requests
 
 def table_requests(chance):
-    """Every k, every H, every GMODE and MMODE."""
+    """Every k, every high 14 bits of a GQ, every GMODE and MMODE."""
     yield from ((SINE, k) for k in range(8192))
-    yield from ((EXPONENTIAL, h << 12 | chance.getrandbits(12)) for h in range(4096))
+    yield from ((EXPONENTIAL, high << 10 | chance.getrandbits(10)) for high in range(1 << 14))
     yield from ((BUILT, gmode, gmode % 512) for gmode in range(1024))
 
 
@@ -227,6 +258,7 @@ def all_requests(count, seed):
     chance = random.Random(seed)
     requests = list(table_requests(chance))
     requests += word_requests(chance, count // 4)
+    requests += cosines_requests(chance)
     requests += (generator_request(chance, number) for number in range(count))
     requests += (modifier_request(chance, number) for number in range(count))
     return requests

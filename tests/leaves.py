@@ -6,8 +6,9 @@
 A request is 16 unsigned 32-bit little-endian words, the answer 16 more; requests
 follow one another until the end of the input. Word 0 is the operation; answer
 words that are not named in OPERATIONS are 0, and so is P where the run mode
-neither adds nor replaces, since nothing hears it. With --self the reference answers
-in a process of its own, with one fault of reference/faults.py on if named.
+neither adds nor replaces, since nothing hears it. Fails too where the requests met
+something too seldom. With --self the reference answers in a process of its own, with
+one fault of reference/faults.py on if named.
 """
 
 import os
@@ -15,25 +16,35 @@ import struct
 import subprocess
 import sys
 import tempfile
+from collections import Counter
 from typing import NamedTuple
 
-sys.path.insert(0, os.path.dirname(os.path.dirname(os.path.abspath(__file__))))
+# First, since it makes the reference known.
+from library import counts, met_seldom
 
-from leaf_requests import (BUILT, EIGHT, ELEVEN, EXPONENTIAL, GENERATOR,  # noqa: E402
+from leaf_requests import (BUILT, EIGHT, ELEVEN, EXPONENTIAL, GENERATOR,
                            MODIFIER, PRODUCTS, SINE, SUMS, all_requests)
-from reference.faults import NAMES, switched_on  # noqa: E402
-from reference.generator import generator_turn  # noqa: E402
-from reference.layout import RUN_MODES, run_mode  # noqa: E402
-from reference.machine import (function_built, oscillator_mode_built,  # noqa: E402
+from reference.faults import NAMES, switched_on
+from reference.generator import generator_turn
+from reference.layout import (L_MINUS_EXPONENTIAL, L_PLUS_EXPONENTIAL, RUN_MODES, SUM_OF_COSINES,
+                              envelope_mode, oscillator_mode, run_mode)
+from reference.machine import (function_built, oscillator_mode_built,
                                run_mode_built)
-from reference.modifier import integer_product, modifier_turn, product  # noqa: E402
-from reference.tables import exponential, sine  # noqa: E402
-from reference.words import leaves_range, low, signed  # noqa: E402
+from reference.modifier import integer_product, modifier_turn, product
+from reference.tables import exponential, sine
+from reference.words import leaves_range, low, signed
 
 WORDS = 16
 FRAME = struct.Struct("<16I")
 COUNT, SEED = 60000, 1978
 SHOWN = 5
+
+# How often each kind is met at least, in COUNT requests.
+PROMISED = {
+    "turns in 0100 that are heard": 32768, "values of GN in 0100": 2048, "values of GM in 0100": 16,
+    "0100 with K at or close to the end of a quarter": 20000,
+    "exponentials that 12 bits of GQ don't tell": 4000, "levels of linear modes": 25000,
+}
 
 
 class Operation(NamedTuple):
@@ -65,18 +76,22 @@ def sums(a, b, gq):
             low(decayed, 24), not 0 <= decayed < 1 << 24)
 
 
+def heard(x):
+    """Whether P of a generator's turn goes to a sum word."""
+    return RUN_MODES[run_mode(x[11])].envelope
+
+
 def answer_words(x):
     """The named answer words to a request."""
     if x[0] == SINE:
         return sine(x[1])
     if x[0] == EXPONENTIAL:
-        return (exponential(x[1] >> 12),)
+        return (exponential(x[1] >> 10),)
     if x[0] == PRODUCTS:
         return product(*x[1:4]), integer_product(*x[1:4])
     if x[0] == GENERATOR:
         after, p, triggers = generator_turn(x[1:12], x[12], x[13] == 1)
-        brings = RUN_MODES[run_mode(x[11])].envelope
-        return *after, p if brings else 0, triggers
+        return *after, p if heard(x) else 0, triggers
     if x[0] == MODIFIER:
         after, s = modifier_turn(x[1:9], x[9], x[10])
         return *after, s
@@ -93,6 +108,30 @@ def frame(words):
 def answers(requests):
     """The reference's answers to packed requests, packed."""
     return b"".join(frame(answer_words(x)) for x in FRAME.iter_unpack(requests))
+
+
+# What the requests met
+
+QUARTER, CLOSE = 2048, 2
+EXPONENTIAL_MODES = (L_MINUS_EXPONENTIAL, L_PLUS_EXPONENTIAL)
+
+
+def met_by(requests):
+    """What is counted of the generators' turns that are heard."""
+    turns = [x for x in requests if x[0] == GENERATOR and heard(x)]
+    cosines = [x for x in turns if oscillator_mode(x[11]) == SUM_OF_COSINES]
+    places = [(x[3] >> 7) % QUARTER for x in cosines]
+    exponentials = [x[7] >> 10 for x in turns if envelope_mode(x[11]) in EXPONENTIAL_MODES]
+    return Counter({
+        "turns in 0100 that are heard": len(cosines),
+        "values of GN in 0100": len({x[4] for x in cosines}),
+        "values of GM in 0100": len({x[5] for x in cosines}),
+        "0100 with K at or close to the end of a quarter":
+            sum(not CLOSE < place < QUARTER - CLOSE for place in places),
+        "exponentials that 12 bits of GQ don't tell":
+            sum(exponential(high) != exponential(high >> 2 << 2) for high in exponentials),
+        "levels of linear modes": len(turns) - len(exponentials),
+    })
 
 
 # Asking and comparing
@@ -155,7 +194,9 @@ def compared(command, count, seed):
     got, status = replies(command, packed)
     differ = report(requests, expected, got, status)
     print(f"leaves: {len(requests)} compared, {differ} differ")
-    return 1 if differ else 0
+    met = met_by(requests)
+    print(f"met: {counts(met)}")
+    return met_seldom(met, PROMISED, min(count, COUNT), COUNT) or int(differ > 0)
 
 
 def serve():

@@ -194,16 +194,17 @@ def word_name(place):
         return f"{layout.MODIFIER_NAMES[register]} of modifier {m}"
     if layout.DX <= place < layout.DELAY_UNITS_AT:
         return CONTROL_NAMES[place - layout.DX]
-    if layout.DELAY_UNITS_AT <= place < layout.MACHINE_WORDS:
+    if layout.DELAY_UNITS_AT <= place < layout.UPDATE_TICKS:
         u, register = divmod(place - layout.DELAY_UNITS_AT, layout.DELAY_UNIT_WORDS)
         return f"{layout.DELAY_UNIT_NAMES[register]} of delay unit {u}"
-    return f"word {place}"
+    return "update ticks" if place == layout.UPDATE_TICKS else f"word {place}"
 
 
 def unit_words(machine, place):
     """The words of the unit that a place belongs to, as they were before the call."""
-    between = layout.GENERATOR_THIS <= place < layout.DELAY_UNITS_AT
-    if between or len(machine) != layout.MACHINE_WORDS:
+    alone = (layout.GENERATOR_THIS <= place < layout.DELAY_UNITS_AT
+             or place >= layout.UPDATE_TICKS)
+    if alone or len(machine) != layout.MACHINE_WORDS:
         return ""
     at, size = (0, layout.GENERATOR_WORDS)
     if place >= layout.MODIFIERS_AT:

@@ -3,20 +3,25 @@
 Registers have a bias to extremes. Each request comes with the reference's answer;
 the machine and the delay memory that it leaves go into the next request of its chain.
 Every other chain is one of delay units: T is 10 or more, and it is so long that words
-come back.
+come back. Half of the chains have large partials, so that sum words clip over; some of
+their passes are asked again by an order that is equal.
 """
 
 import random
 from itertools import chain
 from typing import NamedTuple
 
+from clip_requests import at_edges, between, put_loud
+from count_requests import with_other_count
 from delay_requests import (Memory, bad_memory, changed_words, drawn_memory, memory_words,
                             put_invoking, put_stray, put_units, unit_damages, with_bad_line,
                             with_unit_twice, with_words)
-from leaf_requests import biased, generator_request, modifier_request
+from leaf_requests import GMODES, biased, generator_request, modifier_request
 from reference import layout
-from reference.machine import below_t_in, fresh, run_pass
+from reference.machine import below_t_in, fresh, put_update_ticks, run_pass
 from reference.modifier import FORMULAS
+from reference.orders import agree
+from reference.sums import no_marks
 from reference.words import low
 
 PASS, FRESH = range(2)
@@ -41,6 +46,7 @@ class Answer(NamedTuple):
     number: int
     read: int
     written: int
+    clipped: list
     machine: list
     places: list
     changed: list
@@ -62,7 +68,7 @@ def near_overflow(chance, words):
 
 def generator(chance, run_modes, shared):
     """Eleven words and the word at GFM that they were shaped for; GSUM and GFM below shared."""
-    request = generator_request(chance, chance.randrange(360))
+    request = generator_request(chance, chance.randrange(2 * len(GMODES)))
     words, f = list(request[1:12]), request[12]
     words[layout.GSUM] %= shared
     words[layout.GFM] = words[layout.GFM] & 64 | words[layout.GFM] % shared
@@ -110,7 +116,7 @@ def put_modifiers(chance, machine, count):
 
 
 def put_controls(chance, machine, t):
-    """T and the other words from DX on, within range; the counter is often about to wrap."""
+    """T, the other words from DX on, within range, and the count; the counter often wraps soon."""
     machine[layout.DX] = biased(chance, 20)
     machine[layout.T] = t
     machine[layout.N] = chance.choice((2, 3, 265, 1024, 1025, chance.randint(2, 1025)))
@@ -119,6 +125,7 @@ def put_controls(chance, machine, t):
     machine[layout.LINGERING] = chance.randrange(2)
     machine[layout.LINGER_PASS] = biased(chance, 20)
     machine[layout.OVERRUN] = chance.randrange(2)
+    put_update_ticks(machine)
 
 
 def whole_machine(chance):
@@ -172,6 +179,26 @@ def good_order(chance, t):
     return order
 
 
+def swapped(chance, order):
+    """The order with two neighbours exchanged, or any two."""
+    other = list(order)
+    if len(order) > 1:
+        i = chance.randrange(len(order) - 1)
+        j = chance.choice((i + 1, i + 1, chance.randrange(len(order))))
+        other[i], other[j] = other[j], other[i]
+    return other
+
+
+def walked(chance, machine, order):
+    """An order far from this one that agrees with it: exchanges that keep the agreement."""
+    other = order
+    for _ in range(2 * len(order) if len(order) < 16 else 8):
+        tried = swapped(chance, other)
+        if agree(machine, order, tried):
+            other = tried
+    return other
+
+
 def drawn(chance, count):
     """So many words of 32 bits."""
     return [chance.choice((chance.getrandbits(32), biased(chance, 20))) for _ in range(count)]
@@ -188,6 +215,22 @@ def good_request(chance, machine, memory, name="good"):
     items, places = good_lists(chance, machine)
     order = good_order(chance, machine[layout.T])
     return Request(PASS, machine, order, items, places, memory, name)
+
+
+LOUD, EQUAL = "large partials", "large partials, by an equal order"
+
+
+def loud_requests(chance, machine, memory):
+    """A good pass with large partials; before it, now and then, the same by an equal order."""
+    request = good_request(chance, machine, memory, LOUD)
+    if not chance.randrange(6):
+        other = walked(chance, machine, request.order)
+        request = request._replace(machine=between(machine, request.order, other))
+        yield request._replace(order=other, name=EQUAL)
+    elif chance.randrange(2):
+        machine, items = at_edges(chance, machine, request.order, request.items)
+        request = request._replace(machine=machine, items=items)
+    yield request
 
 
 # Damage to a machine: a place, the bits of the word that stay, and those that are set
@@ -242,7 +285,27 @@ def other_damages():
 DAMAGES = list(chain(register_damages(), mode_damages(), other_damages(), unit_damages()))
 # Mixed, so that few requests meet all kinds.
 random.Random(1978).shuffle(DAMAGES)
-LENGTHS = (0, 1, 4112, 4113, 4114, 4118, 4119, 4120, 4342, 4344, 4345, 8686)
+LENGTHS = (0, 1, 4112, 4113, 4114, 4118, 4119, 4120, 4342, 4343, 4345, 8688)
+
+
+def with_damage(machine, number):
+    """A copy of a machine with the next damage, and its name."""
+    name, place, keep, put = DAMAGES[number % len(DAMAGES)]
+    other = list(machine)
+    other[place] = other[place] & keep | put
+    return other, name
+
+
+def with_length(machine, number):
+    """A machine of another length, and its name."""
+    length = LENGTHS[number % len(LENGTHS)]
+    return (machine + machine)[:length], f"{length} words"
+
+
+def damaged_machine(machine, number):
+    """A machine that question 1 or 2 refuses, and what was done to it."""
+    change = {0: with_length, 3: with_other_count}.get(number % 6)
+    return change(machine, number // 6) if change else with_damage(machine, number)
 
 
 # Each kind of fault changes a good request, which it gets with a number, into one that a question
@@ -250,17 +313,20 @@ LENGTHS = (0, 1, 4112, 4113, 4114, 4118, 4119, 4120, 4342, 4344, 4345, 8686)
 
 def damaged(chance, request, number):
     """The next damage to a copy of the machine."""
-    name, place, keep, put = DAMAGES[number % len(DAMAGES)]
-    other = list(request.machine)
-    other[place] = other[place] & keep | put
+    other, name = with_damage(request.machine, number)
+    return request._replace(machine=other, name=name)
+
+
+def other_count(chance, request, number):
+    """A count of update ticks that is not that of T and N."""
+    other, name = with_other_count(request.machine, number)
     return request._replace(machine=other, name=name)
 
 
 def wrong_length(chance, request, number):
     """A run of another length."""
-    length = LENGTHS[number % len(LENGTHS)]
-    other = (request.machine + request.machine)[:length]
-    return request._replace(machine=other, name=f"{length} words")
+    other, name = with_length(request.machine, number)
+    return request._replace(machine=other, name=name)
 
 
 # Orders and lists that are not good
@@ -345,7 +411,7 @@ def named_twice(chance, request, number):
 # Several things at once, so that the sequence of the questions counts. A machine's words are
 # damaged and its length changed after all else, which looks at its T and its units.
 DELAY_FAULTS = (spoilt_memory, spoilt_line, named_twice)
-ALL_FAULTS = DELAY_FAULTS + (bad_lists, bad_order, damaged, wrong_length)
+ALL_FAULTS = DELAY_FAULTS + (bad_lists, bad_order, other_count, damaged, wrong_length)
 
 
 def faulty(chance, request, faults):
@@ -370,10 +436,10 @@ def answered(request):
     """The reference's answer to a request."""
     if request.operation == FRESH:
         number, machine = fresh(request.machine)
-        return Answer(number, 0, 0, machine, [], [])
+        return Answer(number, 0, 0, no_marks(), machine, [], [])
     words = memory_words(request.memory)
-    *answer, words_after = run_pass(*request[1:5], words)
-    return Answer(*answer, changed_words(words, words_after))
+    done = run_pass(*request[1:5], words)
+    return Answer(*done[:-1], changed_words(words, done.memory))
 
 
 def refused_requests(chance, machine, memory, number):
@@ -383,6 +449,8 @@ def refused_requests(chance, machine, memory, number):
 
     yield changed(damaged, number)
     yield changed(chance.choice((bad_order, bad_lists, bad_lists)), number)
+    if number % 4 == 0:
+        yield changed(other_count, number // 4)
     if number % 4 == 1:
         yield changed(wrong_length, number // 4)
     if number % 4 == 2:
@@ -400,13 +468,22 @@ def delay_refusals(chance, machine, memory, number):
     yield faulty(chance, good_request(chance, machine, memory), several)
 
 
+def good_requests(chance, machine, memory, loud):
+    """The passes of a chain that no question refuses; the last one is gone on from."""
+    if loud:
+        return loud_requests(chance, machine, memory)
+    return iter((good_request(chance, machine, memory),))
+
+
 def chained(chance, machine, passes, refusals, number):
     """The requests of one machine and one memory: good passes in a row, then refused ones."""
-    memory = drawn_memory(chance)
+    memory, loud = drawn_memory(chance), number % 2 == 1
+    if loud:
+        put_loud(chance, machine, machine[layout.T])
     for _ in range(passes):
-        request = good_request(chance, machine, memory)
-        answer = answered(request)
-        yield request, answer
+        for request in good_requests(chance, machine, memory, loud):
+            answer = answered(request)
+            yield request, answer
         machine, memory = answer.machine, with_words(memory, dict(answer.changed))
     for make in refusals:
         for request in make(chance, machine, memory, number):

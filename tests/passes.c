@@ -4,9 +4,10 @@
  * places; the length of the delay memory, the number that it is made from and how many of its words are others), then
  * the words of the four runs, then those other words of the delay memory, each as its slot and the word.
  *
- * An answer is the number (32 bits), the counts read and written (64 bits each), the words of the machine and of the
- * places, then how many words of the delay memory are not as they were (32 bits), and the first CHANGED of these by
- * slot, each as its slot and the word; pairs that are not needed are 0. Every word of the delay memory is looked at.
+ * An answer is the number (32 bits), the counts read and written (64 bits each), the mark of each generator-this word (a
+ * byte each, all 0 of a fresh machine), the words of the machine and of the places, then how many words of the delay
+ * memory are not as they were (32 bits), and the first CHANGED of these by slot, each as its slot and the word; pairs
+ * that are not needed are 0. Every word of the delay memory is looked at.
  */
 #include "karvelorn.h"
 #include "runs.h"
@@ -14,6 +15,17 @@
 enum { PASS, FRESH };
 enum { MACHINE, ORDER, ITEMS, PLACES, READ_RUNS, MEMORY = READ_RUNS, RUNS };
 enum { CHANGED = 32 }; /* there are 32 delay units, and each changes at most one word */
+enum { SUM_WORDS = 64, UNMARKED = 0xA5 };
+
+/* The marks that a pass answers, and bytes beside them that no call may touch. */
+typedef struct {
+    uint8_t before[BESIDE], of[SUM_WORDS], behind[BESIDE];
+} marks;
+
+static void check_marks(const marks *m) {
+    for (int i = 0; i < BESIDE; i++)
+        if (m->before[i] != UNMARKED || m->behind[i] != UNMARKED) stop(3, "a byte beside the marks was written");
+}
 
 static void put_changed(const run *r) {
     uint32_t count = 0, changed[CHANGED][2] = {{0, 0}};
@@ -33,20 +45,25 @@ static void put_changed(const run *r) {
 static void answer(uint32_t operation, run *r) {
     uint32_t number;
     size_t read = SIZE_MAX, written = SIZE_MAX;
+    marks clipped;
+    memset(&clipped, UNMARKED, sizeof clipped);
     if (operation == FRESH) {
         number = karvelorn_fresh(r[MACHINE].words, r[MACHINE].length);
         read = written = 0;
+        memset(clipped.of, 0, sizeof clipped.of);
     } else {
         number = karvelorn_pass(r[MACHINE].words, r[MACHINE].length, r[ORDER].words, r[ORDER].length, r[ITEMS].words,
                                 r[ITEMS].length, r[PLACES].words, r[PLACES].length, r[MEMORY].words, r[MEMORY].length,
-                                &read, &written);
+                                &read, &written, clipped.of);
     }
+    check_marks(&clipped);
     check_kept(&r[ORDER]);
     check_kept(&r[ITEMS]);
     for (int i = 0; i < RUNS; i++) check_beside(&r[i]);
     uint64_t counts[2] = {read, written};
     put(&number, sizeof number, 1);
     put(counts, sizeof counts[0], 2);
+    put(clipped.of, 1, SUM_WORDS);
     put_run(&r[MACHINE]);
     put_run(&r[PLACES]);
     put_changed(&r[MEMORY]);

@@ -4,11 +4,11 @@
 
 Run from the repository root. Builds tests/passes.c with include/karvelorn.h and
 target/staticlib/libkarvelorn.a (which it has rt make where it is missing or older than the
-code) and compares each answer, each word of the machine, each written place and each
-word of delay memory. Fails too where the requests met something too seldom. With --fault
-the reference has one fault of reference/faults.py on: the comparison must fail. With
---dry nothing is built or asked: it says what the requests met, and with --fault in how
-many answers the fault shows.
+code) and compares each answer, the marks of sum words that clipped over, each word of the
+machine, each written place and each word of delay memory. Fails too where the requests met
+something too seldom. With --fault the reference has one fault of reference/faults.py on:
+the comparison must fail. With --dry nothing is built or asked: it says what the requests
+met, and with --fault in how many answers the fault shows.
 """
 
 import struct
@@ -18,9 +18,12 @@ from collections import Counter
 from library import (Test, compared, counts, machine_differences, met_seldom, packed,
                      read_arguments, run, show_words, unpacked)
 
+from count_requests import OTHER_COUNT
 from delay_requests import Echoes, delay_events, question_events
-from pass_requests import PASS, Answer, all_requests, answered
+from pass_requests import EQUAL, LOUD, PASS, Answer, all_requests, answered
 from reference import layout
+from reference.machine import generator_column
+from reference.orders import in_mode, register
 
 COUNT, SEED = 21000, 1978
 HEAD, COUNTS = struct.Struct("<8I"), struct.Struct("<IQQ")
@@ -30,6 +33,11 @@ CHANGED = layout.DELAY_UNITS
 # How often each kind is met at least, in COUNT requests.
 PROMISED = {
     "passes": 20000, "passes done": 12000, "values of T": 200, "delay memory changed": 5000,
+    "turns in 0100 that are heard": 20000,
+    # Sum words that clipped over: in a third of the passes with large partials.
+    "large partials": 6000, "large partials, marked": 2500, "passes marked": 4500,
+    "several words marked": 1000, "a word with a 0111 marked": 800,
+    "equal orders": 800, "equal orders, other marks": 200,
     # Units that are named.
     "line": 9000, "table": 4000, "rounded table": 4000, "inactive unit": 4000,
     "unit out of range": 8000, "unit named above T div 2 too": 5000,
@@ -44,7 +52,8 @@ PROMISED = {
     **{f"refused by {number}": least for number, least in
        ((1, 400), (2, 1000), (5, 200), (6, 200), (7, 150), (8, 80), (10, 1000), (11, 500),
         (12, 600))},
-    "refused by 2 for a delay unit": 150, "10 by too few words": 200, "10 by too many words": 150,
+    "refused by 2 for a delay unit": 150, "refused by 2 for the count": 200,
+    "10 by too few words": 200, "10 by too many words": 150,
     "10 by a word too wide": 400, "11 by X and Z": 150, "11 by Y and Z": 150,
     "12 of a line": 100, "12 of a table": 40, "12 of a rounded table": 40,
     "12 of a unit that acts as inactive": 200,
@@ -71,20 +80,21 @@ def changed_bytes(changed):
 
 def answer_bytes(answer):
     """An answer as the program writes it."""
-    return (COUNTS.pack(*answer[:3]) + packed(answer.machine) + packed(answer.places)
-            + changed_bytes(answer.changed))
+    return (COUNTS.pack(*answer[:3]) + bytes(answer.clipped) + packed(answer.machine)
+            + packed(answer.places) + changed_bytes(answer.changed))
 
 
 def answer_in(got, expected):
     """The answer in the program's bytes, by the lengths of the expected one; None if cut short."""
-    if len(got) < COUNTS.size or len(got) != len(answer_bytes(expected)):
+    marks_end = COUNTS.size + layout.QUADRANT_WORDS
+    if len(got) < marks_end or len(got) != len(answer_bytes(expected)):
         return None
-    words, length = unpacked(got[COUNTS.size:]), len(expected.machine)
+    words, length = unpacked(got[marks_end:]), len(expected.machine)
     places_end = length + len(expected.places)
     count, *pairs = words[places_end:]
     changed = list(zip(pairs[0::2], pairs[1::2]))[:count]
-    return Answer(*COUNTS.unpack(got[:COUNTS.size]), words[:length], words[length:places_end],
-                  changed)
+    return Answer(*COUNTS.unpack(got[:COUNTS.size]), list(got[COUNTS.size:marks_end]),
+                  words[:length], words[length:places_end], changed)
 
 
 def memory_differences(expected, got):
@@ -108,6 +118,8 @@ def show(request, expected, got):
         print(f"  {title}: number {given.number}, read {given.read}, written {given.written}, "
               f"{len(given.changed)} words of delay memory changed")
     show_words(machine_differences(machine, expected.machine, answer.machine)
+               + [(f"mark of word {i}", a, b)
+                  for i, (a, b) in enumerate(zip(expected.clipped, answer.clipped)) if a != b]
                + [(f"written place {i}", a, b)
                   for i, (a, b) in enumerate(zip(expected.places, answer.places)) if a != b]
                + memory_differences(expected.changed, answer.changed))
@@ -137,12 +149,37 @@ def delay_questions(request):
     return failed
 
 
+def cosines_heard(machine):
+    """How many generators below T are in 0100 and have their P go to a sum word."""
+    gmodes = generator_column(machine, layout.GMODE)[:machine[layout.T]]
+    return sum(layout.oscillator_mode(gmode) == layout.SUM_OF_COSINES
+               and layout.RUN_MODES[layout.run_mode(gmode)].envelope for gmode in gmodes)
+
+
+def clip_events(request, answer):
+    """What is counted of the marks of a pass that was done."""
+    marked = sum(answer.clipped)
+    if request.name in (LOUD, EQUAL):
+        yield "large partials"
+        if marked:
+            yield "large partials, marked"
+    if marked:
+        yield "passes marked"
+    if marked > 1:
+        yield "several words marked"
+    machine = request.machine
+    read = {register(machine, g, layout.GSUM)
+            for g in in_mode(machine, range(machine[layout.T]), layout.READ_DATA)}
+    if any(answer.clipped[word] for word in read):
+        yield "a word with a 0111 marked"
+
+
 class Met:
     """Counts what the requests met."""
 
     def __init__(self):
         self.kinds, self.ticks = Counter(), Counter()
-        self.left, self.echoes = None, Echoes()
+        self.units, self.echoes, self.equal = [], Echoes(), None
 
     def count(self, request, answer):
         """Counts a request with its answer."""
@@ -156,17 +193,29 @@ class Met:
         machine, after = request.machine, answer.machine
         self.kinds["passes done"] += 1
         self.kinds["delay memory changed"] += bool(answer.changed)
+        self.kinds["turns in 0100 that are heard"] += cosines_heard(machine)
         self.ticks[machine[layout.T]] += 1
         self.kinds.update(delay_events(machine, after))
-        if machine is not self.left:
+        self.kinds.update(clip_events(request, answer))
+        if self.equal:
+            self.kinds["equal orders"] += 1
+            self.kinds["equal orders, other marks"] += answer.clipped != self.equal.clipped
+        self.equal = answer if request.name == EQUAL else None
+        if request.name != EQUAL:
+            self.count_echoes(machine, after)
+
+    def count_echoes(self, machine, after):
+        """Counts the words that came back, where the delay units are those that a pass left."""
+        if machine[layout.DELAY_UNITS_AT:] != self.units:
             self.echoes = Echoes()
         self.kinds["line, a word came back"] += self.echoes.came_back(machine, after)
-        self.left = after
+        self.units = after[layout.DELAY_UNITS_AT:]
 
     def count_refused(self, request, number):
         """Counts a refused pass: by which question, and which of 10, 11, 12 it fails as well."""
         self.kinds[f"refused by {number}"] += 1
         self.kinds["refused by 2 for a delay unit"] += number == 2 and "delay unit" in request.name
+        self.kinds["refused by 2 for the count"] += request.name.startswith(OTHER_COUNT)
         if number == 10:
             self.kinds["10 by " + memory_fault(request.memory)] += 1
         if number in (11, 12):

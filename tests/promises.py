@@ -49,6 +49,8 @@ FORMS = (
     ("16 rows of switches", "modes", r"pub type Rows = \[\[u8; 4\]; 16\];[^;]*const SWITCHES: Rows ="),
     ("sweep takes self and gives it back", "generator", r"pub fn sweep\(mut self\) -> Generator"),
     ("turn takes self and gives it back", "generator", r"pub fn turn\(mut self, [^)]*\) -> Generator"),
+    ("the place in the quarter by arithmetic on its number", "sine", r"let backwards = \(k / 2048 % 2\) as usize;\s*j \^ \(2047 \* backwards\)\n\}"),
+    ("the sine's sign by arithmetic on the quarter's number", "sine", r"\{\n\s*k / 2048 / 2\n\}"),
     ("decay takes self and gives it back", "generator", r"pub fn decay\(mut self, [^)]*\) -> Generator"),
 )
 

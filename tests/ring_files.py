@@ -74,12 +74,15 @@ EXAMPLE_PRINTED = b"pass=1 left=0 right=0\npass=2 left=131040 right=0\n"
 
 
 def shown():
-    """The example of the scope, printed as it stands there, the bell and the belfry."""
+    """The example of the scope, printed as it stands there, and every file of examples/ but the long bell."""
     yield known("the example of the scope", EXAMPLE, EXAMPLE_PRINTED)
-    for name in ("short_bell", "belfry"):
-        with open(os.path.join(ROOT, "examples", name + ".txt"), "rb") as example:
+    folder = os.path.join(ROOT, "examples")
+    names = sorted(name for name in os.listdir(folder) if name.endswith(".txt") and name != "bell.txt")
+    assert {"short_bell.txt", "belfry.txt"} <= set(names), "an example is missing"
+    for name in names:
+        with open(os.path.join(folder, name), "rb") as example:
             made = file(f"examples/{name}", example.read())
-        assert name == "short_bell" or echo_lines(made.printed) > 200, "the belfry has no echo"
+        assert name != "belfry.txt" or echo_lines(made.printed) > 200, "the belfry has no echo"
         yield made
 
 
@@ -423,7 +426,7 @@ def drawn_machine(chance):
 def drawn_words(chance, machine):
     """The words that are not those of a fresh machine, in any sequence, some places twice."""
     fresh = fresh_machine()
-    places = [place for place in range(len(machine)) if machine[place] != fresh[place]]
+    places = [place for place in range(layout.FILE_PLACES) if machine[place] != fresh[place]]
     chance.shuffle(places)
     words = [(place, machine[place]) for place in places]
     for _ in range(chance.choice((0, 0, 1, 3))):

@@ -9,8 +9,9 @@ import random
 from typing import NamedTuple
 
 from leaf_requests import biased
-from pass_requests import DAMAGES, LENGTHS, whole_machine
+from pass_requests import damaged_machine, whole_machine
 from reference import layout
+from reference.machine import put_update_ticks
 from reference.modifier import FORMULAS
 from reference.update import limit, run_update
 from reference.words import low
@@ -77,13 +78,25 @@ def misc(chance):
             | noise(chance, 31, 32))
 
 
+def ticks_by(chance, q, number):
+    """TICKS with a Q and a number."""
+    return (code("00011") | put(14, 23, number) | put(32, 32, q)
+            | noise(chance, *range(4, 14), 29, 30, 33, 34, 35))
+
+
 def ticks(chance):
     """T or N; a T of 256 and both ends of N are frequent."""
     q = chance.randrange(2)
     most = 1023 if q else 255
-    number = chance.choice((0, 1, most - 1, most, 255, chance.randint(0, most)))
-    return (code("00011") | put(14, 23, number) | put(32, 32, q)
-            | noise(chance, *range(4, 14), 29, 30, 33, 34, 35))
+    return ticks_by(chance, q, chance.choice((0, 1, most - 1, most, 255, chance.randint(0, most))))
+
+
+def both_ticks(chance):
+    """T, then N or N, then T, so that N-T-8 is close to 0."""
+    t = chance.choice((1, 2, 255, 256, chance.randint(1, 256)))
+    n = max(t + 8 + chance.randint(-2, 3), 2)
+    pair = [ticks_by(chance, 0, t - 1), ticks_by(chance, 1, n - 2)]
+    return pair if chance.randrange(2) else pair[::-1]
 
 
 def whole(bits):
@@ -284,14 +297,16 @@ def commands_of(chance, count, counter, waiting):
         kind = chance.randrange(20)
         if kind == 0:
             made.append(misc(chance))
-        elif kind < 3:
+        elif kind == 1:
             made.append(ticks(chance))
+        elif kind == 2:
+            made += both_ticks(chance)
         elif kind < 6:
             command, counter = (timer if waiting else passing_timer)(chance, counter)
             made.append(command)
         else:
             made.append(chance.choice(LOADS)(chance))
-    return made
+    return made[:count]
 
 
 def listed(chance, machine):
@@ -319,6 +334,7 @@ def put_ticks(chance, machine):
     if not chance.randrange(60):
         most = chance.choice((256, 1016, chance.randint(40, 1016)))
     machine[layout.T], machine[layout.N] = t, min(max(t + 8 + most, 2), 1025)
+    put_update_ticks(machine)
 
 
 def put_lingering(chance, machine):
@@ -340,17 +356,6 @@ def put_stopped(chance, machine):
         machine[place] = layout.with_run_mode(machine[place], mode)
 
 
-def damaged(machine, number):
-    """A machine that question 1 or 2 refuses, and what was done to it."""
-    if number % 8 == 0:
-        length = LENGTHS[number // 8 % len(LENGTHS)]
-        return (machine + machine)[:length], f"{length} words"
-    name, place, keep, set_bits = DAMAGES[number % len(DAMAGES)]
-    other = list(machine)
-    other[place] = other[place] & keep | set_bits
-    return other, name
-
-
 # The whole of the requests
 
 def answered(request):
@@ -370,7 +375,7 @@ def chained(chance, machine, number):
         yield request, answer
         machine = list(answer.machine)
     commands, _ = listed(chance, machine)
-    other, name = damaged(machine, number)
+    other, name = damaged_machine(machine, number)
     yield answered(Request(other, commands, name))
 
 

@@ -16,6 +16,8 @@ from collections import Counter
 
 from library import (Test, compared, counts, machine_differences, met_seldom, packed,
                      read_arguments, run, show_words, unpacked)
+
+from count_requests import OTHER_COUNT
 from reference import layout
 from reference.delay import units_refusal
 from reference.update import field, limit, still_lingering
@@ -23,19 +25,22 @@ from update_requests import Answer, all_requests, answered
 
 COUNT, SEED = 20000, 1978
 HEAD, COUNTS = struct.Struct("<2I"), struct.Struct("<IQ")
-DLY, MMODE = 0b00001, 0b11110
+DLY, TICKS, GMODE, MMODE = 0b00001, 0b00011, (0b10100, 0b10101), 0b11110
 
 # How often each kind is met at least, in COUNT requests.
 PROMISED = {
     **{f"refused by {number}": least for number, least in
        ((1, 150), (2, 1200), (3, 2500), (4, 500))},
+    "refused by 2 for the count": 200,
+    **{f"TICKS leaves {count} update ticks": least for count, least in
+       ((0, 300), (1, 100), (2, 100))},
     "lingering": 2000, "a Linger waits": 300, "the words end": 2500, "the ticks end": 1000,
     "no ticks": 1500, "Linger ended": 700, "overrun set": 500,
     **{f"code {code:05b} taken": 800 for code in range(32)},
     "DLY X": 2000, "DLY Y": 2000, "DLY Z": 2000, "DLY X or Y, other 4 bits": 3000,
     **{f"DLY P {p:04b}": 400 for p in layout.DELAY_MODES},
     **{f"DLY P {p:04b} refused": 20 for p in range(16) if p not in layout.DELAY_MODES},
-    "DLY UU 11 refused": 150, "function 00111 loaded": 60,
+    "DLY UU 11 refused": 150, "function 00111 loaded": 60, "oscillator mode 0100 loaded": 200,
     "a pass would be refused by 11 or 12": 4000,
 }
 
@@ -104,18 +109,32 @@ def refused_delay_event(command):
     return "DLY UU 11 refused" if uu == 0b11 else f"DLY P {p:04b} refused"
 
 
+def count_events(request, answer):
+    """What is counted about the count of update ticks."""
+    if request.name.startswith(OTHER_COUNT):
+        yield "refused by 2 for the count"
+    taken = request.commands[:answer.taken]
+    if any(field(command, 24, 28) == TICKS for command in taken):
+        left = answer.machine[layout.UPDATE_TICKS]
+        yield f"TICKS leaves {left if left < 3 else 'more'} update ticks"
+
+
 def events(request, answer):
     """All that is counted of a request."""
     yield ending(request, answer)
+    yield from count_events(request, answer)
     taken, before, after = request.commands[:answer.taken], request.machine, answer.machine
     for command in taken:
         code = field(command, 24, 28)
         yield f"code {code:05b} taken"
         if code == DLY:
             yield from delay_event(command)
-        loads = code == MMODE and not field(command, 4, 4)
-        if loads and field(command, 8, 12) == layout.INVOKE_DELAY_UNIT:
+        if field(command, 4, 4):
+            continue
+        if code == MMODE and field(command, 8, 12) == layout.INVOKE_DELAY_UNIT:
             yield "function 00111 loaded"
+        if code in GMODE and field(command, 13, 16) == layout.SUM_OF_COSINES:
+            yield "oscillator mode 0100 loaded"
     if answer.number in (3, 4):
         yield "refused in its turn " + ("first" if not taken else "later")
         refused = request.commands[answer.taken]

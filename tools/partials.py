@@ -31,7 +31,7 @@ CENTS, LEVEL, DECAY = 1.0, 0.5, 0.05  # what counts as reached: within so many c
 QUIET = 200  # levels are within so many dB
 QUIETEST = 16  # a peak below which rounding to whole numbers changes the decay by more than that
 MASKED = 0.035  # a quieter partial is masked where the lines of louder ones may reach so much of its peak: then its decay may be off by 5 %
-STEPS = 256  # so many steps of the envelope make a halving: the size of the exponential's table
+STEPS = 1024  # so many steps of the envelope make a halving: the size of the exponential's table
 
 TO_DAC, RUNNING = 0b0010, 0b1111
 LEVEL_PLUS_EXPONENTIAL, SINE, SQUARE = 0b11, 0b0000, 0b0010

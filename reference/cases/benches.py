@@ -41,6 +41,10 @@ def good():
     # One update tick (10-1-8): one command each pass, the counter to 16, then to 32.
     yield ("one each", ring(b"passes=2\nword=4114:10\ncommand=00010108\ncommand=00020108\n"),
            b"pass=16 left=0 right=0\npass=32 left=0 right=0\n")
+    # Of an N that is set twice the later is counted by, so is a T: 12-2-8 = 2 commands.
+    yield ("two each", ring(b"passes=2\nword=4114:10\nword=4113:2\nword=4114:12\n"
+                            + b"command=00010108\n" * 3 + b"command=00020108\n"),
+           b"pass=16 left=0 right=0\npass=32 left=0 right=0\n")
     # A Linger to pass 3 is taken after pass 1; the counter goes to 16 after pass 3.
     yield ("linger", ring(b"passes=3\ncommand=00003110\ncommand=00010108\n"),
            b"pass=1 left=0 right=0\npass=2 left=0 right=0\npass=16 left=0 right=0\n")
@@ -73,7 +77,10 @@ def good():
 def refused():
     """Files that are refused."""
     yield "wide word", ring(b"passes=2\nword=0:1048576\n"), b"refused=2\n"
-    yield "huge T", ring(b"passes=1\nword=4113:4294967295\n"), b"refused=2\n"
+    ticks = ((4113, 4294967295), (4113, 0), (4114, 4294967295), (4114, 0), (4114, 1026))
+    for place, value in ticks:
+        file = b"passes=1\nword=%d:%d\n" % (place, value)
+        yield f"word {place}: {value}", ring(file), b"refused=2\n"
     # 448 is 0111 00 0000 and 192 is 0011 00 0000.
     yield "read data", ring(b"passes=1\nword=10:448\n"), b"refused=7\n"
     yield "written data", ring(b"passes=1\nword=10:192\n"), b"refused=8\n"
@@ -103,6 +110,7 @@ NOT_FITTING = (
     b"", b"\n", b"passes=1", b"passes=\n", b"passes=01\n", b"passes=65536\n", b"passes=-1\n",
     b"passes=+1\n", b"passes= 1\n", b"passes=1 \n", b"passes=1\r\n", b"passes=1\n\n",
     b"\npasses=1\n", b"Passes=1\n", b"passes=1\npasses=1\n", b"word=0:0\n", b"passes=1\nword=4343:0\n",
+    b"passes=1\nword=4343:256\n", b"passes=1\nword=4344:0\n",
     b"passes=1\nword=0:4294967296\n", b"passes=1\nword=00:0\n", b"passes=1\nword=0:00\n",
     b"passes=1\nword=0\n", b"passes=1\nword=:0\n", b"passes=1\nword=0:\n",
     b"passes=1\nword=0:0:0\n", b"passes=1\nword=0:1_0\n", b"passes=1\nword=0:0", b"passes=1\ncommand=00000000\nword=0:0\n",

@@ -5,7 +5,7 @@ Signed numbers are allowed.
 
 from reference import layout
 from reference.layout import GENERATOR_NAMES, MODIFIER_NAMES
-from reference.machine import fresh_machine, zero_memory
+from reference.machine import fresh_machine, put_update_ticks, zero_memory
 from reference.words import low, signed
 
 # A coefficient whose high 20 bits are 262,144, one half: at scale 1 it multiplies
@@ -47,7 +47,9 @@ def memory(words=None):
 
 
 def machine(generators=(), modifiers=(), words=None, units=()):
-    """A fresh machine with its first generators, modifiers and units, then other words by place."""
+    """A fresh machine with its first generators, modifiers and units, then other words by place.
+
+    The count of update ticks is that of T and N."""
     made = fresh_machine()
     for g, eleven in enumerate(generators):
         made[layout.generator_at(g):layout.generator_at(g + 1)] = eleven
@@ -57,6 +59,7 @@ def machine(generators=(), modifiers=(), words=None, units=()):
         made[layout.delay_unit_at(u):layout.delay_unit_at(u + 1)] = seven
     for place, value in (words or {}).items():
         made[place] = low(value, 20)
+    put_update_ticks(made)
     return made
 
 

@@ -1,15 +1,22 @@
 """Commands, one by one, and the update. A command is 20 bits of data, a code, a number."""
 
 from reference.cases.build import generator, machine, places_changed
-from reference.machine import fresh_machine
+from reference.machine import fresh_machine, put_update_ticks
 from reference.update import run_update
+
+
+def put_words(made, words):
+    """Puts words by place, each named by w and its place; the count is T's and N's unless named."""
+    for place, value in words.items():
+        made[int(place[1:])] = value
+    if "w4343" not in words:
+        put_update_ticks(made)
 
 
 def taken_alone(command, **words):
     """The number of a command taken alone and the words that it changes."""
     made = fresh_machine()
-    for place, value in words.items():
-        made[int(place[1:])] = value
+    put_words(made, words)
     refused, taken, left = run_update(made, [command])
     assert taken == (0 if refused else 1)
     return refused, places_changed(made, left)
@@ -49,13 +56,15 @@ LOADS = (
     ("M of GMODE", 0x9E145A03, {}, 0, {42: 0x45}),
     ("F", 0x5E145A03, {}, 0, {43: 962}),
     ("C alone", 0xE0000A03, {"w35": 7}, 0, {35: 0}),
-    # Run mode 0100: 256 * 2^19 = 0x08000000; oscillator mode 0100: 4 * 2^19 = 0x00200000.
+    # Run mode 0100: 256 * 2^19 = 0x08000000; oscillator mode 0100: 4 * 2^19 = 0x00200000; 0101:
+    # 0x00280000.
     ("run mode not built", 0x08000A03, {}, 3, {}),
-    ("oscillator mode not built", 0x00200A03, {}, 3, {}),
+    ("oscillator mode 0100", 0x00200A03, {}, 0, {43: 4}),
+    ("oscillator mode not built", 0x00280A03, {}, 3, {}),
     # 1010: 640 * 2^19 = 0x14000000; F (0x40000000) does not disable GMODE.
     ("run mode 1010", 0x14000A03, {}, 3, {}),
     ("not built, F", 0x48000A03, {}, 3, {}),
-    ("not built but disabled", 0x88200A03, {"w42": 1}, 0, {42: 0}),
+    ("not built but disabled", 0x88280A03, {"w42": 1}, 0, {42: 0}),
     # M0, M1 by VV; 0x12345 * 2^10 = 0x48D1400, 0xABCDE div 2^10 = 0x2AF.
     ("M0 right", 0xFFFFFC05, {}, 0, {2856: 0x3FFFFFFF}),
     ("M1 right", 0x00001C85, {}, 0, {2857: 1}),
@@ -118,14 +127,25 @@ OTHERS = (
     ("TT 00", 0xFFFFF100, {"w4115": 5}, 0, {}),
     ("TT 01", 0x12345108, {"w4115": 5}, 0, {4115: 0x12345}),
     ("x bits of TIMER", 0x1234516F, {"w4115": 5}, 0, {4115: 0x12345}),
-    # TICKS: T = data+1, N = data+2, ten bits of data in 14-23.
-    ("T", 0x000FF180, {}, 0, {4113: 256}),
+    # TICKS: T = data+1, N = data+2, ten bits of data in 14-23; 4343 gets N-T-8, here of N 265 or
+    # T 1 where nothing else is said.
+    ("T", 0x000FF180, {}, 0, {4113: 256, 4343: 1}),
+    ("T, 2 ticks", 0x000FE180, {}, 0, {4113: 255, 4343: 2}),
+    ("T, no ticks", 0x000FF180, {"w4114": 264}, 0, {4113: 256, 4343: 0}),
+    ("T, negative", 0x000FF180, {"w4114": 10}, 0, {4113: 256, 4343: 0}),
+    ("T, more ticks", 0x00000180, {"w4113": 200, "w4114": 1025}, 0, {4113: 1, 4343: 1016}),
     ("T beyond", 0x00100180, {}, 4, {}),
     ("T far beyond", 0x00200180, {}, 4, {}),
     ("T beyond, x bits", 0xFFD001E7, {}, 4, {}),
-    ("x bits of TICKS", 0xFFC011E7, {}, 0, {4113: 2}),
-    ("N", 0x003FF188, {}, 0, {4114: 1025}),
-    ("N least", 0x00000188, {}, 0, {4114: 2}),
+    ("x bits of TICKS", 0xFFC011E7, {}, 0, {4113: 2, 4343: 255}),
+    ("N", 0x003FF188, {}, 0, {4114: 1025, 4343: 1016}),
+    ("N least", 0x00000188, {}, 0, {4114: 2, 4343: 0}),
+    # N 9, 10 and 11 with T 1; N 10 with T 3.
+    ("N, no ticks", 0x00007188, {}, 0, {4114: 9, 4343: 0}),
+    ("N, 1 tick", 0x00008188, {}, 0, {4114: 10, 4343: 1}),
+    ("N, 2 ticks", 0x00009188, {}, 0, {4114: 11, 4343: 2}),
+    ("N, negative", 0x00008188, {"w4113": 3, "w4114": 12}, 0, {4114: 10, 4343: 0}),
+    ("N, again", 0x00107188, {}, 0, {}),
     ("unused code", 0x00001190, {}, 3, {}),
     ("unused code, also beyond", 0x00100190, {}, 3, {}),
 )
@@ -183,8 +203,7 @@ def rows(table):
 def update(commands, **words):
     """The number, the count taken and the words changed by an update."""
     made = machine([generator("0000 00 0000")])
-    for place, value in words.items():
-        made[int(place[1:])] = value
+    put_words(made, words)
     refused, taken, left = run_update(made, commands)
     return refused, taken, places_changed(made, left)
 
@@ -201,9 +220,16 @@ def limits():
     # 265 - 1 - 8 = 256.
     yield "256 of 300", update([0x00001B00] * 300), (0, 256, {0: 1})
     # N becomes 2 at the first command; the limit stays.
-    yield "as it begins", update([0x00000188] + three), (0, 4, {0: 3, 4114: 2})
+    yield "as it begins", update([0x00000188] + three), (0, 4, {0: 3, 4114: 2, 4343: 0})
     # 10 - 1 - 8 = 1; N becomes 1025, the limit stays.
-    yield "not more", update([0x003FF188] + three, w4114=10), (0, 1, {4114: 1025})
+    yield "not more", update([0x003FF188] + three, w4114=10), (0, 1, {4114: 1025, 4343: 1016})
+    # T 2, then N 12: 12 - 2 - 8 = 2. A refused TICKS sets nothing.
+    yield "T and N", update([0x00001180, 0x0000A188]), (0, 2, {4113: 2, 4114: 12, 4343: 2})
+    # T 256, then N 9, which is negative, then N 266: 2.
+    yield "from negative", update([0x000FF180, 0x00007188, 0x00108188]), (
+        0, 3, {4113: 256, 4114: 266, 4343: 2})
+    yield "refused", update([0x00001180, 0x00100180]), (4, 1, {4113: 2, 4343: 255})
+    yield "count of another", update(three, w4343=255), (2, 0, {})
     # A command past the limit is not asked about.
     yield "past the limit", update([0x00001B00, 0x000000E0], w4114=10), (0, 1, {0: 1})
     # X, Z and P, then Y of unit 0: DLY uses ticks as others do.

@@ -4,7 +4,7 @@ import random
 
 from reference import layout
 from reference.cases.build import generator, machine, modifier
-from reference.machine import RANGES, run_pass
+from reference.machine import RANGES, put_update_ticks, run_pass
 from reference.modifier import FORMULAS
 from reference.orders import compare, parting
 
@@ -91,6 +91,10 @@ def replaced_point():
     for mode in ("0000", "0001", "1001", "0010", "0011"):
         yield mode + " does not add", says([in_run_mode(mode), read(0)], [0, 1], [1, 0]), YES
     yield "adding without a 0111", says([add(1), add(1)], [0, 1], [1, 0]), YES
+    # A sum of cosines, oscillator mode 0100, counts as any other.
+    cosines = [generator("1111 00 0100", GSUM=word) for word in (1, 2)]
+    yield "0100 after", says([read(1), cosines[0]], [0, 1], [1, 0]), NO
+    yield "0100 on another word", says([read(1), cosines[1]], [0, 1], [1, 0]), YES
 
 
 def refusals():
@@ -101,6 +105,7 @@ def refusals():
     yield "good", compare(good, [0, 1], [1, 0]), (0, True)
     yield "short run", compare(good[1:], [0], [0]), (1, False)
     yield "wide word", compare(wide, [0], [0]), (2, False)
+    yield "count", compare(good[:4343] + [256], [0, 1], [1, 0]), (2, False)
     yield "short first", compare(good, [0], [0, 0]), (5, False)
     yield "doubled first, short second", compare(good, [0, 0], [0]), (6, False)
     yield "short second", compare(good, [0, 1], [0]), (5, False)
@@ -149,6 +154,7 @@ def random_contents(chance, settings):
         made[at + layout.MIN] = chance.randrange(192)
         made[at + layout.MRM] = chance.randrange(192)
     put_delay_units(chance, made)
+    put_update_ticks(made)
     return made
 
 
@@ -171,11 +177,12 @@ def put_delay_units(chance, made):
 
 
 def outcome(made, order, items, slots):
-    """What two equal orders have in common: the machine, the written items and delay memory."""
-    refused, _, written, left, places, slots = run_pass(made, order, items,
-                                                        [0] * layout.GENERATORS, slots)
-    assert refused == 0, refused
-    return left, places[:written], slots
+    """What two equal orders have in common: the machine, the written items and delay memory.
+
+    The marks of sum words that clipped over are not in it."""
+    done = run_pass(made, order, items, [0] * layout.GENERATORS, slots)
+    assert done.number == 0, done.number
+    return done.machine, done.places[:done.written], done.memory
 
 
 def trials(count=150, contents=2):

@@ -9,6 +9,7 @@ from reference.cases.build import (HALF, changed, delay_unit, machine, memory, m
 from reference.layout import MODIFIER_NAMES
 from reference.machine import run_pass
 from reference.modifier import delay_turn
+from reference.sums import no_marks
 from reference.words import low
 
 HALVES = dict(M0=HALF, M1=HALF)
@@ -52,9 +53,9 @@ def invoking(unit, a=0):
 
 def one_pass(made, slots):
     """The machine and the delay memory after a pass that must be good."""
-    refused, _, _, left, _, slots = run_pass(made, range(made[4113]), [], [], slots)
-    assert refused == 0, refused
-    return left, slots
+    done = run_pass(made, range(made[4113]), [], [], slots)
+    assert done.number == 0, done.number
+    return done.machine, done.memory
 
 
 def sounded(unit, sent, slots=None, t=16):
@@ -248,9 +249,9 @@ def together():
 
 def number(made, slots):
     """The number of a pass by number without items and places; a refused one changes nothing."""
-    refused, read, written, left, _, after = run_pass(made, range(made[4113]), [], [], slots)
-    assert not refused or (read, written, left, after) == (0, 0, made, slots)
-    return refused
+    done = run_pass(made, range(made[4113]), [], [], slots)
+    assert not done.number or done[1:] == (0, 0, no_marks(), made, [], slots)
+    return done.number
 
 
 def memories():
@@ -336,13 +337,13 @@ def sequence():
     yield "8 before 10", number(sender, []), 8
     yield "7 before 10", number(with_unit(1, bad, [invoking(1)], words={10: 448}), []), 7
     got = run_pass(sender, range(16), [], [6], memory({65535: 1}))
-    yield "11 with places", got, (11, 0, 0, sender, [6], memory({65535: 1}))
+    yield "11 with places", got, (11, 0, 0, no_marks(), sender, [6], memory({65535: 1}))
     wide = list(both)
     wide[4342] = 1048576
     yield "2 before 10", number(wide, []), 2
-    yield "5 before 10", run_pass(both, [0], [], [], [])[0], 5
-    yield "6 before 10", run_pass(both, [0] * 16, [], [], [])[0], 6
-    yield "1 before 10", run_pass(both[:4119], [0], [], [], [])[0], 1
+    yield "5 before 10", run_pass(both, [0], [], [], []).number, 5
+    yield "6 before 10", run_pass(both, [0] * 16, [], [], []).number, 6
+    yield "1 before 10", run_pass(both[:4119], [0], [], [], []).number, 1
 
 
 GROUPS = (

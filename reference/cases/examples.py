@@ -1,4 +1,6 @@
-"""The twelve worked examples and the shown bench file of document 01."""
+"""The twelve worked examples and the shown bench file of document 01.
+
+The third example is that of 1,024 since request Q-5 of document 02."""
 
 import math
 
@@ -7,7 +9,7 @@ from reference.generator import generator_turn, output
 from reference.modifier import product
 from reference.orders import compare
 from reference.ring import ring
-from reference.tables import SINE, exponential
+from reference.tables import SINE, exponential, exponential_table
 from reference.words import low
 
 
@@ -26,7 +28,7 @@ def twelve():
     """The twelve examples, in their sequence."""
     yield "1", [SINE[j] for j in (0, 1, 1023, 2047)], [1, 4, 2895, 4095]
     yield "2", exponential(0), 4093
-    yield "3", exponential(256), 2046
+    yield "3", exponential(1024), 2046
     yield "4", (output(2048, 4095), output(-2048, 4095)), (131040, -131040)
     yield "5", (output(1, 31), output(1, 32)), (0, 1)
     yield "6", output(-1, 32), -1
@@ -58,10 +60,34 @@ def tables():
     true = [int(4096 * math.sin((2 * j + 1) * math.pi / 8192)) for j in range(2048)]
     yield "not the true sine", [j for j in range(2048) if SINE[j] != true[j]], [883]
     yield "entry 883", (SINE[883], true[883]), (2568, 2567)
-    # 4093 / 2^11 = 1.998.., 4093 / 2^12 is below 1; entry 255 is about 2052, / 2^15 is 0.
-    yield "exponential at 2816, 3072, 4095", [exponential(h) for h in (2816, 3072, 4095)], [1, 0, 0]
-    # Entry f is below 4093 / 2^(f/256): 4093 / 2^(1/2) = 2894.18..
-    yield "exponential at 128", exponential(128), 2894
+    # 4093 / 2^11 = 1.998.., 4093 / 2^12 is below 1; entry 1023 is about 2047, / 2^15 is 0.
+    ends = [exponential(number) for number in (11264, 12288, 16383)]
+    yield "exponential at 11264, 12288, 16383", ends, [1, 0, 0]
+    # Entry f is below 4093 / 2^(f/1024): 4093 / 2^(1/2) = 2894.18.., and 4093 by 0.999323,
+    # 0.998647, 0.997971 and by 0.500339 are 4090.2, 4087.4, 4084.6 and 2047.8.
+    yield "exponential at 512", exponential(512), 2894
+    few = [exponential(number) for number in (0, 1, 2, 3, 1023, 1024)]
+    yield "exponential at 0, 1, 2, 3, 1023, 1024", few, [4093, 4090, 4087, 4084, 2047, 2046]
 
 
-GROUPS = (("twelve examples", twelve), ("shown bench file", shown_file), ("tables", tables))
+def largest(e, f, n):
+    """Whether e is the largest with e^n times 2^f at most 4,093^n."""
+    return e**n << f <= 4093**n < (e + 1)**n << f
+
+
+def exponential_rule():
+    """One rule over the table's size: all entries of document 01's table and of today's."""
+    for n in (256, 1024):
+        entries = exponential_table(n, n)
+        yield f"{n} entries", [f for f in range(n) if not largest(entries[f], f, n)], []
+    old, new = (list(exponential_table(n, n)) for n in (256, 1024))
+    yield "today's entries", [exponential(f) for f in range(1024)], new
+    yield "entries 4f", [exponential(4 * f) for f in range(256)], old
+
+
+GROUPS = (
+    ("twelve examples", twelve),
+    ("shown bench file", shown_file),
+    ("tables", tables),
+    ("exponential", exponential_rule),
+)

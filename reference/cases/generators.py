@@ -85,6 +85,44 @@ SQUARES_AND_PULSES = (
     ("step 1 in 0111", "0111 00 0011", dict(GJ=134217472, GL=4095), 1, False, {}, 131040, False),
 )
 
+# V is 64 in all of these, so that P is W: (64|W| + 32) div 64 = |W|. With s and d the sines at 2p
+# and K: 4095*1, 4095*4 and 4095*4095 are 4095, 16380 and 16769025. Entries 0, 1, 2047: 1, 4, 4095.
+SUMS_OF_COSINES = (
+    # K 0: p 0, s 1, d 1, whatever GN is.
+    ("K 0", "1111 00 0100", dict(GN=1023, GL=64), 0, False, {}, 4095, False),
+    ("K 0, GM 1", "1111 00 0100", dict(GN=1, GM=1, GL=64), 0, False, {}, 2047, False),
+    ("K 0, GM 12", "1111 00 0100", dict(GN=1, GM=12, GL=64), 0, False, {}, 0, False),
+    # K 2048: p 2048, index 4096: s -1; d 4095.
+    ("K 2048", "1111 00 0100", dict(GK=262144, GN=1, GL=64), 0, False, {}, -1, False),
+    ("K 2048, GM 1", "1111 00 0100", dict(GK=262144, GN=1, GM=1, GL=64), 0, False, {}, 0, False),
+    # GN 0: p 0, s 1; d 4095.
+    ("GN 0", "1111 00 0100", dict(GK=262144, GL=64), 0, False, {}, 1, False),
+    # K -1: p 4095, index 8190: quarter 3, j 2046, entry 1: s -4; d -1. 16380 is capped.
+    ("K -1", "1111 00 0100", dict(GK=-1, GN=1, GL=64), 0, False, {}, 4095, False),
+    # 16380 / 4 = 4095; 16380 / 8 = 2047.5; 4095 / 4 would be 1023.
+    ("K -1, GM 2", "1111 00 0100", dict(GK=-1, GN=1, GM=2, GL=64), 0, False, {}, 4095, False),
+    ("K -1, GM 3", "1111 00 0100", dict(GK=-1, GN=1, GM=3, GL=64), 0, False, {}, 2047, False),
+    # K 1, GN 2047: p 2047, index 4094: quarter 1, 2047 - 2046: s 4; d 4. As -1, GN would give s -4.
+    ("GN 2047", "1111 00 0100", dict(GK=128, GN=2047, GL=64), 0, False, {}, 4095, False),
+    # K 3, GN 1024: p 3072, index 6144: s -4095; d is small. As 11 bits, p would be 1024 and s 4095.
+    ("p 3072", "1111 00 0100", dict(GK=384, GN=1024, GL=64), 0, False, {}, -4095, False),
+    # K 1, GN 1024: p 1024, index 2048: s 4095; d 4. 16769025 / 16384 = 1023.5.
+    ("p 1024", "1111 00 0100", dict(GK=128, GN=1024, GM=12, GL=64), 0, False, {}, 1023, False),
+    # K 1, GN 1536: p 1536, index 3072: quarter 1, 2047 - 1024: s 2895; d 4. 4095*2895 = 11855025;
+    # / 2^17 = 90.4.
+    ("p 1536", "1111 00 0100", dict(GK=128, GN=1536, GM=15, GL=64), 0, False, {}, 90, False),
+    # K -4096: p 0 with GN 2: s 1; d -1.
+    ("K -4096", "1111 00 0100", dict(GK=-524288, GN=2, GL=64), 0, False, {}, -4095, False),
+    # K -4096 times 2047 = -2047 * 4096: p 0.
+    ("K -4096, GN 2047", "1111 00 0100", dict(GK=-524288, GN=2047, GL=64), 0, False,
+     {}, -4095, False),
+    # K is GK's, 0, and not J's, 2048.
+    ("of GK", "1111 00 0100", dict(GJ=67108864, GN=1, GL=64), 0, False,
+     dict(GK=262144), 4095, False),
+    # The oscillator is off in 0111, but W is there.
+    ("in 0111", "0111 00 0100", dict(GK=-1, GN=1, GM=3, GJ=256, GL=64), 0, False, {}, 2047, False),
+)
+
 SWEEPS = (
     # GJ 134217727 + 1 wraps to -134217728; J = 524287 from the old GJ; GK 0 + 524287.
     ("wraps above", "1111 00 0000", dict(GJ=134217727, GO=1), 0, False,
@@ -107,12 +145,23 @@ ENVELOPES = (
     ("10", "1111 10 0010", {}, 0, False, {}, 96, False),
     # V = 4 + 4093 is 1.
     ("11", "1111 11 0010", dict(GL=4), 0, False, {}, 32, False),
-    # H = 256, exponential 2046: V = 2047 - 2046.
-    ("10 at 256", "1111 10 0010", dict(GQ=1048576, GL=2047), 0, False, {}, 32, False),
-    # H = 2816 = 11*256: 4093 shifted by 11 is 1; H = 3072 = 12*256: 0, so V = 5:
+    # The high 14 bits are 1024, exponential 2046: V = 2047 - 2046.
+    ("10 at 1024", "1111 10 0010", dict(GQ=1048576, GL=2047), 0, False, {}, 32, False),
+    # 11264 = 11*1024: 4093 shifted by 11 is 1; 12288 = 12*1024: 0, so V = 5:
     # (10240 + 32) div 64 = 160.
-    ("11 at 2816", "1111 11 0010", dict(GQ=11534336), 0, False, {}, 32, False),
-    ("11 at 3072", "1111 11 0010", dict(GQ=12582912, GL=5), 0, False, {}, 160, False),
+    ("11 at 11264", "1111 11 0010", dict(GQ=11534336), 0, False, {}, 32, False),
+    ("11 at 12288", "1111 11 0010", dict(GQ=12582912, GL=5), 0, False, {}, 160, False),
+    # 1023 div 1024 = 0: V = 4 + 4093 is 1; 1024 div 1024 = 1: V = 7 + 4090 is 1.
+    ("11 below 1", "1111 11 0010", dict(GQ=1023, GL=4), 0, False, {}, 32, False),
+    ("11 at 1", "1111 11 0010", dict(GQ=1024, GL=7), 0, False, {}, 32, False),
+    # 4095 div 1024 = 3: V = 4085 - 4084.
+    ("10 at 3", "1111 10 0010", dict(GQ=4095, GL=4085), 0, False, {}, 32, False),
+    # 1023*1024: V = 2050 + 2047 is 1; 2047*1024: 2047 shifted by 1, V = 1024 - 1023.
+    ("11 at 1023", "1111 11 0010", dict(GQ=1047552, GL=2050), 0, False, {}, 32, False),
+    ("10 at 2047", "1111 10 0010", dict(GQ=2096128, GL=1024), 0, False, {}, 32, False),
+    # Linear modes take 12 bits: 4095 div 4096 = 0 and 8191 div 4096 = 1, V = 1 and 0 + 1.
+    ("00 by 12 bits", "1111 00 0010", dict(GQ=4095, GL=1), 0, False, {}, 32, False),
+    ("01 by 12 bits", "1111 01 0010", dict(GQ=8191), 0, False, {}, 32, False),
     # H = 4095 div 4096 = 0 from the old GQ: V = 2; (4096 + 32) div 64 = 64.
     ("H before the decay", "1111 01 0010", dict(GQ=4095, GP=1, GL=2), 0, False,
      dict(GQ=4096), 64, False),
@@ -175,6 +224,7 @@ GROUPS = (
     ("generator, sine", turns(SINES)),
     ("generator, sawtooth", turns(SAWTOOTHS)),
     ("generator, square and pulse train", turns(SQUARES_AND_PULSES)),
+    ("generator, sum of cosines", turns(SUMS_OF_COSINES)),
     ("generator, sweep", turns(SWEEPS)),
     ("generator, envelope modes", turns(ENVELOPES)),
     ("generator, run modes", turns(RUNS)),

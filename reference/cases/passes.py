@@ -3,6 +3,7 @@
 from reference.cases.build import (HALF, generator, machine, memory, modifier, number,
                                    places_changed)
 from reference.machine import fresh, fresh_machine, run_pass
+from reference.sums import no_marks
 
 # A square wave with V 4095 adds 131040; with V 1 it adds 32.
 LOUD = dict(GL=4095)
@@ -11,15 +12,15 @@ LOUD = dict(GL=4095)
 def after(made, order=None, items=(), places=()):
     """The machine after a pass that must be good."""
     order = range(made[4113]) if order is None else order
-    refused, _, _, left, _, _ = run_pass(made, order, items, places, memory())
-    assert refused == 0, refused
-    return left
+    done = run_pass(made, order, items, places, memory())
+    assert done.number == 0, done.number
+    return done.machine
 
 
 def answers(made, order, items, places):
     """The number, counts and places of a pass."""
-    refused, read, written, _, left, _ = run_pass(made, order, items, places, memory())
-    return refused, read, written, left
+    done = run_pass(made, order, items, places, memory())
+    return done.number, done.read, done.written, done.places
 
 
 def sums():
@@ -183,6 +184,7 @@ def refusals():
         ("short run", good[:-1], [0], [], [], 1),
         ("long run", wide + [0], [0], [], [], 1),
         ("wide word", wide, [0], [], [], 2),
+        ("count", good[:4343] + [256], [0], [], [], 2),
         ("short order", good, [0], [], [], 5),
         ("long order", good, [0, 1, 1], [], [], 5),
         ("doubled", good, [0, 0], [], [], 6),
@@ -192,15 +194,19 @@ def refusals():
     )
     for name, made, order, items, places, refused in rows:
         got = run_pass(made, order, items, places, memory({5: 6}))
-        yield name, got[0], refused
+        yield name, got.number, refused
         if refused:
-            yield name + ", nothing changes", got[1:], (0, 0, made, places, memory({5: 6}))
+            kept = 0, 0, no_marks(), made, places, memory({5: 6})
+            yield name + ", nothing changes", got[1:], kept
     # A 0111 or 0011 that is not below T asks for nothing.
     idle = machine([generator("0000 00 0000"), reader, sender])
-    yield "idle ones", run_pass(idle, [0], [], [], memory())[0], 0
+    yield "idle ones", run_pass(idle, [0], [], [], memory()).number, 0
     yield "fresh of a short run", fresh([5, 6]), (1, [5, 6])
-    yield "fresh of 4119 words", fresh([9] * 4119), (1, [9] * 4119)
-    yield "fresh of any words", fresh([9] * 4343), (0, fresh_machine())
+    for length in (4119, 4343, 4345):
+        yield f"fresh of {length} words", fresh([9] * length), (1, [9] * length)
+    yield "fresh of any words", fresh([9] * 4344), (0, fresh_machine())
+    told = {place: word for place, word in enumerate(fresh_machine()) if word}
+    yield "fresh", told, {4113: 1, 4114: 265, 4343: 256}
 
 
 GROUPS = (

@@ -1,6 +1,6 @@
 """Question 2, word by word: the greatest good value and the first refused one."""
 
-from reference.machine import fresh_machine, refusal
+from reference.machine import fresh_machine, put_update_ticks, refusal
 
 # Generator 255 starts at 2,805, modifier 127 at 3,832. Widths are those of document 01.
 HIGHEST = (
@@ -22,7 +22,7 @@ HIGHEST = (
 )
 
 BUILT_RUN_MODES = (0b0000, 0b0001, 0b0010, 0b0011, 0b0111, 0b1001, 0b1101, 0b1110, 0b1111)
-BUILT_OSCILLATOR_MODES = (0b0000, 0b0001, 0b0010, 0b0011, 0b1000)
+BUILT_OSCILLATOR_MODES = (0b0000, 0b0001, 0b0010, 0b0011, 0b0100, 0b1000)
 BUILT_FUNCTIONS = (
     0b00000, 0b00010, 0b00011, 0b00100, 0b00110, 0b00111, 0b01000, 0b01001, 0b01011, 0b01100,
     0b01101, 0b01111, 0b10000, 0b10001, 0b10100, 0b10110, 0b11000, 0b11001, 0b11010, 0b11011,
@@ -32,9 +32,10 @@ BUILT_DELAY_MODES = (0b0000, 0b1000, 0b1010, 0b1011)
 
 
 def number_with(place, value):
-    """What questions 1 and 2 say of a fresh machine with one word changed."""
+    """What questions 1 and 2 say of a fresh machine with one word changed, the count with it."""
     made = fresh_machine()
     made[place] = value
+    put_update_ticks(made)
     return refusal(made)
 
 
@@ -58,11 +59,30 @@ def widths():
     made = fresh_machine()
     made[4119:4123] = [65535, 65535, 1, 8]
     yield "a line anywhere", refusal(made), 0
-    yield "lengths", [refusal([0] * n) for n in (0, 4119, 4342, 4344)], [1, 1, 1, 1]
-    # A large T beside a small N is good: N-T-8 may be negative.
+    yield "lengths", [refusal([0] * n) for n in (0, 4119, 4343, 4345)], [1, 1, 1, 1]
+
+
+# T, N and the count, N-T-8 or 0; a large T beside a small N is good.
+COUNTS = ((1, 265, 256), (1, 1025, 1016), (256, 1025, 761), (256, 265, 1), (256, 264, 0), (1, 9, 0),
+          (1, 10, 1), (1, 8, 0), (1, 2, 0), (256, 2, 0), (256, 263, 0), (100, 150, 42))
+
+
+def counts():
+    """The last word is the count of update ticks, which joins T and N."""
+    for t, n, count in COUNTS:
+        tried = {0, 1, 2, 255, 256, 257, 1016, count - 1, count, count + 1, abs(n - t - 8),
+                 (n - t - 8) % (1 << 32), 1 << 20 | count, 1 << 31 | count, (1 << 32) - 1}
+        good = set()
+        for value in tried - {-1}:
+            made = fresh_machine()
+            made[4113], made[4114], made[4343] = t, n, value
+            if refusal(made) == 0:
+                good.add(value)
+        yield f"T {t}, N {n}", good, {count}
+    # T out of its range, with a count that would be N-T-8.
     made = fresh_machine()
-    made[4113], made[4114] = 256, 2
-    yield "T 256 with N 2", refusal(made), 0
+    made[4113], made[4343] = 0, 257
+    yield "T 0", refusal(made), 2
 
 
 def modes():
@@ -83,4 +103,8 @@ def modes():
     yield "P too wide", number_with(4122, 24), 2
 
 
-GROUPS = (("question 2, widths", widths), ("question 2, modes", modes))
+GROUPS = (
+    ("question 2, widths", widths),
+    ("question 2, update ticks", counts),
+    ("question 2, modes", modes),
+)

@@ -8,8 +8,11 @@ use borrow.Author.Tests.{eq-eqb}
 use lib.ListN.{length}
 use lib.Seq.{sets}
 use Rattle.layout.specs.Layout.{machineLength}
+use Rattle.layout.specs.Machine.{Reaches, withUpdateTicks}
 use Rattle.lists.proofs.Below.{and-first, and-second}
 use Rattle.machine.specs.Questions.{freshMachine, freshRun}
+use Rattle.machine.proofs.SoundMachine.{reaches}
+use Rattle.machine.proofs.FreshMachine.{fresh-length}
 use Rattle.bench_lines.specs.Lines.{lineOf, linesOf, ended}
 use Rattle.bench_lines.specs.declared.Line.{Line}
 use Rattle.bench_lines.specs.declared.Line.the-variants.{Passes, Word, Command, Other}
@@ -59,9 +62,9 @@ lines-hold r (l ∷ ls) h =
 
 -- What a bench file sets.
 module _ (text : List ℕ) (h : isFit (fileOf text .phase) ≡ true) where
-  file-words : fileOf text .machine ≡ withWords freshMachine (linesOf text)
+  file-words : fileOf text .machine ≡ withUpdateTicks (withWords freshMachine (linesOf text))
   unfolding fileOf
-  file-words = lines-hold unread (linesOf text) h .0
+  file-words = ap withUpdateTicks (lines-hold unread (linesOf text) h .0)
 
   pub file-commands : fileOf text .commands ≡ allCommands (linesOf text)
   unfolding fileOf
@@ -91,12 +94,16 @@ module _ (text m room : List ℕ) {e : Bool} (p : e ≡ ended text) where
     read-unfit g = rw (sym p ∙ h, judged ∙ g)
 
     module _ (g : c ≡ true) where
-      pub read-fit : {m₁ m₂ room₁ : List ℕ} → m₁ ≡ freshMachine → m₂ ≡ withWords m₁ (linesOf text) → room₁ ≡ sets room 0 (allCommands (linesOf text))
-          → record { number = 0; passes = f .passes; count = f .count; machine = m₂; room = room₁ } ≡ readOf text m room
+      pub read-fit : {m₁ m₂ m₃ room₁ : List ℕ} → m₁ ≡ freshMachine → m₂ ≡ withWords m₁ (linesOf text) → room₁ ≡ sets room 0 (allCommands (linesOf text))
+          → m₃ ≡ withUpdateTicks m₂ → record { number = 0; passes = f .passes; count = f .count; machine = m₃; room = room₁ } ≡ readOf text m room
       unfolding readOf isBenchFile
-      read-fit a b d = rw (sym p ∙ h, judged ∙ g, q, b, a, d, file-words text (judged ∙ g), file-commands text (judged ∙ g))
+      read-fit a b d t = rw (sym p ∙ h, judged ∙ g, q, t, b, a, d, file-words text (judged ∙ g), file-commands text (judged ∙ g))
 
 -- A run of the machine's length is made a fresh machine.
 pub fresh-run : (m : List ℕ) → length m ≡ machineLength → freshRun m ≡ freshMachine
 unfolding freshRun
 fresh-run m e = rw (eq-eqb (length m) machineLength e)
+
+-- With the words of a file it still has the machine's length.
+pub loaded-reaches : {m₁ m₂ : List ℕ} → m₁ ≡ freshMachine → length m₂ ≡ length m₁ → Reaches m₂
+loaded-reaches {m₁} {m₂} e l = reaches m₂ (l ∙ ap length e ∙ fresh-length)

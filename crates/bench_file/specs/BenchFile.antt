@@ -5,7 +5,7 @@ use mathlib.Core.Bool.{Bool, cond, _&&_}
 use mathlib.Core.List.{List, [], _∷_, _++_}
 use lib.ListN.{length, set}
 use lib.Seq.{sets}
-use Rattle.layout.specs.Machine.{Machine, Commands}
+use Rattle.layout.specs.Machine.{Machine, Commands, withUpdateTicks}
 use Rattle.machine.specs.Questions.{freshMachine}
 use Rattle.bench_lines.specs.Lines.{lineOf, linesOf, ended}
 use Rattle.bench_lines.specs.declared.Line.{Line}
@@ -59,9 +59,13 @@ unfoldable pub withLines : Reading → List (List ℕ) → Reading
 withLines r [] = r
 withLines r (l ∷ ls) = withLines (withLine r (lineOf l)) ls
 
+-- After a file's words the update ticks are worked out again, whatever its T and N.
+abbrev pub withTicks : Reading → Reading
+withTicks r = record { phase = r .phase; passes = r .passes; machine = withUpdateTicks (r .machine); commands = r .commands }
+
 -- What a text says.
 unfoldable pub fileOf : List ℕ → Reading
-fileOf text = withLines unread (linesOf text)
+fileOf text = withTicks (withLines unread (linesOf text))
 
 -- Question 9: at most 65,536 bytes, every line ends in LF, and the lines are those of a bench file.
 unfoldable pub isBenchFile : List ℕ → Bool

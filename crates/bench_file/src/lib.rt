@@ -4,6 +4,7 @@ ghost use mathlib.Core.Bool.{true};
 ghost use Prim.Native.Nat.{_+_, _<_};
 ghost use lib.ListN.{length, set};
 ghost use lib.Seq.{sets};
+ghost use Rattle.layout.specs.Machine.{Reaches, withUpdateTicks};
 ghost use Rattle.bench_lines.specs.Lines.{fileBytes, linesOf, ended};
 ghost use Rattle.bench_file.specs.BenchFile.{withWord, commandsOf, fileOf, readOf};
 ghost use Rattle.bench_file.specs.Sweeps.{outline, judgedLine, withWords, allCommands};
@@ -131,7 +132,17 @@ fn load(text: &[u8], m: &mut [u32], room: &mut [u32])
     }
 }
 
-// Reads a bench file: its words on a fresh machine, its commands from the room's first place on. Another text changes nothing.
+// Works out the update ticks again from T and N.
+fn count_update_ticks(m: &mut [u32])
+    requires { ⌜ Reaches (now m) ⌝ }
+    ensures { λ _. ⌜ now (m .exit) ≡ withUpdateTicks (now (m .entry)) ⌝ }
+{
+    let t = m[layout::T_AT];
+    let n = m[layout::N_AT];
+    m[layout::UPDATE_TICKS_AT] = layout::update_ticks(t, n);
+}
+
+// Reads a bench file: its words on a fresh machine with the update ticks that follow, its commands from the room's first place on. Another text changes nothing.
 pub fn read(
     text: &[u8],
     m: &mut [u32; layout::MACHINE_LENGTH],
@@ -157,6 +168,7 @@ pub fn read(
     }
     machine::fresh(m);
     load(text, m, room);
+    count_update_ticks(m);
     Contents {
         number: 0,
         passes: file.passes,

@@ -135,11 +135,11 @@ module _ (m : Machine) (memory : Memory) where
       pub numbers : Numbers (take (t - 0) order)
       numbers = rw entries (are-numbers m (byNumber (ticksOf m)) (answered .whole) (by-number-passes (ticksOf m)))
 
-      pub passed-so : {read written : ℕ} {after places memory' : List ℕ}
-          → record { number = 0; read = read; written = written; machine = after; places = places; memory = memory' }
+      pub passed-so : {number read written : ℕ} {clipped after places memory' : List ℕ}
+          → record { number = number; read = read; written = written; clipped = clipped; machine = after; places = places; memory = memory' }
           ≡ ran m (record { order = take (t - 0) order; items = []; places = []; memory = memory })
           → (after ≡ passed m memory .machine) × (memory' ≡ passed m memory .memory)
-      passed-so {read} {written} {after} {places} {memory'} e =
-          let whole : record { number = 0; read = read; written = written; machine = after; places = places; memory = memory' } ≡ passed m memory =
+      passed-so {number} {read} {written} {clipped} {after} {places} {memory'} e =
+          let whole : record { number = number; read = read; written = written; clipped = clipped; machine = after; places = places; memory = memory' } ≡ passed m memory =
           e ∙ ap (λ (o : Order). ran m (record { order = o; items = []; places = []; memory = memory })) entries ∙ sym (let-through m call let-by) in
           (ap (λ (o : Outcome). o .machine) whole, ap (λ (o : Outcome). o .memory) whole)

@@ -5,13 +5,16 @@ use mathlib.Core.Bool.{Bool, true, false, cond}
 use mathlib.Core.List.{List, [], _∷_}
 use Prim.Native.Nat.{ℕ, _≤_}
 use native.Mathlib.Omega.{arith}
-use lib.ListN.{length, length-set}
+use lib.ListN.{length, getD, length-set}
 use lib.Seq.{sets, length-sets}
 use Rattle.bench_text.specs.Text.{refusalLine}
 use Rattle.lists.proofs.Choices.{of-cond}
 use Rattle.bench_bytes.proofs.Puts.{first-part}
-use Rattle.layout.specs.Layout.{machineLength}
+use Rattle.layout.specs.Layout.{machineLength, updateTicksAt}
+use Rattle.layout.specs.Machine.{updateTicksOf}
+use Rattle.layout.proofs.UpdateTicks.{counted-length, counted-own}
 use Rattle.machine.proofs.FreshMachine.{fresh-length}
+use Rattle.machine.proofs.SoundMachine.{reaches}
 use Rattle.bench_lines.specs.Lines.{lineOf, linesOf}
 use Rattle.bench_lines.specs.declared.Line.{Line}
 use Rattle.bench_lines.specs.declared.Line.the-variants.{Passes, Word, Command, Other}
@@ -76,10 +79,17 @@ unfolding withLines
 lines-length r [] = refl
 lines-length r (l ∷ ls) = lines-length (withLine r (lineOf l)) ls ∙ line-length r (lineOf l)
 
+-- The update ticks of the machine that a text sets are those of its T and N.
+pub file-ticks : (text : List ℕ) → getD (fileOf text .machine) updateTicksAt 0 ≡ updateTicksOf (fileOf text .machine)
+unfolding fileOf
+file-ticks text =
+    let m = withLines unread (linesOf text) .machine in
+    counted-own m (reaches m (lines-length unread (linesOf text) ∙ fresh-length))
+
 pub read-machine : (text m room : List ℕ) → length m ≡ machineLength → length (readOf text m room .machine) ≡ machineLength
 unfolding readOf fileOf
 read-machine text m room h =
-    of-cond (λ (a : Answer). length (a .machine) ≡ machineLength) (isBenchFile text) (lines-length unread (linesOf text) ∙ fresh-length) h
+    of-cond (λ (a : Answer). length (a .machine) ≡ machineLength) (isBenchFile text) (counted-length (withLines unread (linesOf text) .machine) ∙ lines-length unread (linesOf text) ∙ fresh-length) h
 
 -- As the code has them: the commands that were read lie within their room, and the machine is as long as a machine is.
 pub read-within : (text m room : List ℕ) {number passes count : ℕ} {m' room' : List ℕ} → length room ≡ commandPlaces

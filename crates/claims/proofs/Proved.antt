@@ -2,8 +2,13 @@
 -- Assumes nothing.
 use mathlib.Core.Path.{_≡_, sym, _∙_}
 use Rattle.layout.specs.Machine.{Machine}
+use Rattle.layout.proofs.UpdateTicks.{ticks-exact, ticks-none}
+use Rattle.sine.proofs.Quarter.{magnitude-positive}
+use Rattle.exponential.proofs.Entries.{entry-largest}
+use Rattle.exponential.proofs.Sizes.{older-entry, older-exponential}
 use Rattle.machine.proofs.FreshMachine.{fresh-length, fresh-sound}
-use Rattle.machine.proofs.SoundMachine.{sound-controls}
+use Rattle.machine.proofs.SoundMachine.{reaches, sound-controls, sound-ticks}
+use Rattle.machine.proofs.Asked.{ticks-disagree}
 use Rattle.delay.proofs.Returns.{line-returns, table-returns}
 use Rattle.pass_model.specs.Pass.{Call, passOf, passRefusal}
 use Rattle.pass_model.proofs.Asked.{refusal-leaves}
@@ -12,15 +17,18 @@ use Rattle.pass_laws.proofs.PassSound.{pass-sound}
 use Rattle.pass_laws.proofs.PassDelays.{pass-memory, pass-units}
 use Rattle.pass_laws.proofs.PassSettings.{pass-settings}
 use Rattle.pass_laws.proofs.PassCounts.{pass-counts, pass-counter}
+use Rattle.pass_laws.proofs.PassClipped.{pass-marks, pass-mark-bits, refused-unmarked, pass-mark-tells}
+use Rattle.update.proofs.Updating.{at-most}
 use Rattle.update_laws.proofs.SoundCommands.{command-sound}
 use Rattle.update_laws.proofs.UpdateSound.{update-sound}
 use Rattle.update_laws.proofs.Lengths.{command-length, update-length}
 use Rattle.equal_orders.proofs.Theorem.{demand-3, compare-says, refused-says-no}
 use Rattle.equal_orders.proofs.WorkedExamples.{worked-examples}
 use Rattle.equal_any_order.proofs.AnyOrder.{any-order-says, any-order-refused, one-order, orders-apart}
+use Rattle.equal_any_order.proofs.MarksApart.{marks-equal, forth-sets, back-sets}
 use Rattle.wave_format.proofs.Samples.{sample-exact}
 use Rattle.bench_ringing.proofs.Printing.{printed-heard}
-use Rattle.bench_ringing.proofs.RungFile.{rung-file}
+use Rattle.bench_ringing.proofs.RungFile.{file-ticks, rung-file}
 use Rattle.bench_gathering.proofs.Gatherings.{gathered-file}
 use Rattle.claims.specs.Claims.{Claims}
 
@@ -38,11 +46,18 @@ claims =
       any-order-refused = any-order-refused;
       one-order = one-order;
       orders-apart = orders-apart;
+      sine-not-zero = magnitude-positive;
       worked-examples = worked-examples;
       fresh-good = record { whole = fresh-length; is-sound = fresh-sound };
       pass-keeps = pass-sound;
-      command-keeps = λ m c good. record { whole = command-length m c ∙ good .whole; is-sound = command-sound m c (good .is-sound) };
+      command-keeps = λ m c good. record { whole = command-length m c ∙ good .whole; is-sound = command-sound m c (reaches m (good .whole)) (good .is-sound) };
       update-keeps = λ m cs good. record { whole = update-length m cs ∙ good .whole; is-sound = update-sound m cs (good .is-sound) };
+      ticks-exact = ticks-exact;
+      ticks-none = ticks-none;
+      ticks-written = λ m good. sound-ticks m (good .is-sound);
+      ticks-disagree = ticks-disagree;
+      taken-at-most = λ m cs good. rw (sound-ticks m (good .is-sound)) (at-most m cs);
+      file-ticks = file-ticks;
       pass-keeps-memory = pass-memory;
       pass-keeps-units = λ m call good. pass-units m call (sound-controls m (good .is-sound) .tHigh);
       pass-settings = pass-settings;
@@ -50,8 +65,18 @@ claims =
       items-written = λ m call n. pass-counts m call (not-refused m call n) .1;
       pass-counted = λ m call n. pass-counter m call (not-refused m call n);
       refused-leaves = λ m call n. refusal-leaves m call (λ e. n (pass-number m call ∙ e));
+      marks-64 = pass-marks;
+      mark-bits = pass-mark-bits;
+      refused-unmarked = λ m call n. refused-unmarked m call (λ e. n (pass-number m call ∙ e));
+      mark-tells = λ m call n. pass-mark-tells m call (not-refused m call n);
+      marks-equal = marks-equal;
+      marks-forth = forth-sets;
+      marks-back = back-sets;
       line-returns = line-returns;
       table-returns = table-returns;
+      entry-largest = entry-largest;
+      older-entry = older-entry;
+      older-exponential = older-exponential;
       steps-are-output = rung-file;
       gathered-are-output = gathered-file;
       printed-heard = printed-heard;

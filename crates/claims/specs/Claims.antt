@@ -6,34 +6,40 @@ use mathlib.Core.List.{List, [], _∷_}
 use mathlib.Core.Logic.{_↔_, _≢_}
 use mathlib.Core.Path.{_≡_}
 use lib.IntN.{pos, _*ℤ_}
-use lib.ListN.{length, getD}
+use lib.ListN.{length, getD, set}
 use Rattle.words.specs.Words.{signed}
-use Rattle.layout.specs.Layout.{counterAt}
-use Rattle.layout.specs.Machine.{Machine, Order, Commands, Memory, ticksOf}
+use Rattle.layout.specs.Layout.{counterAt, quadrantWords, machineLength, updateTicksAt}
+use Rattle.layout.specs.Machine.{Machine, Order, Commands, Memory, ticksOf, updateTicks, updateTicksOf}
 use Rattle.layout.specs.Widths.{counterBits}
 use Rattle.questions.specs.Questions.{asked}
+use Rattle.sine.specs.Sine.{magnitude}
+use Rattle.exponential.specs.Exponential.{tableSize, olderSize, within, Largest, entry as exponentialEntry, exponential}
 use Rattle.modes.specs.Modes.{readData, writeData}
-use Rattle.machine.specs.Questions.{freshMachine}
+use Rattle.machine.specs.Questions.{question1, question2, freshMachine}
 use Rattle.delay.specs.declared.Delay.{Delay}
 use Rattle.built_codes.specs.BuiltCodes.{line}
 use Rattle.delay.specs.Delay.{due, slot, address}
 use Rattle.delay.specs.Turns.{Turns, OnlyTurnsWrite}
 use Rattle.delay_questions.specs.Questions.{memoryGood, question11, question12}
 use Rattle.order.specs.Order.{inMode}
-use Rattle.pass_model.specs.Pass.{Call, passOf}
+use Rattle.sums.specs.Sums.{sumsOf}
+use Rattle.pass_model.specs.Generators.{of1978, begun}
+use Rattle.pass_model.specs.Clipped.{noMarks, SumLeft}
+use Rattle.pass_model.specs.Pass.{Call, plainCall, passOf}
 use Rattle.pass_laws.specs.Good.{Good}
 use Rattle.pass_laws.specs.Settings.{SettingsKept}
 use Rattle.command.specs.Command.{afterCommand}
-use Rattle.update.specs.Update.{updateOf}
+use Rattle.update.specs.Update.{updateOf, takenCount}
 use Rattle.order_agreement.specs.Agreement.{settingsOf, Agree}
 use Rattle.order_alike.specs.Parting.{partingOrders}
 use Rattle.compare.specs.Compare.{compareOf}
 use Rattle.any_order.specs.AnyOrder.{anyOrderOf}
 use Rattle.equal_orders.specs.Equal.{Equal}
-use Rattle.equal_orders.specs.WorkedExamples.{WorkedExamples}
+use Rattle.equal_orders.specs.WorkedExamples.{WorkedExamples, forth, back}
 use Rattle.equal_any_order.specs.EveryOrder.{Passes, EveryTwoEqual, Apart}
+use Rattle.equal_any_order.specs.MarksApart.{upAndDown}
 use Rattle.bench_text.specs.Text.{lineBytes}
-use Rattle.bench_file.specs.BenchFile.{commandPlaces, readOf}
+use Rattle.bench_file.specs.BenchFile.{commandPlaces, fileOf, readOf}
 use Rattle.bench_ringing.specs.Ringing.{printed, outputOf}
 use Rattle.bench_ringing.specs.Heard.{heard, linesHeard}
 use Rattle.bench_ringing.specs.Steps.{rungFrom}
@@ -52,6 +58,8 @@ pub record Claims : Type 0 where
   pub one-order : (m : Machine) → anyOrderOf m .number ≡ 0 → ticksOf m ≡ 1 → anyOrderOf m .alike ≡ true
   pub orders-apart : (m : Machine) → anyOrderOf m .number ≡ 0 → anyOrderOf m .alike ≡ false
       → Apart m (partingOrders (settingsOf m) .first) (partingOrders (settingsOf m) .second)
+  -- The sine is never 0, so that the sum of cosines divides by no 0.
+  pub sine-not-zero : (k : ℕ) → 0 < magnitude k
   -- The twelve worked examples.
   pub worked-examples : WorkedExamples
   -- A fresh machine passes questions 1 and 2, and a pass, a command and an update keep them.
@@ -59,6 +67,16 @@ pub record Claims : Type 0 where
   pub pass-keeps : (m : Machine) (call : Call) → Good m → Good (passOf m call .machine)
   pub command-keeps : (m : Machine) (c : ℕ) → Good m → Good (afterCommand m c)
   pub update-keeps : (m : Machine) (commands : Commands) → Good m → Good (updateOf m commands .machine)
+  -- The count of update ticks is N-T-8 where N reaches T and the eight, and else 0.
+  pub ticks-exact : (t n : ℕ) → t + 8 ≤ n → updateTicks t n + (t + 8) ≡ n
+  pub ticks-none : (t n : ℕ) → n ≤ t + 8 → updateTicks t n ≡ 0
+  -- The word of the update ticks has the count of T and N in every machine that passes questions 1 and 2, so also after a pass, a command and an update of such a machine;
+  -- a machine whose word disagrees gets 2; and an update takes at most so many commands.
+  pub ticks-written : (m : Machine) → Good m → getD m updateTicksAt 0 ≡ updateTicksOf m
+  pub ticks-disagree : (m : Machine) → length m ≡ machineLength → getD m updateTicksAt 0 ≢ updateTicksOf m → asked (question1 m ∷ question2 m ∷ []) ≡ 2
+  pub taken-at-most : (m : Machine) (commands : Commands) → Good m → takenCount m commands ≤ getD m updateTicksAt 0
+  -- The machine that a text sets has the count of its own T and N, in or out of their ranges.
+  pub file-ticks : (text : List ℕ) → getD (fileOf text .machine) updateTicksAt 0 ≡ updateTicksOf (fileOf text .machine)
   -- Delay memory that passes question 10 passes it after a pass, and a machine that passes 11 and 12 passes them after a pass.
   pub pass-keeps-memory : (m : Machine) (call : Call) → memoryGood (call .memory) ≡ true → memoryGood (passOf m call .memory) ≡ true
   pub pass-keeps-units : (m : Machine) (call : Call) → Good m → asked (question11 m ∷ question12 m ∷ []) ≡ 0
@@ -73,12 +91,28 @@ pub record Claims : Type 0 where
   -- A refused pass leaves the machine, the places and delay memory as they were.
   pub refused-leaves : (m : Machine) (call : Call) → passOf m call .number ≢ 0
       → (passOf m call .machine ≡ m) × (passOf m call .places ≡ call .places) × (passOf m call .memory ≡ call .memory)
+  -- A pass answers 64 marks, each 0 or 1, and none is set in a refusal. Else the mark of a generator-this word is set exactly if some generator, taken in the call's order
+  -- from the state that those before it left, made a signed sum in that word, by adding or replacing, that left its range.
+  pub marks-64 : (m : Machine) (call : Call) → length (passOf m call .clipped) ≡ quadrantWords
+  pub mark-bits : (m : Machine) (call : Call) (w : ℕ) → w < quadrantWords → getD (passOf m call .clipped) w 0 ≤ 1
+  pub refused-unmarked : (m : Machine) (call : Call) → passOf m call .number ≢ 0 → passOf m call .clipped ≡ noMarks
+  pub mark-tells : (m : Machine) (call : Call) → passOf m call .number ≡ 0 → (w : ℕ) → w < quadrantWords
+      → (getD (passOf m call .clipped) w 0 ≡ 1) ↔ SumLeft of1978 (call .items) (begun m (sumsOf m) (call .places)) (call .order) w
+  -- Equal orders may differ in the marks: of two that are equal on a machine one sets the mark of word 0, the other none.
+  pub marks-equal : Equal upAndDown forth back
+  pub marks-forth : (passOf upAndDown (plainCall forth [] []) .number ≡ 0) × (passOf upAndDown (plainCall forth [] []) .clipped ≡ set noMarks 0 1)
+  pub marks-back : (passOf upAndDown (plainCall back [] []) .number ≡ 0) × (passOf upAndDown (plainCall back [] []) .clipped ≡ noMarks)
   -- A word that a delay line takes goes out Z+3 turns later, if nothing but its turns changes the unit and nothing else writes its slot until it leaves;
   -- a table's answer goes out three turns later, looked up in its word's own turn.
   pub line-returns : (unit : ℕ → Delay) (memory : ℕ → Memory) (word : ℕ → ℕ) → unit 0 .p ≡ line → unit 0 .y ≤ unit 0 .z → slot (unit 0) < length (memory 0)
       → Turns (unit 0 .z + 3) unit memory word → OnlyTurnsWrite (slot (unit 0)) (unit 0 .z + 1) unit memory word → due (unit (unit 0 .z + 3)) ≡ word 0
   pub table-returns : (unit : ℕ → Delay) (memory : ℕ → Memory) (word : ℕ → ℕ) → unit 0 .p ≢ line → Turns 3 unit memory word
       → due (unit 3) ≡ getD (memory 0) (address (unit 0) (word 0)) 0
+  -- Entry f of an exponential table of n is the largest of all e with e^n times 2^f at most 4,093^n, for every n. Entry 4f of the table is entry f of
+  -- document 01's table of 256, and so the exponential of 4h is what document 01's was of h.
+  pub entry-largest : (n f : ℕ) → 0 < n → Largest (within n f) (exponentialEntry n f)
+  pub older-entry : (f : ℕ) → exponentialEntry tableSize (4 * f) ≡ exponentialEntry olderSize f
+  pub older-exponential : (h : ℕ) → exponential tableSize (4 * h) ≡ exponential olderSize h
   -- The steps of the bench program until no pass is left are its output, for every text; and so are they where they are gathered in a buffer that has room for a line.
   pub steps-are-output : (text m room : List ℕ) → length room ≡ commandPlaces → rungFrom (readOf text m room) ≡ outputOf text
   pub gathered-are-output : (size : ℕ) (text m room : List ℕ) → lineBytes ≤ size → length room ≡ commandPlaces → printedFrom size (readOf text m room) ≡ outputOf text

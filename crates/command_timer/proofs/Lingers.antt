@@ -9,7 +9,9 @@ use lib.Dec.{lit≤}
 use lib.ListN.{getD, set}
 use borrow.Author.Tests.{eq-eqb, ne-eqb, le-leb, lt-leb}
 use Rattle.words.proofs.Residues.{minus-code}
-use Rattle.layout.specs.Layout.{tAt, nAt, counterAt, lingeringAt, lingerPassAt, overrunAt}
+use Rattle.layout.specs.Layout.{tAt, nAt, counterAt, lingeringAt, lingerPassAt, overrunAt, updateTicksAt}
+use Rattle.layout.specs.Machine.{Reaches, updateTicks, withUpdateTicks}
+use Rattle.layout.proofs.UpdateTicks.{ticks-by-t, ticks-by-n}
 use Rattle.layout.specs.Widths.{lingerBits}
 use Rattle.command_fields.specs.Fields.{flag, dataOf}
 use Rattle.command_timer.specs.Timer.{behind, waitsFor, lingered, counterSet, ttOf, timed, timerWaits, ticksData, ticksSet}
@@ -54,12 +56,12 @@ module _ (m : List ℕ) (c : ℕ) {number tt : ℕ} (en : number ≡ dataOf c) (
   unfolding timerWaits timed
   timer-idle e f g = rw (← et, ne-eqb tt 0b01 e, ne-eqb tt 0b10 f, ne-eqb tt 0b11 g) (refl, refl)
 
--- TICKS by Q, likewise.
-module _ (m : List ℕ) (c : ℕ) {number : ℕ} {q : Bool} (en : number ≡ ticksData c) (eq : q ≡ flag 32 c) where
-  pub ticks-n : q ≡ true → set m nAt (number + 2) ≡ ticksSet m c
-  unfolding ticksSet
-  ticks-n e = rw (← eq, e, en)
+-- TICKS by Q, likewise, with the update ticks of the T and N that it leaves.
+module _ (m : List ℕ) (r : Reaches m) (c : ℕ) {number : ℕ} {q : Bool} (en : number ≡ ticksData c) (eq : q ≡ flag 32 c) {ticks : ℕ} where
+  pub ticks-n : q ≡ true → ticks ≡ updateTicks (getD m tAt 0) (number + 2) → set (set m nAt (number + 2)) updateTicksAt ticks ≡ ticksSet m c
+  unfolding ticksSet withUpdateTicks
+  ticks-n e et = rw (← eq, e, ← en, et, ticks-by-n m r (number + 2))
 
-  pub ticks-t : q ≡ false → set m tAt (number + 1) ≡ ticksSet m c
-  unfolding ticksSet
-  ticks-t e = rw (← eq, e, en)
+  pub ticks-t : q ≡ false → ticks ≡ updateTicks (number + 1) (getD m nAt 0) → set (set m tAt (number + 1)) updateTicksAt ticks ≡ ticksSet m c
+  unfolding ticksSet withUpdateTicks
+  ticks-t e et = rw (← eq, e, ← en, et, ticks-by-t m r (number + 1))

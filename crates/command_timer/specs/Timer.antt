@@ -7,7 +7,7 @@ use lib.IntN.{pos, _-ℤ_}
 use lib.ListN.{getD, set}
 use Rattle.words.specs.Words.{lowBits}
 use Rattle.layout.specs.Layout.{tAt, nAt, counterAt, lingeringAt, lingerPassAt, overrunAt}
-use Rattle.layout.specs.Machine.{Machine}
+use Rattle.layout.specs.Machine.{Machine, withUpdateTicks}
 use Rattle.layout.specs.Widths.{lingerBits}
 use Rattle.command_fields.specs.Fields.{field, flag, dataOf}
 
@@ -47,9 +47,9 @@ timerWaits m c =
     (cond (eqb (ttOf c) 0b11) (waitsFor (counterSet m 0) (dataOf c))
     false)
 
--- TICKS: Q 0 sets T = data + 1, Q 1 sets N = data + 2. Its data are the right ten bits of the 20.
+-- TICKS: Q 0 sets T = data + 1, Q 1 sets N = data + 2, and either sets the update ticks as well. Its data are the right ten bits of the 20.
 abbrev pub ticksData : ℕ → ℕ
 ticksData c = field 14 23 c
 
 unfoldable pub ticksSet : Machine → ℕ → Machine
-ticksSet m c = cond (flag 32 c) (set m nAt (ticksData c + 2)) (set m tAt (ticksData c + 1))
+ticksSet m c = withUpdateTicks (cond (flag 32 c) (set m nAt (ticksData c + 2)) (set m tAt (ticksData c + 1)))

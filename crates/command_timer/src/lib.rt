@@ -1,4 +1,4 @@
-// TIMER and TICKS: the pass counter, lingering, T and N.
+// TIMER and TICKS: the pass counter, lingering, T and N with their update ticks.
 use command_fields::field;
 use command_fields::flag;
 ghost use mathlib.Core.Path.{_≡_};
@@ -43,15 +43,21 @@ pub fn timer(m: &mut [u32], c: u32) -> bool
     false
 }
 
-// TICKS: Q 0 sets T, Q 1 sets N.
+// TICKS: Q 0 sets T, Q 1 sets N, and either sets the update ticks of both.
 pub fn ticks(m: &mut [u32], c: u32)
     requires { ⌜ Reaches (now m) ⌝ }
     ensures { λ _. ⌜ now (m .exit) ≡ ticksSet (now (m .entry)) c ⌝ }
 {
     let data = field(c, 14, 23);
+    let t = m[layout::T_AT];
+    let n = m[layout::N_AT];
     if flag(c, 32) {
-        m[layout::N_AT] = data + 2;
+        let all = data + 2;
+        m[layout::N_AT] = all;
+        m[layout::UPDATE_TICKS_AT] = layout::update_ticks(t, all);
     } else {
-        m[layout::T_AT] = data + 1;
+        let processing = data + 1;
+        m[layout::T_AT] = processing;
+        m[layout::UPDATE_TICKS_AT] = layout::update_ticks(processing, n);
     }
 }

@@ -1,4 +1,4 @@
--- The envelope of a generator, and the wave under it (document 01, "A generator", steps 7 to 9).
+-- The envelope of a generator, and the wave under it (document 01, "A generator", steps 7 to 9; its exponential by request Q-5 of document 02).
 -- Assumes nothing.
 use Prim.Native.Nat.{ℕ, _+_, _*_, _/_, _%_, _^_}
 use mathlib.Core.Bool.{Bool, cond, not, _&&_}
@@ -6,7 +6,7 @@ use lib.Dec.{eqb, leb}
 use lib.IntN.{ℤ, pos, negℤ, natAbs, _+ℤ_, _-ℤ_}
 use lib.Signed.{nonNeg}
 use Rattle.words.specs.Words.{lowBits, exactSum, outside}
-use Rattle.exponential.specs.Exponential.{tableSize, exponential}
+use Rattle.exponential.specs.Exponential.{tableSize, exponentOf, exponential}
 
 -- H: the high 12 bits of GQ.
 abbrev pub hOf : ℕ → ℕ
@@ -20,9 +20,9 @@ overflows gq gp = outside 24 (exactSum 20 gq gp)
 unfoldable pub decayed : Bool → ℕ → ℕ → ℕ
 decayed free gq gp = cond (overflows gq gp && not free) gq (lowBits 24 (exactSum 20 gq gp))
 
--- Q: H in the envelope modes 00 and 01, the exponential of H in 10 and 11.
+-- Q: H in the envelope modes 00 and 01, the exponential of the high 14 bits of GQ in 10 and 11.
 unfoldable pub qOf : ℕ → ℕ → ℕ
-qOf mode gq = cond (leb 2 mode) (exponential tableSize (hOf gq)) (hOf gq)
+qOf mode gq = cond (leb 2 mode) (exponential tableSize (exponentOf gq)) (hOf gq)
 
 -- V: GL - Q in the envelope modes 00 and 10, GL + Q in 01 and 11; its low 12 bits, unsigned.
 unfoldable pub level : ℕ → ℕ → ℕ → ℕ

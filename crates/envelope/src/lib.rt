@@ -30,7 +30,7 @@ pub fn decayed(free: u8, gq: u32, gp: u32) -> u32
     words::into24(gq, gp)
 }
 
-// Q: the high bits of GQ, or their exponential.
+// Q: the high 12 bits of GQ, or the exponential of its high 14.
 fn q(table: &Entries, mode: u32, gq: u32) -> u32
     requires { ⌜ now table ≡ entries tableSize ⌝ }
     requires { ⌜ gq < 2 ^ 24 ⌝ }
@@ -57,12 +57,12 @@ pub fn level(table: &Entries, mode: u32, gl: u32, gq: u32) -> u32
 
 // P: the wave under the level v, rounded and then signed, as a word of 20 bits.
 pub fn enveloped(w: SignMagnitude, v: u32) -> u32
-    requires { ⌜ (w .magnitude < 2 ^ 12) × (v < 2 ^ 12) ⌝ }
+    requires { ⌜ (w .sign < 2) × (w .magnitude < 2 ^ 12) × (v < 2 ^ 12) ⌝ }
     ensures { λ r. ⌜ r ≡ lowBits 20 (enveloped (valueOf w) v) ⌝ }
 {
     let magnitude = (w.magnitude * v + 32) / 64;
     words::word20(SignMagnitude {
-        negative: w.negative,
+        sign: w.sign,
         magnitude,
     })
 }

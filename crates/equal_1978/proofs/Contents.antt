@@ -11,11 +11,11 @@ use lib.ListN.{length, getD}
 use Rattle.lists.specs.Lists.{isOneOf}
 use Rattle.built_codes.specs.BuiltCodes.{builtFunctions, builtFunction}
 use Rattle.lists.proofs.Tables.{tabulate-length, tabulate-at}
-use Rattle.layout.specs.Layout.{machineLength, generatorAt, modifierAt, quadrantAt, tAt, MMODE, GO, GSUM, GFM, GMODE}
-use Rattle.layout.specs.Machine.{Machine, ticksOf, gmodeAt, gsumAt, gfmAt}
+use Rattle.layout.specs.Layout.{machineLength, generatorAt, modifierAt, quadrantAt, tAt, nAt, updateTicksAt, MMODE, GO, GSUM, GFM, GMODE}
+use Rattle.layout.specs.Machine.{Machine, ticksOf, updateTicksOf, gmodeAt, gsumAt, gfmAt}
 use Rattle.machine.specs.Questions.{regions, testAt, sound}
 use Rattle.machine.proofs.Regions.{region, start, unit-test}
-use Rattle.machine.proofs.SoundMachine.{sound-at, sound-from}
+use Rattle.machine.proofs.SoundMachine.{sound-at, sound-ticks, sound-from}
 use Rattle.pass_laws.specs.Good.{Good}
 use Rattle.equal_1978.specs.Witnesses.{withWords, inactiveModifier, byPlace}
 
@@ -120,7 +120,7 @@ module _ (register word : ℕ → ℕ → ℕ → ℕ) (m : Machine) where
         let q : i ≡ start regions 2 + (1 * (i - 3840) + 0) = omega arith in
         ap (λ (at : ℕ). testAt regions at x) q ∙ unit-test regions 2 (i - 3840) 0 x (omega arith) (lit< tt)
 
-    passes : (i : ℕ) → i < machineLength → (a b c : Bool) → ltb i 2816 ≡ a → ltb i 3840 ≡ b → ltb i 4096 ≡ c → testAt regions i (getD changed i 0) ≡ true
+    passes : (i : ℕ) → i < updateTicksAt → (a b c : Bool) → ltb i 2816 ≡ a → ltb i 3840 ≡ b → ltb i 4096 ≡ c → testAt regions i (getD changed i 0) ≡ true
     passes i h true b c ea eb ec =
         let l = ltb-true i 2816 ea in
         in-generators i l (getD changed i 0)
@@ -140,10 +140,14 @@ module _ (register word : ℕ → ℕ → ℕ → ℕ) (m : Machine) where
         ∙ lt-ltb _ (2 ^ 20)
         (fits .words ((i - 3840) / 64) ((i - 3840) % 64) (getD m i 0) (omega arith)
         (ltb-true (getD m i 0) (2 ^ 20) (sym (in-sums i l k (getD m i 0)) ∙ sound-at m e i h)))
-    passes i h false false false ea eb ec = rw (changed-rest i (ltb-false i 4096 ec) h) (sound-at m e i h)
+    passes i h false false false ea eb ec = rw (changed-rest i (ltb-false i 4096 ec) (omega arith)) (sound-at m e i h)
+
+    -- T, N and the update ticks stay, so that these are still the count of the others.
+    ticks : getD changed updateTicksAt 0 ≡ updateTicksOf changed
+    ticks = rw (changed-rest updateTicksAt (lit≤ tt) (lit< tt), changed-rest tAt (lit≤ tt) (lit< tt), changed-rest nAt (lit≤ tt) (lit< tt)) (sound-ticks m e)
 
     pub changed-sound : sound (withWords (byPlace register word) m) ≡ true
-    changed-sound = sound-from changed (λ i h. passes i h (ltb i 2816) (ltb i 3840) (ltb i 4096) refl refl refl)
+    changed-sound = sound-from changed (λ i h. passes i h (ltb i 2816) (ltb i 3840) (ltb i 4096) refl refl refl) ticks
 
 -- GO, GSUM, GFM and GMODE stay.
 pub record Keeping (register : ℕ → ℕ → ℕ → ℕ) : Type 0 where

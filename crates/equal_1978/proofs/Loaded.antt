@@ -9,9 +9,9 @@ use native.Mathlib.Nat.{mod-eq-of-lt, add-zero}
 use lib.Dec.{eqb, lit<}
 use lib.ListN.{getD}
 use lib.Seq.{getD-drop}
-use Rattle.layout.specs.Layout.{generatorAt, quadrantAt, GJ, GK, GM, GP, GQ, GL, GSUM, GFM}
+use Rattle.layout.specs.Layout.{generatorAt, quadrantAt, GJ, GK, GN, GM, GP, GQ, GL, GSUM, GFM}
 use Rattle.layout.specs.Machine.{Machine, gsumAt, gfmAt, dacNumberAt}
-use Rattle.layout.specs.Widths.{goBits, gjBits, gkBits, gmBits, gpBits, gqBits, glBits, gsumBits, gfmBits}
+use Rattle.layout.specs.Widths.{goBits, gjBits, gkBits, gnBits, gmBits, gpBits, gqBits, glBits, gsumBits, gfmBits}
 use Rattle.machine.specs.Questions.{sound}
 use Rattle.machine.proofs.SoundMachine.{sound-generator, sound-sum}
 use Rattle.sums.specs.Sums.{wordAt, fAt, sumsOf}
@@ -50,6 +50,10 @@ module _ (m : Machine) (e : sound m ≡ true) (g : ℕ) (h : g < 256) where
   -- Its DAC number.
   pub dac-loaded : generatorOf m g .go % 2 ^ 4 ≡ dacNumberAt m g
   dac-loaded = ap (λ (x : ℕ). x % 2 ^ 4) go-loaded
+
+  pub gn-loaded : generatorOf m g .gn ≡ getD m (generatorAt g + GN) 0
+  unfolding generatorOf loaded
+  gn-loaded = at-width m (generatorAt g) GN gnBits (sound-generator m e g h .gn)
 
   pub gm-loaded : generatorOf m g .gm ≡ getD m (generatorAt g + GM) 0
   unfolding generatorOf loaded

@@ -8,10 +8,9 @@ use native.Mathlib.Omega.{arith}
 use borrow.Author.Tests.{eq-eqb, ne-eqb, lt-ltb}
 use lib.Dec.{eqb, lit<}
 use lib.ListN.{getD}
-use Rattle.layout.specs.Layout.{quadrantAt, GJ, GK, GM, GQ, GL}
+use Rattle.layout.specs.Layout.{quadrantAt, GJ, GK, GN, GM, GQ, GL}
 use Rattle.layout.specs.Widths.{glBits, wordBits}
 use Rattle.machine.specs.Questions.{regions, sound}
-use Rattle.machine.proofs.SoundMachine.{sound-generator}
 use Rattle.sums.specs.Sums.{generatorLast, modifierLast, fAt, sumsOf}
 use Rattle.generator.specs.Generator.{vOf}
 use Rattle.pass_model.specs.Generators.{generatorOf, turn1978, of1978}
@@ -19,9 +18,9 @@ use Rattle.pass_laws.proofs.SoundPuts.{gmode-loaded}
 use Rattle.lists.proofs.Choices.{of-cond}
 use Rattle.layout.specs.Machine.{Machine, gmodeAt, gfmAt}
 use Rattle.equal_endings.specs.Follows.{pAt}
-use Rattle.equal_1978.specs.Witnesses.{envelopeModeAt, soundingLevel, soundingGJ, soundingGK, sounding, ones, soundingWitness, silentWitness}
+use Rattle.equal_1978.specs.Witnesses.{envelopeModeAt, soundingLevel, soundingGJ, soundingGK, soundingGN, sounding, ones, soundingWitness, silentWitness}
 use Rattle.equal_1978.proofs.Contents.{registerTest, fits-put, Fitting, Keeping, SameRegisters, changed-register, changed-word, changed-same}
-use Rattle.equal_1978.proofs.Loaded.{gj-loaded, gk-loaded, gq-loaded, gm-loaded, gl-loaded, f-generator-last, f-modifier-last}
+use Rattle.equal_1978.proofs.Loaded.{gj-loaded, gk-loaded, gn-loaded, gm-loaded, gq-loaded, gl-loaded, f-generator-last, f-modifier-last}
 use Rattle.equal_1978.proofs.Waves.{silent-p, sounding-p, silent-level, sounding-level}
 
 level-low : (m : Machine) (s g : ℕ) → soundingLevel m s g < 2 ^ glBits
@@ -34,9 +33,10 @@ fits m s = record {
   registers = λ g j x h.
       fits-put j GJ soundingGJ _ refl
       (fits-put j GK soundingGK _ refl
+      (fits-put j GN soundingGN _ refl
       (fits-put j GM 0 _ refl
       (fits-put j GQ 0 _ refl
-      (fits-put j GL (soundingLevel m s g) x (lt-ltb (soundingLevel m s g) (2 ^ glBits) (level-low m s g)) h))));
+      (fits-put j GL (soundingLevel m s g) x (lt-ltb (soundingLevel m s g) (2 ^ glBits) (level-low m s g)) h)))));
   words = λ q w x h l. of-cond (λ (y : ℕ). y < 2 ^ wordBits) (eqb q generatorLast || eqb q modifierLast) (lit< tt) l;
 }
 
@@ -75,6 +75,10 @@ module _ (m : Machine) (e : sound m ≡ true) (s : ℕ) where
     unfolding soundingWitness sounding
     gk-is = gk-loaded (soundingWitness m s) (sounding-same .good .is-sound) g h ∙ changed-register (sounding m s) ones m g GK h (lit< tt)
 
+    gn-is : generatorOf (soundingWitness m s) g .gn ≡ soundingGN
+    unfolding soundingWitness sounding
+    gn-is = gn-loaded (soundingWitness m s) (sounding-same .good .is-sound) g h ∙ changed-register (sounding m s) ones m g GN h (lit< tt)
+
     gm-is : generatorOf (soundingWitness m s) g .gm ≡ 0
     unfolding soundingWitness sounding
     gm-is = gm-loaded (soundingWitness m s) (sounding-same .good .is-sound) g h ∙ changed-register (sounding m s) ones m g GM h (lit< tt)
@@ -104,8 +108,8 @@ module _ (m : Machine) (e : sound m ≡ true) (s : ℕ) where
     pub sounding-output : g ≡ s → 0 < pAt of1978 (soundingWitness m s) g
     unfolding turn1978
     sounding-output q =
-        sounding-p (generatorOf (soundingWitness m s) g) (fAt (sumsOf (soundingWitness m s)) (generatorOf (soundingWitness m s) g .gfm)) gj-is gk-is gm-is (sounding-f g h)
-        (rw gmode-is (sound-generator m e g h .oscillator)) (v-is true (eq-eqb g s q))
+        sounding-p (generatorOf (soundingWitness m s) g) (fAt (sumsOf (soundingWitness m s)) (generatorOf (soundingWitness m s) g .gfm)) gj-is gk-is gn-is gm-is (sounding-f g h)
+        (v-is true (eq-eqb g s q))
 
 -- No generator has the number 256.
 module _ (m : Machine) (e : sound m ≡ true) where

@@ -6,7 +6,7 @@ use mathlib.Core.List.{[], _∷_}
 use lib.Dec.{eqb, ltb}
 use lib.ListN.{getD}
 use Rattle.lists.specs.Lists.{tabulate}
-use Rattle.layout.specs.Layout.{machineLength, generatorWords, modifierAt, modifierWords, quadrantAt, dacAt, GJ, GK, GM, GP, GQ, GL, MMODE}
+use Rattle.layout.specs.Layout.{machineLength, generatorWords, modifierAt, modifierWords, quadrantAt, dacAt, GJ, GK, GN, GM, GP, GQ, GL, MMODE}
 use Rattle.layout.specs.Machine.{Machine, gmodeAt}
 use Rattle.layout.specs.Widths.{glBits}
 use Rattle.sums.specs.Sums.{generatorLast, modifierLast}
@@ -59,23 +59,27 @@ envelopeModeAt m g = gmodeAt m g / 2 ^ 4 % 2 ^ 2
 unfoldable pub soundingLevel : Machine → ℕ → ℕ → ℕ
 soundingLevel m s g = (silentLevel (envelopeModeAt m g) + cond (eqb g s) 64 0) % 2 ^ glBits
 
--- GJ and GK with which W is not 0 in any built oscillator mode: the high 20 bits of GJ are the largest signed number, so that step 1 leaves its range
--- where F is 1; K is 1 in all modes but 1000.
+-- GJ, GK and GN with which W is not 0 in any oscillator mode: the high 20 bits of GJ are the largest signed number, so that step 1 leaves its range
+-- where F is 1; K is 1 unless it comes from J; GN is 1.
 abbrev pub soundingGJ : ℕ
 soundingGJ = 134217472
 
 abbrev pub soundingGK : ℕ
 soundingGK = 128
 
+abbrev pub soundingGN : ℕ
+soundingGN = 1
+
 -- The registers where only generator s sounds: these, GM 0, GQ 0 and GL.
 unfoldable pub sounding : Machine → ℕ → ℕ → ℕ → ℕ → ℕ
 sounding m s g j x =
     cond (eqb j GJ) soundingGJ
     (cond (eqb j GK) soundingGK
+    (cond (eqb j GN) soundingGN
     (cond (eqb j GM) 0
     (cond (eqb j GQ) 0
     (cond (eqb j GL) (soundingLevel m s g)
-    x))))
+    x)))))
 
 -- Every F is 1.
 unfoldable pub ones : ℕ → ℕ → ℕ → ℕ

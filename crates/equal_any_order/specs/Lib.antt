@@ -1,1 +1,2 @@
 pub mod EveryOrder
+pub mod MarksApart

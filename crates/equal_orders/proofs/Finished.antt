@@ -48,7 +48,7 @@ unfolding ran generatorsTaken
 pass-let n order call e = let-through n (by order call) e
 
 -- Delay memory of zeros passes question 10.
-zeros-good : memoryGood (zeros memoryWords) ≡ true
+pub zeros-good : memoryGood (zeros memoryWords) ≡ true
 zeros-good = good-from (zeros memoryWords) (zeros-length memoryWords) (λ i h. rw (zeros-at memoryWords i (rw (zeros-length memoryWords) at h)) (lit< tt))
 
 -- Where every modifier is inactive, no delay unit is invoked: questions 11 and 12 are answered yes.

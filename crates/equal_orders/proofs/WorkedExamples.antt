@@ -14,15 +14,16 @@ use Rattle.lists.specs.Lists.{isOneOf, count, zeros}
 use Rattle.lists.proofs.Below.{and-first, and-second}
 use Rattle.words.specs.Words.{lowBits, signed, exactSum, outside}
 use Rattle.sine.specs.Sine.{angle, firstThree, polynomial, entry}
-use Rattle.exponential.specs.Exponential.{bound, entry as exponentialEntry, exponential}
+use Rattle.exponential.specs.Exponential.{tableSize, bound, entry as exponentialEntry, exponential}
 use Rattle.exponential.proofs.Entries.{right, right-entry}
 use Rattle.envelope.specs.Envelope.{overflows, decayed, rounded, enveloped}
 use Rattle.product.specs.Product.{scaled, product}
 use Rattle.layout.specs.Layout.{tAt}
+use Rattle.layout.proofs.UpdateTicks.{counted-length}
 use Rattle.modes.specs.Modes.{runningA, runningB, wait, readData, writeDAC, free, adds, replaces, builtRun, builtOscillator}
 use Rattle.modes.proofs.RunModes.{replaces-alone}
 use Rattle.machine.specs.Questions.{regions, testAt, goodGmode, freshMachine}
-use Rattle.machine.proofs.SoundMachine.{sound-set, sound-generator}
+use Rattle.machine.proofs.SoundMachine.{reaches, single-below, sound-set, sound-with-ticks, sound-generator}
 use Rattle.machine.proofs.FreshMachine.{fresh-length, fresh-sound}
 use Rattle.order.specs.Order.{eachOnce, question5, question6, IsOrder}
 use Rattle.order.proofs.Entries.{order-passes}
@@ -36,24 +37,24 @@ use Rattle.equal_orders.proofs.Theorem.{demand-3}
 use Rattle.generator.specs.declared.Generator.{Generator}
 use Rattle.generator.specs.Generator.{runMode, gqAfter, triggers}
 use Rattle.questions.specs.Questions.{asked}
-use Rattle.layout.specs.Machine.{Machine, Order, ticksOf, runModeAt, gsumAt, gfmAt, dacNumberAt}
+use Rattle.layout.specs.Machine.{Machine, Order, ticksOf, withUpdateTicks, runModeAt, gsumAt, gfmAt, dacNumberAt}
 
 -- Examples 1 to 9.
 sine-entries : (entry 0 ≡ 1) × (entry 1 ≡ 4) × (entry 1023 ≡ 2895) × (entry 2047 ≡ 4095)
 unfolding entry polynomial firstThree angle
 sine-entries = (refl, refl, refl, refl)
 
-exponential-first : 4093 ≡ exponentialEntry 256 0
+exponential-first : 4093 ≡ exponentialEntry tableSize 0
 unfolding right bound
-exponential-first = right-entry 256 (lit< tt) 0 4093 tt
+exponential-first = right-entry tableSize (lit< tt) 0 4093 tt
 
-exponential-0 : exponential 256 0 ≡ 4093
+exponential-0 : exponential tableSize 0 ≡ 4093
 unfolding exponential
 exponential-0 = rw (← exponential-first)
 
-exponential-256 : exponential 256 256 ≡ 2046
+exponential-1024 : exponential tableSize 1024 ≡ 2046
 unfolding exponential
-exponential-256 = rw (← exponential-first)
+exponential-1024 = rw (← exponential-first)
 
 p-4 : (enveloped (pos 2048) 4095 ≡ pos 131040) × (enveloped (negℤ (pos 2048)) 4095 ≡ negℤ (pos 131040))
 unfolding enveloped rounded
@@ -85,11 +86,11 @@ module _ (u : Generator) (t : AtTop u) where
   free-9 e = (rw (t .on, e, t .gq, t .gp), rw (e, t .gq, t .gp))
 
 -- The two orders of two generators pass their questions.
-forth-passes : (t : ℕ) → t ≡ 2 → asked (question5 t forth ∷ question6 t forth ∷ []) ≡ 0
+pub forth-passes : (t : ℕ) → t ≡ 2 → asked (question5 t forth ∷ question6 t forth ∷ []) ≡ 0
 unfolding asked eachOnce count
 forth-passes t e = rw e
 
-back-passes : (t : ℕ) → t ≡ 2 → asked (question5 t back ∷ question6 t back ∷ []) ≡ 0
+pub back-passes : (t : ℕ) → t ≡ 2 → asked (question5 t back ∷ question6 t back ∷ []) ≡ 0
 unfolding asked eachOnce count
 back-passes t e = rw e
 
@@ -257,11 +258,11 @@ module _ (m : Machine) (c : TwoTicks m readData runningA) where
           }
 
 -- The machines of examples 10 to 12 are good.
-of-two-good : (mode₀ mode₁ sum₀ sum₁ fm₀ fm₁ : ℕ) → goodGmode mode₀ ≡ true → goodGmode mode₁ ≡ true → sum₀ < 2 ^ 6 → sum₁ < 2 ^ 6 → fm₀ < 2 ^ 7 → fm₁ < 2 ^ 7
+pub of-two-good : (mode₀ mode₁ sum₀ sum₁ fm₀ fm₁ : ℕ) → goodGmode mode₀ ≡ true → goodGmode mode₁ ≡ true → sum₀ < 2 ^ 6 → sum₁ < 2 ^ 6 → fm₀ < 2 ^ 7 → fm₁ < 2 ^ 7
     → Good (ofTwo mode₀ mode₁ sum₀ sum₁ fm₀ fm₁)
 unfolding ofTwo regions testAt
 of-two-good mode₀ mode₁ sum₀ sum₁ fm₀ fm₁ a b c d e f =
-    let m1 = set freshMachine tAt 2 in
+    let m1 = withUpdateTicks (set freshMachine tAt 2) in
     let m2 = set m1 8 sum₀ in
     let m3 = set m2 9 fm₀ in
     let m4 = set m3 10 mode₀ in
@@ -270,7 +271,7 @@ of-two-good mode₀ mode₁ sum₀ sum₁ fm₀ fm₁ a b c d e f =
     record {
       whole =
           length-set m6 21 mode₁ ∙ length-set m5 20 fm₁ ∙ length-set m4 19 sum₁ ∙ length-set m3 10 mode₀ ∙ length-set m2 9 fm₀ ∙ length-set m1 8 sum₀
-          ∙ length-set freshMachine tAt 2 ∙ fresh-length;
+          ∙ counted-length (set freshMachine tAt 2) ∙ length-set freshMachine tAt 2 ∙ fresh-length;
       is-sound =
           sound-set m6
           (sound-set m5
@@ -278,23 +279,23 @@ of-two-good mode₀ mode₁ sum₀ sum₁ fm₀ fm₁ a b c d e f =
           (sound-set m3
           (sound-set m2
           (sound-set m1
-          (sound-set freshMachine fresh-sound tAt 2 (lit< tt) refl)
-          8 sum₀ (lit< tt) (lt-ltb sum₀ (2 ^ 6) c))
-          9 fm₀ (lit< tt) (lt-ltb fm₀ (2 ^ 7) e))
-          10 mode₀ (lit< tt) a)
-          19 sum₁ (lit< tt) (lt-ltb sum₁ (2 ^ 6) d))
-          20 fm₁ (lit< tt) (lt-ltb fm₁ (2 ^ 7) f))
-          21 mode₁ (lit< tt) b;
+          (sound-with-ticks freshMachine fresh-sound (reaches freshMachine fresh-length) tAt 2 (lit< tt) refl)
+          8 sum₀ (single-below (lit< tt)) (lt-ltb sum₀ (2 ^ 6) c))
+          9 fm₀ (single-below (lit< tt)) (lt-ltb fm₀ (2 ^ 7) e))
+          10 mode₀ (single-below (lit< tt)) a)
+          19 sum₁ (single-below (lit< tt)) (lt-ltb sum₁ (2 ^ 6) d))
+          20 fm₁ (single-below (lit< tt)) (lt-ltb fm₁ (2 ^ 7) f))
+          21 mode₁ (single-below (lit< tt)) b;
     }
 
 -- Machines of the kinds that examples 10 to 12 speak of: 1110 and 1001; both 0010, with one GFM and with two; 0111 and 1111, on one GSUM and on two.
 machine-10 : TwoTicks (ofTwo 896 576 0 0 0 0) runningB wait
-unfolding ofTwo freshMachine zeros builtRun builtOscillator isOneOf
+unfolding ofTwo withUpdateTicks freshMachine zeros builtRun builtOscillator isOneOf
 machine-10 =
     record { good = of-two-good 896 576 0 0 0 0 refl refl (lit< tt) (lit< tt) (lit< tt) (lit< tt); ticks = refl; run₀ = refl; run₁ = refl }
 
 machine-11-one : BothFeed (ofTwo 128 128 0 0 5 5)
-unfolding ofTwo freshMachine zeros builtRun builtOscillator isOneOf
+unfolding ofTwo withUpdateTicks freshMachine zeros builtRun builtOscillator isOneOf
 machine-11-one =
     record {
       two = record { good = of-two-good 128 128 0 0 5 5 refl refl (lit< tt) (lit< tt) (lit< tt) (lit< tt); ticks = refl; run₀ = refl; run₁ = refl };
@@ -303,7 +304,7 @@ machine-11-one =
     }
 
 machine-11-two : BothFeed (ofTwo 128 128 0 0 5 6)
-unfolding ofTwo freshMachine zeros builtRun builtOscillator isOneOf
+unfolding ofTwo withUpdateTicks freshMachine zeros builtRun builtOscillator isOneOf
 machine-11-two =
     record {
       two = record { good = of-two-good 128 128 0 0 5 6 refl refl (lit< tt) (lit< tt) (lit< tt) (lit< tt); ticks = refl; run₀ = refl; run₁ = refl };
@@ -312,29 +313,29 @@ machine-11-two =
     }
 
 machine-12-one : TwoTicks (ofTwo 448 960 3 3 0 0) readData runningA
-unfolding ofTwo freshMachine zeros builtRun builtOscillator isOneOf
+unfolding ofTwo withUpdateTicks freshMachine zeros builtRun builtOscillator isOneOf
 machine-12-one =
     record { good = of-two-good 448 960 3 3 0 0 refl refl (lit< tt) (lit< tt) (lit< tt) (lit< tt); ticks = refl; run₀ = refl; run₁ = refl }
 
 machine-12-two : TwoTicks (ofTwo 448 960 3 4 0 0) readData runningA
-unfolding ofTwo freshMachine zeros builtRun builtOscillator isOneOf
+unfolding ofTwo withUpdateTicks freshMachine zeros builtRun builtOscillator isOneOf
 machine-12-two =
     record { good = of-two-good 448 960 3 4 0 0 refl refl (lit< tt) (lit< tt) (lit< tt) (lit< tt); ticks = refl; run₀ = refl; run₁ = refl }
 
 inputs-one : gfmAt (ofTwo 128 128 0 0 5 5) 0 ≡ gfmAt (ofTwo 128 128 0 0 5 5) 1
-unfolding ofTwo freshMachine zeros
+unfolding ofTwo withUpdateTicks freshMachine zeros
 inputs-one = refl
 
 inputs-two : gfmAt (ofTwo 128 128 0 0 5 6) 0 ≢ gfmAt (ofTwo 128 128 0 0 5 6) 1
-unfolding ofTwo freshMachine zeros
+unfolding ofTwo withUpdateTicks freshMachine zeros
 inputs-two = eqb-false 5 6 refl
 
 sums-one : gsumAt (ofTwo 448 960 3 3 0 0) 0 ≡ gsumAt (ofTwo 448 960 3 3 0 0) 1
-unfolding ofTwo freshMachine zeros
+unfolding ofTwo withUpdateTicks freshMachine zeros
 sums-one = refl
 
 sums-two : gsumAt (ofTwo 448 960 3 4 0 0) 0 ≢ gsumAt (ofTwo 448 960 3 4 0 0) 1
-unfolding ofTwo freshMachine zeros
+unfolding ofTwo withUpdateTicks freshMachine zeros
 sums-two = eqb-false 3 4 refl
 
 by-demand-3 : (m : Machine) (r₀ r₁ : ℕ) → TwoTicks m r₀ r₁ → Equal m forth back ↔ Agree m forth back
@@ -359,7 +360,7 @@ worked-examples =
     record {
       example-1 = sine-entries;
       example-2 = exponential-0;
-      example-3 = exponential-256;
+      example-3 = exponential-1024;
       example-4 = p-4;
       example-5 = p-5;
       example-6 = p-6;

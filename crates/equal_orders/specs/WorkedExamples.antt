@@ -1,4 +1,4 @@
--- The twelve worked examples of document 01.
+-- The twelve worked examples of document 01; the third is that of 1,024, by request Q-5 of document 02.
 -- Assumes nothing.
 use mathlib.Core.Path.{_≡_}
 use mathlib.Core.Logic.{_↔_, _≢_}
@@ -9,13 +9,13 @@ use lib.IntN.{ℤ, pos, negℤ}
 use lib.ListN.{set}
 use Rattle.words.specs.Words.{lowBits, signed}
 use Rattle.sine.specs.Sine.{entry}
-use Rattle.exponential.specs.Exponential.{exponential}
+use Rattle.exponential.specs.Exponential.{tableSize, exponential}
 use Rattle.envelope.specs.Envelope.{enveloped}
 use Rattle.product.specs.Product.{product}
 use Rattle.layout.specs.Layout.{tAt}
 use Rattle.modes.specs.Modes.{runningA, runningB, wait, readData, writeDAC, envelopeOn, free}
 use Rattle.machine.specs.Questions.{freshMachine}
-use Rattle.layout.specs.Machine.{Machine, Order, ticksOf, runModeAt, gsumAt, gfmAt, dacNumberAt}
+use Rattle.layout.specs.Machine.{Machine, Order, ticksOf, withUpdateTicks, runModeAt, gsumAt, gfmAt, dacNumberAt}
 use Rattle.generator.specs.declared.Generator.{Generator}
 use Rattle.generator.specs.Generator.{runMode, gqAfter, triggers}
 use Rattle.pass_laws.specs.Good.{Good}
@@ -51,19 +51,19 @@ pub record BothFeed (m : Machine) : Type 0 where
   pub dac₀ : dacNumberAt m 0 ≡ 0
   pub dac₁ : dacNumberAt m 1 ≡ 0
 
--- A fresh machine with T = 2 and these GMODEs, GSUMs and GFMs of its first two generators, words 8 to 10 and 19 to 21.
+-- A fresh machine with T = 2, the update ticks that follow, and these GMODEs, GSUMs and GFMs of its first two generators, words 8 to 10 and 19 to 21.
 unfoldable pub ofTwo : ℕ → ℕ → ℕ → ℕ → ℕ → ℕ → Machine
 ofTwo mode₀ mode₁ sum₀ sum₁ fm₀ fm₁ =
-    set (set (set (set (set (set (set freshMachine tAt 2) 8 sum₀) 9 fm₀) 10 mode₀) 19 sum₁) 20 fm₁) 21 mode₁
+    set (set (set (set (set (set (withUpdateTicks (set freshMachine tAt 2)) 8 sum₀) 9 fm₀) 10 mode₀) 19 sum₁) 20 fm₁) 21 mode₁
 
 -- The twelve examples. Examples 10 to 12 speak of every good machine of their kind, and machines of each kind are shown.
 pub record WorkedExamples : Type 0 where
   -- 1. Sine entries 0, 1, 1,023, 2,047: 1, 4, 2,895, 4,095.
   pub example-1 : (entry 0 ≡ 1) × (entry 1 ≡ 4) × (entry 1023 ≡ 2895) × (entry 2047 ≡ 4095)
   -- 2. Exponential of 0: 4,093.
-  pub example-2 : exponential 256 0 ≡ 4093
-  -- 3. Of 256: 2,046.
-  pub example-3 : exponential 256 256 ≡ 2046
+  pub example-2 : exponential tableSize 0 ≡ 4093
+  -- 3. Of 1,024, where document 01 has it of 256: 2,046.
+  pub example-3 : exponential tableSize 1024 ≡ 2046
   -- 4. W 2,048, V 4,095: P 131,040; W -2,048: -131,040.
   pub example-4 : (enveloped (pos 2048) 4095 ≡ pos 131040) × (enveloped (negℤ (pos 2048)) 4095 ≡ negℤ (pos 131040))
   -- 5. W 1, V 31: 0; V 32: 1.

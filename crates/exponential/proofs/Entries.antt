@@ -16,11 +16,11 @@ use Rattle.lists.proofs.Tables.{every, tabulated, tabulate-at}
 use Rattle.exponential.specs.Exponential.{bound, within, Largest, entry, entries, exponential}
 use Rattle.exponential.proofs.Largest.{greatest-largest, greatest-low, largest-one}
 
-within-le : (n f e : ℕ) → within n f e ≡ true → e ^ n * 2 ^ f ≤ bound ^ n
+pub within-le : (n f e : ℕ) → within n f e ≡ true → e ^ n * 2 ^ f ≤ bound ^ n
 unfolding within
 within-le n f e t = leb-true (e ^ n * 2 ^ f) (bound ^ n) t
 
-le-within : (n f e : ℕ) → e ^ n * 2 ^ f ≤ bound ^ n → within n f e ≡ true
+pub le-within : (n f e : ℕ) → e ^ n * 2 ^ f ≤ bound ^ n → within n f e ≡ true
 unfolding within
 le-within n f e h = le-leb (e ^ n * 2 ^ f) (bound ^ n) h
 

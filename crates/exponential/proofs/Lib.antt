@@ -1,2 +1,3 @@
 pub mod Largest
 pub mod Entries
+pub mod Sizes

@@ -1,4 +1,4 @@
--- The exponential, as document 01 has it ("House tables"), over the table's size n.
+-- The exponential, over the table's size n: 1,024 by request Q-5 of document 02, where document 01 ("House tables") had 256.
 -- Assumes nothing.
 use Prim.Native.Nat.{ℕ, zero, suc, _*_, _/_, _%_, _^_, _≤_}
 use mathlib.Core.Path.{_≡_}
@@ -7,9 +7,17 @@ use mathlib.Core.List.{List}
 use lib.Dec.{leb}
 use Rattle.lists.specs.Lists.{tabulate}
 
--- The size that document 01 gives the table.
+-- The size of the table: 1,024 entries (Q-5).
 abbrev pub tableSize : ℕ
-tableSize = 256
+tableSize = 1024
+
+-- The size that document 01 gave it, which files for the older text keep (Q-10).
+abbrev pub olderSize : ℕ
+olderSize = 256
+
+-- The number whose exponential an envelope takes: the high 14 bits of GQ (Q-5).
+abbrev pub exponentOf : ℕ → ℕ
+exponentOf gq = gq / 2 ^ 10
 
 -- The number whose power the rule names: 4,093.
 unfoldable pub bound : ℕ

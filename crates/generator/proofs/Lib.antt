@@ -1,2 +1,3 @@
 pub mod Registers
 pub mod Turns
+pub mod Sounding

@@ -35,14 +35,14 @@ module _ (on : Bool) (g : Generator) (f j v : ℕ) {p : ℕ} (is-v : v ≡ vOf g
   output-of-gk h e = rw (e, h, is-v)
 
   pub output-shaped : {w : SignMagnitude} → p ≡ lowBits 20 (enveloped (valueOf w) v)
-      → Wave (waveOf (oscillatorMode g) (g .gk / 2 ^ 7) (g .gm) (leftBy on g f j)) w → oscillatorMode g < 4 → p ≡ outputBy on g f j
+      → Wave (waveOf (oscillatorMode g) (g .gk / 2 ^ 7) (g .gn) (g .gm) (leftBy on g f j)) w → oscillatorMode g < 5 → p ≡ outputBy on g f j
   unfolding outputBy kBy
   output-shaped h k l = rw (ne-eqb (oscillatorMode g) 8 (λ e. omega arith), ← (k .is), ← is-v) h
 
   -- A mode that isn't built.
-  pub output-rest : p ≡ lowBits 20 (enveloped (sineWave (g .gk / 2 ^ 7) (g .gm)) v) → ¬ (oscillatorMode g ≡ 8) → 4 ≤ oscillatorMode g → p ≡ outputBy on g f j
+  pub output-rest : p ≡ lowBits 20 (enveloped (sineWave (g .gk / 2 ^ 7) (g .gm)) v) → ¬ (oscillatorMode g ≡ 8) → 5 ≤ oscillatorMode g → p ≡ outputBy on g f j
   unfolding outputBy kBy waveOf
-  output-rest h n l = simp (ne-eqb (oscillatorMode g) 8 n, ne-eqb (oscillatorMode g) 1 (λ e. omega arith), ne-eqb (oscillatorMode g) 2 (λ e. omega arith), ne-eqb (oscillatorMode g) 3 (λ e. omega arith)) (rw (← is-v) h)
+  output-rest h n l = simp (ne-eqb (oscillatorMode g) 8 n, ne-eqb (oscillatorMode g) 1 (λ e. omega arith), ne-eqb (oscillatorMode g) 2 (λ e. omega arith), ne-eqb (oscillatorMode g) 3 (λ e. omega arith), ne-eqb (oscillatorMode g) 4 (λ e. omega arith)) (rw (← is-v) h)
 
 -- A generator whose envelope is on doesn't wait.
 sounds-not-waits : (r : ℕ) → envelopeOn r ≡ true → eqb r wait ≡ false

@@ -99,7 +99,7 @@ leftRange g f = leaves 20 (g .gj / 2 ^ 8) f || (oscillatorOn (runMode g) && leav
 
 -- Step 6. W.
 unfoldable pub wOf : Generator → ℕ → ℤ
-wOf g f = waveOf (oscillatorMode g) (kOf g f) (g .gm) (leftRange g f)
+wOf g f = waveOf (oscillatorMode g) (kOf g f) (g .gn) (g .gm) (leftRange g f)
 
 -- Step 7. GQ afterwards: envelope on, GP is added into it.
 unfoldable pub gqAfter : Generator → ℕ

@@ -25,7 +25,7 @@ leftBy on g f j = leaves 20 (g .gj / 2 ^ 8) f || (on && leaves 20 (g .gk) j)
 
 -- Steps 6 to 9.
 unfoldable pub outputBy : Bool → Generator → ℕ → ℕ → ℕ
-outputBy on g f j = lowBits 20 (enveloped (waveOf (oscillatorMode g) (kBy g j) (g .gm) (leftBy on g f j)) (vOf g))
+outputBy on g f j = lowBits 20 (enveloped (waveOf (oscillatorMode g) (kBy g j) (g .gn) (g .gm) (leftBy on g f j)) (vOf g))
 
 -- 1101 goes to 1001.
 unfoldable pub endedOf : Generator → Generator

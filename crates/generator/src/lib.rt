@@ -162,12 +162,13 @@ impl Generator {
         false
     }
 
-    // Step 6 in the oscillator modes 0001, 0010 and 0011.
-    fn shaped(self, on: u8, f: u32, j: u32, k: u32) -> SignMagnitude
+    // Step 6 in the oscillator modes 0001, 0010, 0011 and 0100.
+    fn shaped(self, sine: &Quarter, on: u8, f: u32, j: u32, k: u32) -> SignMagnitude
         requires { ⌜ Ranged self ⌝ }
+        requires { ⌜ now sine ≡ quarter ⌝ }
         requires { ⌜ (f < 2 ^ 20) × (j < 2 ^ 20) × (k < 2 ^ 13) ⌝ }
-        requires { ⌜ (0 < oscillatorMode self) × (oscillatorMode self < 4) ⌝ }
-        ensures { λ r. ⌜ Wave (waveOf (oscillatorMode self) k (self .gm) (leftBy (eqb on 1) self f j)) r ⌝ }
+        requires { ⌜ (0 < oscillatorMode self) × (oscillatorMode self < 5) ⌝ }
+        ensures { λ r. ⌜ Wave (waveOf (oscillatorMode self) k (self .gn) (self .gm) (leftBy (eqb on 1) self f j)) r ⌝ }
     {
         let mode = self.gmode % 16;
         if mode == 1 {
@@ -176,7 +177,10 @@ impl Generator {
         if mode == 2 {
             return oscillator::square(k);
         }
-        oscillator::pulse(self.left_range(on, f, j))
+        if mode == 3 {
+            return oscillator::pulse(self.left_range(on, f, j));
+        }
+        oscillator::sum_of_cosines(sine, k, self.gn, self.gm)
     }
 
     // Steps 6 and 9 in the oscillator modes 0000 and 1000: P, of K and V.
@@ -202,8 +206,8 @@ impl Generator {
         if self.gmode % 16 == 0 {
             return self.sine_under(sine, self.gk / 128, v);
         }
-        if self.gmode % 16 < 4 {
-            return envelope::enveloped(self.shaped(on, f, j, self.gk / 128), v);
+        if self.gmode % 16 < 5 {
+            return envelope::enveloped(self.shaped(sine, on, f, j, self.gk / 128), v);
         }
         self.sine_under(sine, self.gk / 128, v)
     }

@@ -7,6 +7,7 @@ ghost use Rattle.update.specs.Update.{outcome, updateOf, takenCount};
 ghost use mathlib.Core.Bool.{cond};
 ghost use Rattle.compare.specs.Compare.{compareOf};
 ghost use Rattle.any_order.specs.AnyOrder.{anyOrderOf};
+use sums::Clipped;
 
 // A fresh machine.
 #[no_mangle]
@@ -17,7 +18,7 @@ pub extern "C" fn karvelorn_fresh(m: &mut [u32]) -> u32
     machine::fresh(m)
 }
 
-// A pass. The answer is the number of the refusing question or 0; read and written get how many items were.
+// A pass. The answer is the number of the refusing question or 0; read and written get how many items were, clipped a mark for each word of generator-this: 1 where it left its range, else 0.
 #[no_mangle]
 pub extern "C" fn karvelorn_pass(
     m: &mut [u32],
@@ -27,12 +28,15 @@ pub extern "C" fn karvelorn_pass(
     memory: &mut [u32],
     read: &mut usize,
     written: &mut usize,
+    clipped: &mut Clipped,
 ) -> u32
-    ensures { λ r. ⌜ record { number = r; read = now (read .exit); written = now (written .exit); machine = now (m .exit); places = now (places .exit); memory = now (memory .exit) } ≡ passOf (now (m .entry)) (record { order = now (order .entry); items = now (items .entry); places = now (places .entry); memory = now (memory .entry) }) ⌝ }
+    ensures { λ r. ⌜ record { number = r; read = now (read .exit); written = now (written .exit); clipped = now (clipped .exit); machine = now (m .exit); places = now (places .exit); memory = now (memory .exit) } ≡ passOf (now (m .entry)) (record { order = now (order .entry); items = now (items .entry); places = now (places .entry); memory = now (memory .entry) }) ⌝ }
 {
     let done = pass::pass(m, order, items, places, memory);
     *read = done.read;
     *written = done.written;
+    let marks = done.clipped;
+    *clipped = marks;
     done.number
 }
 

@@ -4,9 +4,9 @@ use Prim.Native.Nat.{ℕ, _+_, _*_, _≤_}
 use mathlib.Core.List.{List}
 use lib.ListN.{length}
 
--- The length of the machine's run of words, and the number of its places that a bench file can name.
+-- The length of the machine's run of words, and the number of its places that a bench file can name: all but the last, which holds the update ticks.
 abbrev pub machineLength : ℕ
-machineLength = 4343
+machineLength = 4344
 
 abbrev pub filePlaces : ℕ
 filePlaces = 4343
@@ -158,6 +158,10 @@ delaySecond = 5
 
 abbrev pub delayThird : ℕ
 delayThird = 6
+
+-- The update ticks, after the last delay unit: how many commands fit in a pass.
+abbrev pub updateTicksAt : ℕ
+updateTicksAt = 4343
 
 -- The words of delay memory.
 abbrev pub memoryWords : ℕ

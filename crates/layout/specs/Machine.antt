@@ -1,9 +1,9 @@
 -- A machine is a run of words; what stands at its places, by name.
 -- Assumes nothing.
-use Prim.Native.Nat.{ℕ, _+_, _/_, _%_, _^_, _≤_}
+use Prim.Native.Nat.{ℕ, _+_, _-_, _/_, _%_, _^_, _≤_}
 use mathlib.Core.List.{List}
-use lib.ListN.{length, getD}
-use Rattle.layout.specs.Layout.{machineLength, generatorAt, modifierAt, tAt, GSUM, GFM, GMODE, MRM, MMODE}
+use lib.ListN.{length, getD, set}
+use Rattle.layout.specs.Layout.{machineLength, generatorAt, modifierAt, tAt, nAt, updateTicksAt, GSUM, GFM, GMODE, MRM, MMODE}
 
 -- The words of a machine; an order of the generators, by number; read items; places for written items; commands.
 abbrev pub Machine : Type 0
@@ -36,6 +36,18 @@ pub record Reaches (m : Machine) : Type 0 where
 -- T.
 abbrev pub ticksOf : Machine → ℕ
 ticksOf m = getD m tAt 0
+
+-- The update ticks of T and N: N-T-8, or 0 if that is negative. A difference of these numbers stops at 0 and never wraps.
+abbrev pub updateTicks : ℕ → ℕ → ℕ
+updateTicks t n = n - t - 8
+
+-- Those of a machine's own T and N, whatever stands in the word for them.
+abbrev pub updateTicksOf : Machine → ℕ
+updateTicksOf m = updateTicks (ticksOf m) (getD m nAt 0)
+
+-- A machine with that count in its word.
+unfoldable pub withUpdateTicks : Machine → Machine
+withUpdateTicks m = set m updateTicksAt (updateTicksOf m)
 
 -- GMODE, GSUM and GFM of generator g; its run mode, the left 4 of GMODE's 10 bits; its DAC number, the low 4 bits of GO, its first word.
 abbrev pub gmodeAt : Machine → ℕ → ℕ

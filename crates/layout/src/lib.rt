@@ -1,12 +1,12 @@
 // Where each word of the machine stands: the layout's numbers, each with its one name; and what stands at the places that several calls look at.
 ghost use mathlib.Core.Path.{_≡_};
 ghost use Prim.Native.Nat.{_<_};
-ghost use Rattle.layout.specs.Machine.{Reaches, ticksOf, gsumAt, gfmAt, runModeAt, dacNumberAt};
+ghost use Rattle.layout.specs.Machine.{Reaches, ticksOf, updateTicks, gsumAt, gfmAt, runModeAt, dacNumberAt};
 
 // The length of the machine's run of words.
-pub const MACHINE_LENGTH: usize = 4343;
+pub const MACHINE_LENGTH: usize = 4344;
 
-// The number of its places that a bench file can name.
+// The number of its places that a bench file can name: all but the last, which holds the update ticks.
 pub const FILE_PLACES: usize = 4343;
 
 // Generator g, below GENERATORS, has the GENERATOR_WORDS words from GENERATOR_WORDS * g, in this sequence.
@@ -163,6 +163,9 @@ pub const DELAY_LIMIT: u32 = 1 << 16;
 
 pub const DELAY_MODE_LIMIT: u32 = 1 << 4;
 
+// The update ticks: how many commands fit in a pass.
+pub const UPDATE_TICKS_AT: usize = 4343;
+
 // The words of delay memory.
 pub const MEMORY_WORDS: usize = 65536;
 
@@ -179,6 +182,20 @@ pub fn ticks(m: &[u32]) -> usize
     ensures { λ r. ⌜ r ≡ ticksOf (now (m .entry)) ⌝ }
 {
     wide(m[T_AT])
+}
+
+// The update ticks of T and N, any two words: N-T-8, or 0 if that is negative.
+pub fn update_ticks(t: u32, n: u32) -> u32
+    ensures { λ r. ⌜ r ≡ updateTicks t n ⌝ }
+{
+    if n < t {
+        return 0;
+    }
+    let beyond = n - t;
+    if beyond < 8 {
+        return 0;
+    }
+    beyond - 8
 }
 
 // The run mode of generator g.

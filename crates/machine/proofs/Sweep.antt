@@ -1,31 +1,42 @@
 -- Question 2 is what the code's sweep by columns answers.
 -- Assumes nothing.
 use mathlib.Core.Path.{_≡_, refl, sym, ap, _∙_}
-use mathlib.Core.Bool.{Bool, true, false, _&&_, and-assoc, and-true, and-false}
+use mathlib.Core.Bool.{Bool, true, false, _&&_, and-comm, and-assoc, and-true, and-false}
 use mathlib.Core.List.{List}
 use Prim.Native.Nat.{ℕ}
 use native.Mathlib.Omega.{arith}
+use borrow.Author.Tests.{ne-eqb}
 use lib.Dec.{ltb, leb·zero, lit<}
 use lib.ListN.{getD}
 use Rattle.lists.specs.Lists.{allBelow}
-use Rattle.layout.specs.Layout.{machineLength}
+use Rattle.lists.proofs.Below.{below-same}
+use Rattle.layout.specs.Layout.{updateTicksAt}
 use Rattle.machine_sweep.specs.Columns.{everyWord}
 use Rattle.machine_sweep.proofs.Words.{word-from}
 use Rattle.machine_sweep.proofs.EveryColumn.{everyColumn, limitTests, word-and}
-use Rattle.machine.specs.Questions.{bits, goodGmode, goodAddress, goodMmode, test, delayMode, generatorRegisters, modifierRegisters, delayRegisters, regions, testAt, sound}
-use Rattle.machine.specs.Loops.{limitsOf, runField, oscillatorField, functionField, delayField, generatorsWithin, modifiersWithin, controlsWithin, delaysWithin}
+use Rattle.machine.specs.Questions.{bits, goodGmode, goodAddress, goodMmode, test, delayMode, generatorRegisters, modifierRegisters, delayRegisters, regions, testAt, wordPasses, sound}
+use Rattle.machine.specs.Loops.{limitsOf, runField, oscillatorField, functionField, delayField, generatorsWithin, modifiersWithin, controlsWithin, delaysWithin, ticksCounted}
 use Rattle.machine.proofs.Words.{gmode-is, address-and, mmode-is, delay-mode-is}
 use Rattle.machine.proofs.Limits.{region-swept}
 use Rattle.machine.proofs.Regions.{wordsOf, region, everyRegion, regions-columns}
 
--- The regions' words together are the machine's.
-pub regions-cover : wordsOf regions ≡ machineLength
+-- The regions' words together are those before the update ticks, which are the machine's last word.
+pub regions-cover : wordsOf regions ≡ updateTicksAt
 unfolding regions wordsOf
 regions-cover = refl
 
-pub sound-columns : (m : List ℕ) → sound m ≡ everyRegion regions m 0
-unfolding sound
-sound-columns m = ap (allBelow (λ i. testAt regions i (getD m i 0))) (sym regions-cover) ∙ regions-columns regions m
+by-region : (m : List ℕ) → allBelow (wordPasses m) updateTicksAt ≡ allBelow (λ i. testAt regions i (getD m i 0)) updateTicksAt
+unfolding wordPasses
+by-region m =
+    below-same (wordPasses m) (λ i. testAt regions i (getD m i 0)) updateTicksAt
+    (λ i h. rw (ne-eqb i updateTicksAt (λ e. omega arith)))
+
+pub sound-columns : (m : List ℕ) → sound m ≡ (everyRegion regions m 0 && ticksCounted m)
+unfolding sound wordPasses
+sound-columns m =
+    and-comm (ticksCounted m) (allBelow (wordPasses m) updateTicksAt)
+    ∙ ap (λ (b : Bool). b && ticksCounted m)
+    (by-region m ∙ ap (allBelow (λ i. testAt regions i (getD m i 0))) (sym regions-cover) ∙ regions-columns regions m)
 
 -- A region's widths and its further tests are its registers' tests.
 generators-are : (m : List ℕ) (n : ℕ)
@@ -114,11 +125,11 @@ six a b c d e f = simp (and-assoc, and-true)
 
 -- The sweep's answer.
 pub sound-swept : (m : List ℕ)
-    → sound m ≡ (generatorsWithin m && modifiersWithin m && everyWord (bits 20) m 3840 1 0 256 && everyWord (bits 20) m 4096 1 0 16 && controlsWithin m && delaysWithin m)
+    → sound m ≡ (generatorsWithin m && modifiersWithin m && everyWord (bits 20) m 3840 1 0 256 && everyWord (bits 20) m 4096 1 0 16 && controlsWithin m && delaysWithin m && ticksCounted m)
 unfolding regions
 sound-swept m =
     sound-columns m
-    ∙ six (everyColumn (region regions 0 .tests) m 0 11 0 256) (everyColumn (region regions 1 .tests) m 2816 8 0 128)
+    ∙ ap (λ (b : Bool). b && ticksCounted m) (six (everyColumn (region regions 0 .tests) m 0 11 0 256) (everyColumn (region regions 1 .tests) m 2816 8 0 128)
     (everyWord (bits 20) m 3840 1 0 256) (everyWord (bits 20) m 4096 1 0 16) (everyColumn (region regions 4 .tests) m 4112 7 0 1)
-    (everyColumn (region regions 5 .tests) m 4119 7 0 32)
+    (everyColumn (region regions 5 .tests) m 4119 7 0 32))
     ∙ rw (generators-swept m, modifiers-swept m, controls-are m, delays-swept m)

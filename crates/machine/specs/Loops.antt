@@ -3,12 +3,13 @@
 use Prim.Native.Nat.{ℕ, _+_, _/_, _%_, _^_}
 use mathlib.Core.Bool.{Bool, _&&_}
 use mathlib.Core.List.{List, [], _∷_}
-use lib.Dec.{leb, ltb}
+use lib.Dec.{eqb, leb, ltb}
 use lib.ListN.{length, getD}
 use Rattle.lists.specs.Lists.{tabulate}
 use Rattle.modes.specs.Modes.{builtRun, builtOscillator}
 use Rattle.built_codes.specs.BuiltCodes.{builtFunction, builtMode}
-use Rattle.layout.specs.Layout.{generatorWords, GMODE, modifierAt, modifierWords, MIN, MRM, MMODE, dxAt, tAt, nAt, counterAt, lingeringAt, lingerPassAt, overrunAt, delayAt, delayWords, delayP}
+use Rattle.layout.specs.Layout.{generatorWords, GMODE, modifierAt, modifierWords, MIN, MRM, MMODE, dxAt, tAt, nAt, counterAt, lingeringAt, lingerPassAt, overrunAt, delayAt, delayWords, delayP, updateTicksAt}
+use Rattle.layout.specs.Machine.{updateTicksOf}
 use Rattle.layout.specs.Widths.{wordBits, counterBits, lingerBits}
 use Rattle.machine_sweep.specs.Columns.{everyWord, swept}
 use Rattle.machine.specs.Questions.{Register, width, bits, between, generatorRegisters, modifierRegisters, delayRegisters}
@@ -57,3 +58,7 @@ controlsWithin m =
 unfoldable pub delaysWithin : List ℕ → Bool
 delaysWithin m =
     swept (repeated (limitsOf delayRegisters) 28) m (delayAt 0) 1 && everyWord delayField m (delayAt 0 + delayP) delayWords 0 32
+
+-- The update ticks are those of T and N.
+abbrev pub ticksCounted : List ℕ → Bool
+ticksCounted m = eqb (getD m updateTicksAt 0) (updateTicksOf m)

@@ -4,7 +4,7 @@ ghost use mathlib.Core.List.{[], _∷_};
 ghost use lib.ListN.{length};
 ghost use Rattle.layout.specs.Machine.{Reaches};
 ghost use Rattle.machine.specs.Questions.{question1, question2, sound, goodAddress, generatorRegisters, modifierRegisters, delayRegisters, freshAnswer, freshRun};
-ghost use Rattle.machine.specs.Loops.{limitsOf, repeated, generatorsWithin, modifiersWithin, controlsWithin, delaysWithin};
+ghost use Rattle.machine.specs.Loops.{limitsOf, repeated, generatorsWithin, modifiersWithin, controlsWithin, delaysWithin, ticksCounted};
 ghost use Rattle.questions.specs.Questions.{asked};
 ghost use Rattle.lists.specs.Lists.{zeros};
 
@@ -201,7 +201,18 @@ fn delays_within(m: &[u32]) -> bool
         & machine_sweep::fields_flagged(&built, m, at + layout::DELAY_P, step, n, 0)
 }
 
-// Question 2: all words within their width and range, with built modes and no MIN or MRM top bits 11.
+// The update ticks are those of T and N.
+fn ticks_counted(m: &[u32]) -> bool
+    requires { ⌜ Reaches (now m) ⌝ }
+    ensures { λ r. ⌜ r ≡ ticksCounted (now (m .entry)) ⌝ }
+{
+    let count = m[layout::UPDATE_TICKS_AT];
+    let t = m[layout::T_AT];
+    let n = m[layout::N_AT];
+    count == layout::update_ticks(t, n)
+}
+
+// Question 2: all words within their width and range, with built modes and no MIN or MRM top bits 11, and the update ticks those of T and N.
 pub fn sound(m: &[u32]) -> bool
     requires { ⌜ Reaches (now m) ⌝ }
     ensures { λ r. ⌜ r ≡ sound (now (m .entry)) ⌝ }
@@ -214,7 +225,13 @@ pub fn sound(m: &[u32]) -> bool
         layout::WORD_LIMIT,
     );
     let dacs = machine_sweep::words_below(m, layout::DACS_AT, 1, layout::DACS, layout::WORD_LIMIT);
-    generators_within(m) & modifiers_within(m) & sums & dacs & controls_within(m) & delays_within(m)
+    generators_within(m)
+        & modifiers_within(m)
+        & sums
+        & dacs
+        & controls_within(m)
+        & delays_within(m)
+        & ticks_counted(m)
 }
 
 // The number of the first of questions 1 and 2 that is answered no, or 0.
@@ -241,7 +258,7 @@ fn clear(m: &mut [u32])
     }
 }
 
-// A fresh machine: zero but for T = 1 and N = 265. A run of another length is left as it is, and question 1's number given.
+// A fresh machine: zero but for T = 1, N = 265 and the update ticks, 256. A run of another length is left as it is, and question 1's number given.
 pub fn fresh(m: &mut [u32]) -> u32
     ensures { λ r. ⌜ r ≡ freshAnswer (now (m .entry)) ⌝ }
     ensures { λ _. ⌜ now (m .exit) ≡ freshRun (now (m .entry)) ⌝ }
@@ -253,5 +270,6 @@ pub fn fresh(m: &mut [u32]) -> u32
     clear(m);
     m[layout::T_AT] = 1;
     m[layout::N_AT] = 265;
+    m[layout::UPDATE_TICKS_AT] = 256;
     0
 }

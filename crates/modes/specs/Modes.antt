@@ -47,9 +47,9 @@ builtRuns = inactive ∷ pause ∷ runningA ∷ runningB ∷ runningC ∷ wait �
 unfoldable pub builtRun : ℕ → Bool
 builtRun r = isOneOf r builtRuns
 
--- The built oscillator modes.
+-- The built oscillator modes: document 01's, and 0100, the sum of cosines (document 02, Q-4).
 abbrev pub builtOscillators : List ℕ
-builtOscillators = 0b0000 ∷ 0b0001 ∷ 0b0010 ∷ 0b0011 ∷ 0b1000 ∷ []
+builtOscillators = 0b0000 ∷ 0b0001 ∷ 0b0010 ∷ 0b0011 ∷ 0b0100 ∷ 0b1000 ∷ []
 
 -- Whether an oscillator mode is built.
 unfoldable pub builtOscillator : ℕ → Bool

@@ -56,7 +56,7 @@ const SWITCHES: Rows = [
 pub const BUILT_RUN: u32 = 0b1110_0010_1000_1111;
 
 // The built oscillator modes, in the same way.
-pub const BUILT_OSCILLATOR: u32 = 0b0000_0001_0000_1111;
+pub const BUILT_OSCILLATOR: u32 = 0b0000_0001_0001_1111;
 
 // The switches' table, which a caller copies once and hands to `switches_of`.
 pub fn table() -> Rows

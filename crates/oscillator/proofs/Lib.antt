@@ -1,1 +1,2 @@
 pub mod Waves
+pub mod Cosines

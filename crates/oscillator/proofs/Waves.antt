@@ -5,11 +5,13 @@ use mathlib.Core.Bool.{Bool, true, false, cond}
 use Prim.Native.Nat.{ℕ, suc, _-_, _/_, _%_, _^_, _<_, _≤_}
 use native.Mathlib.Nat.{div-le-self}
 use native.Mathlib.Omega.{arith}
-use lib.Dec.{eqb, leb}
+use lib.Dec.{eqb, ltb}
 use lib.IntN.{ℤ, pos, negsuc, negℤ}
-use borrow.Author.Tests.{lt-ltb, le-ltb, leb-true, leb-false, eqb-true, eqb-false}
-use Rattle.words.specs.Words.{signed}
-use Rattle.sine.specs.Sine.{magnitude}
+use lib.Signed.{nonNeg}
+use borrow.Author.Tests.{lt-ltb, le-ltb, ltb-true, ltb-false, eq-eqb, ne-eqb, eqb-true, eqb-false}
+use Rattle.words.specs.Words.{signed, valueOf}
+use Rattle.words.proofs.Residues.{either-low}
+use Rattle.sine.specs.Sine.{magnitude, negative, signOf}
 use Rattle.sine.proofs.Quarter.{magnitude-low}
 use Rattle.oscillator.specs.Oscillator.{sawtooth, square}
 
@@ -43,13 +45,26 @@ module _ (k : ℕ) (h : k < 2 ^ 13) where
       whole : 8192 - k ≡ suc (8192 - suc k)
       whole = omega arith
 
-  pub square-by : cond (leb 4096 k) (negℤ (pos 2048)) (pos 2048) ≡ square (signed 13 k)
+  pub square-by : cond (eqb (k / 4096) 0) (pos 2048) (negℤ (pos 2048)) ≡ square (signed 13 k)
   unfolding square signed
-  square-by = go (leb 4096 k) refl
+  square-by = go (ltb k 4096) refl
     where
-      go : (b : Bool) → leb 4096 k ≡ b → cond b (negℤ (pos 2048)) (pos 2048) ≡ square (signed 13 k)
-      go true e = simp (le-ltb k 4096 (leb-true 4096 k e))
-      go false e = simp (lt-ltb k 4096 (leb-false 4096 k e))
+      go : (b : Bool) → ltb k 4096 ≡ b → cond (eqb (k / 4096) 0) (pos 2048) (negℤ (pos 2048)) ≡ cond (nonNeg (cond b (pos k) (negsuc (8192 - suc k)))) (pos 2048) (negℤ (pos 2048))
+      go true e = rw (eq-eqb (k / 4096) 0 (omega (arith, ltb-true k 4096 e)))
+      go false e = rw (ne-eqb (k / 4096) 0 (λ z. omega (arith, ltb-false k 4096 e)))
+
+-- The sine's sign is 0 or 1, and with it a magnitude stands for the signed number.
+pub sign-bit : (k : ℕ) → signOf k < 2
+unfolding signOf
+sign-bit k = either-low (negative k) (omega arith) (omega arith)
+
+pub sign-value : (k n : ℕ) → valueOf (record { sign = signOf k; magnitude = n }) ≡ cond (negative k) (negℤ (pos n)) (pos n)
+unfolding valueOf signOf
+sign-value k n = go (negative k)
+  where
+    go : (b : Bool) → cond (eqb (cond b 1 0) 0) (pos n) (negℤ (pos n)) ≡ cond b (negℤ (pos n)) (pos n)
+    go true = refl
+    go false = refl
 
 -- A shifted sine has 12 bits.
 pub shifted-low : (k gm : ℕ) → magnitude k / 2 ^ gm < 2 ^ 12

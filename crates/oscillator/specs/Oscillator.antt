@@ -1,13 +1,13 @@
--- The wave W of a generator by its oscillator mode (document 01, "A generator", step 6).
+-- The wave W of a generator by its oscillator mode (document 01, "A generator", step 6; document 02, Q-4).
 -- Assumes nothing.
-use Prim.Native.Nat.{ℕ, _/_, _^_, _<_}
+use Prim.Native.Nat.{ℕ, _*_, _/_, _^_, _<_, min}
 use mathlib.Core.Bool.{Bool, cond}
 use mathlib.Core.Path.{_≡_}
 use lib.Dec.{eqb}
-use lib.IntN.{ℤ, pos, negsuc, negℤ}
+use lib.IntN.{ℤ, pos, negsuc, negℤ, natAbs, _*ℤ_}
 use lib.Signed.{nonNeg}
 use Rattle.words.specs.declared.SignMagnitude.{SignMagnitude}
-use Rattle.words.specs.Words.{signed, valueOf}
+use Rattle.words.specs.Words.{lowBits, signed, valueOf}
 use Rattle.sine.specs.Sine.{magnitude, negative}
 
 -- 0001: K, but 0 at -4,096. (`negsuc 4095` is -4,096.)
@@ -27,15 +27,37 @@ pulse left = cond left (pos 2048) (pos 0)
 unfoldable pub sineWave : ℕ → ℕ → ℤ
 sineWave k gm = cond (negative k) (negℤ (pos (magnitude k / 2 ^ gm))) (pos (magnitude k / 2 ^ gm))
 
--- W by the oscillator mode, of K as a word of 13 bits, GM, and whether a signed sum of the generator left its range.
-unfoldable pub waveOf : ℕ → ℕ → ℕ → Bool → ℤ
-waveOf mode k gm left =
+-- The sine at an unsigned index of 13 bits, before any shift.
+unfoldable pub sineAt : ℕ → ℤ
+sineAt i = cond (negative i) (negℤ (pos (magnitude i))) (pos (magnitude i))
+
+-- The low 12 bits of K times GN, K signed and GN unsigned.
+unfoldable pub multiple : ℕ → ℕ → ℕ
+multiple k gn = lowBits 12 (signed 13 k *ℤ pos gn)
+
+-- The whole part of 4,095 times |s| over (|d| times 2^GM), at most 4,095.
+unfoldable pub ratio : ℤ → ℤ → ℕ → ℕ
+ratio s d gm = min 4095 (4095 * natAbs s / (natAbs d * 2 ^ gm))
+
+-- 0100, the sum of cosines: s is the sine at index 2p, p the low 12 bits of K times GN, and d the sine at K, which is never 0 (the law `sine-not-zero`).
+-- The magnitude is the ratio of the two, the sign that of s times d.
+unfoldable pub sumOfCosines : ℕ → ℕ → ℕ → ℤ
+sumOfCosines k gn gm =
+    let s = sineAt (2 * multiple k gn) in
+    let d = sineAt k in
+    cond (nonNeg (s *ℤ d)) (pos (ratio s d gm)) (negℤ (pos (ratio s d gm)))
+
+-- W by the oscillator mode, of K as a word of 13 bits, GN, GM, and whether a signed sum of the generator left its range.
+unfoldable pub waveOf : ℕ → ℕ → ℕ → ℕ → Bool → ℤ
+waveOf mode k gn gm left =
     cond (eqb mode 0b0001) (sawtooth (signed 13 k))
     (cond (eqb mode 0b0010) (square (signed 13 k))
     (cond (eqb mode 0b0011) (pulse left)
-    (sineWave k gm)))
+    (cond (eqb mode 0b0100) (sumOfCosines k gn gm)
+    (sineWave k gm))))
 
--- A sign and magnitude r stands for the wave w, and its magnitude has 12 bits.
+-- A sign and magnitude r stands for the wave w; its sign is 0 or 1, and its magnitude has 12 bits.
 pub record Wave (w : ℤ) (r : SignMagnitude) : Type 0 where
   pub is : valueOf r ≡ w
+  pub bit : r .sign < 2
   pub low : r .magnitude < 2 ^ 12

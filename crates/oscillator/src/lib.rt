@@ -1,9 +1,9 @@
 // The wave of a generator: one function for each shape.
-ghost use Prim.Native.Nat.{_<_, _^_};
+ghost use Prim.Native.Nat.{_*_, _<_, _^_, min};
 ghost use mathlib.Core.Path.{_≡_};
 ghost use Rattle.words.specs.Words.{signed};
 ghost use Rattle.sine.specs.Sine.{quarter};
-ghost use Rattle.oscillator.specs.Oscillator.{sawtooth, square, pulse, sineWave, Wave};
+ghost use Rattle.oscillator.specs.Oscillator.{sawtooth, square, pulse, sineWave, multiple, sumOfCosines, Wave};
 use sine::Quarter;
 use words::SignMagnitude;
 
@@ -14,12 +14,12 @@ pub fn sawtooth(k: u32) -> SignMagnitude
 {
     if k < 4096 {
         return SignMagnitude {
-            negative: false,
+            sign: 0,
             magnitude: k,
         };
     }
     SignMagnitude {
-        negative: true,
+        sign: 1,
         magnitude: (8192 - k) % 4096,
     }
 }
@@ -30,7 +30,7 @@ pub fn square(k: u32) -> SignMagnitude
     ensures { λ r. ⌜ Wave (square (signed 13 k)) r ⌝ }
 {
     SignMagnitude {
-        negative: 4096 <= k,
+        sign: k / 4096,
         magnitude: 2048,
     }
 }
@@ -41,12 +41,12 @@ pub fn pulse(left: bool) -> SignMagnitude
 {
     if left {
         return SignMagnitude {
-            negative: false,
+            sign: 0,
             magnitude: 2048,
         };
     }
     SignMagnitude {
-        negative: false,
+        sign: 0,
         magnitude: 0,
     }
 }
@@ -60,7 +60,41 @@ pub fn sine_wave(table: &Quarter, k: u32, gm: u32) -> SignMagnitude
     let whole = sine::magnitude(table, k);
     let magnitude = whole >> gm;
     SignMagnitude {
-        negative: sine::is_negative(k),
+        sign: sine::sign(k),
+        magnitude,
+    }
+}
+
+// Twice the low 12 bits of K times GN: the index of a sine. K read unsigned has the same low bits.
+fn multiple_index(k: u32, gn: u32) -> u32
+    requires { ⌜ (k < 2 ^ 13) × (gn < 2 ^ 11) ⌝ }
+    ensures { λ r. ⌜ r ≡ 2 * multiple k gn ⌝ }
+{
+    2 * (k * gn % 4096)
+}
+
+// A magnitude of at most 4,095.
+fn capped(x: u32) -> u32
+    ensures { λ r. ⌜ r ≡ min 4095 x ⌝ }
+{
+    if x < 4095 {
+        return x;
+    }
+    4095
+}
+
+// The sum of cosines: the sine at twice p over the sine at K shifted left GM places, p the low 12 bits of K times GN.
+pub fn sum_of_cosines(table: &Quarter, k: u32, gn: u32, gm: u32) -> SignMagnitude
+    requires { ⌜ now table ≡ quarter ⌝ }
+    requires { ⌜ (k < 2 ^ 13) × (gn < 2 ^ 11) × (gm < 2 ^ 4) ⌝ }
+    ensures { λ r. ⌜ Wave (sumOfCosines k gn gm) r ⌝ }
+{
+    let index = multiple_index(k, gn);
+    let above = 4095 * sine::magnitude(table, index);
+    let below = sine::magnitude(table, k) << gm;
+    let magnitude = capped(above / below);
+    SignMagnitude {
+        sign: (sine::sign(index) + sine::sign(k)) % 2,
         magnitude,
     }
 }

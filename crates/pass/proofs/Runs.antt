@@ -9,21 +9,23 @@ use Rattle.layout.specs.Widths.{counterBits}
 use Rattle.layout.specs.Machine.{Machine, Sums, ticksOf}
 use Rattle.sums.specs.Sums.{modifierThis, sumsOf, closed}
 use Rattle.pass_model.specs.Generators.{of1978, begun, Taken, takenBy}
+use Rattle.pass_model.specs.Clipped.{Marks, noMarks, markedBy}
 use Rattle.pass_model.specs.Modifiers.{Held, modifiedBy}
-use Rattle.pass_model.specs.Pass.{Call, counted, completed, generatorsTaken, finished, ran}
+use Rattle.pass_model.specs.Pass.{Call, counted, completed, generatorsTaken, generatorsClipped, finished, ran}
 
--- What the generators leave is t; after them come the modifiers, which leave h, the end of sum memory and the counter.
+-- What the generators leave is t, and the marks are theirs; after them come the modifiers, which leave h, the end of sum memory and the counter.
 module _ (m : Machine) (call : Call) (t : Taken) (n : ℕ) (s₀ : Sums) where
   abbrev before : Held
   before = record { words = t .words; memory = call .memory }
 
-  pub ran-by : {h : Held} {last done : Machine} {s : Sums} →
+  pub ran-by : {h : Held} {last done : Machine} {s : Sums} {clipped : Marks} →
       n ≡ ticksOf m → s₀ ≡ sumsOf m → t ≡ takenBy of1978 (call .items) (begun m s₀ (call .places)) (call .order) →
+      clipped ≡ markedBy of1978 (call .items) (begun m s₀ (call .places)) noMarks (call .order) →
       (h ≡ modifiedBy n before (t .sums) (n / 2) .held) × (s ≡ set (t .sums) modifierThis (modifiedBy n before (t .sums) (n / 2) .this)) →
       last ≡ closed (h .words) s → done ≡ counted last →
-      record { number = 0; read = t .reads; written = t .writes; machine = done; places = t .places; memory = h .memory } ≡ ran m call
-  unfolding ran generatorsTaken finished completed
-  ran-by en es et (em, eq) el ed = rw (← taken, ed, el, em, eq, en)
+      record { number = 0; read = t .reads; written = t .writes; clipped = clipped; machine = done; places = t .places; memory = h .memory } ≡ ran m call
+  unfolding ran generatorsTaken generatorsClipped finished completed
+  ran-by en es et ec (em, eq) el ed = rw (← taken, ed, el, em, eq, en, ec, es)
     where
       taken : t ≡ generatorsTaken m call
       taken = et ∙ rw es

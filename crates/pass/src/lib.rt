@@ -7,14 +7,15 @@ ghost use Rattle.exponential.specs.Exponential.{tableSize, entries};
 ghost use Rattle.pass_model.specs.Pass.{counted, ran, passRefusal, passOf};
 ghost use Rattle.pass_generators.specs.Loops.{Ready, Numbers};
 use exponential::Entries;
-use pass_generators::Items;
 use sine::Quarter;
+use sums::Clipped;
 
-// What a pass answers: the number of the refusing question or 0, and the items read and written.
+// What a pass answers: the number of the refusing question or 0, the items read and written, and a mark for each word of generator-this that left its range.
 pub struct Passed {
     pub number: u32,
     pub read: usize,
     pub written: usize,
+    pub clipped: Clipped,
 }
 
 // 1 is added to the counter.
@@ -35,20 +36,35 @@ pub fn run(
     memory: &mut [u32],
     sine: &Quarter,
     decay: &Entries,
-) -> Items
+) -> Passed
     requires { ⌜ Ready (now m) ⌝ }
     requires { ⌜ Numbers (now order) ⌝ }
     requires { ⌜ ticksOf (now m) ≤ 256 ⌝ }
     requires { ⌜ (now sine ≡ quarter) × (now decay ≡ entries tableSize) ⌝ }
-    ensures { λ r. ⌜ record { number = 0; read = r .reads; written = r .writes; machine = now (m .exit); places = now (places .exit); memory = now (memory .exit) } ≡ ran (now (m .entry)) (record { order = now (order .entry); items = now (items .entry); places = now (places .entry); memory = now (memory .entry) }) ⌝ }
+    ensures { λ r. ⌜ record { number = r .number; read = r .read; written = r .written; clipped = r .clipped; machine = now (m .exit); places = now (places .exit); memory = now (memory .exit) } ≡ ran (now (m .entry)) (record { order = now (order .entry); items = now (items .entry); places = now (places .entry); memory = now (memory .entry) }) ⌝ }
 {
     let t = layout::ticks(m);
     let mut s = sums::load(m);
-    let done = pass_generators::generators(m, &mut s, order, items, places, sine, decay);
+    let mut clipped = [0u8; layout::QUADRANT_WORDS];
+    let done = pass_generators::generators(
+        m,
+        &mut s,
+        &mut clipped,
+        order,
+        items,
+        places,
+        sine,
+        decay,
+    );
     pass_modifiers::modifiers(m, &mut s, memory, t, t / 2);
     sums::close(m, &s);
     count(m);
-    done
+    Passed {
+        number: 0,
+        read: done.reads,
+        written: done.writes,
+        clipped,
+    }
 }
 
 // The first question of a pass that is answered no, or 0.
@@ -84,22 +100,19 @@ pub fn pass(
     places: &mut [u32],
     memory: &mut [u32],
 ) -> Passed
-    ensures { λ r. ⌜ record { number = r .number; read = r .read; written = r .written; machine = now (m .exit); places = now (places .exit); memory = now (memory .exit) } ≡ passOf (now (m .entry)) (record { order = now (order .entry); items = now (items .entry); places = now (places .entry); memory = now (memory .entry) }) ⌝ }
+    ensures { λ r. ⌜ record { number = r .number; read = r .read; written = r .written; clipped = r .clipped; machine = now (m .exit); places = now (places .exit); memory = now (memory .exit) } ≡ passOf (now (m .entry)) (record { order = now (order .entry); items = now (items .entry); places = now (places .entry); memory = now (memory .entry) }) ⌝ }
 {
     let number = refusal(m, order, items, places, memory);
     if number != 0 {
+        let unmarked = [0u8; layout::QUADRANT_WORDS];
         return Passed {
             number,
             read: 0,
             written: 0,
+            clipped: unmarked,
         };
     }
     let sine = sine::table();
     let decay = exponential::table();
-    let done = run(m, order, items, places, memory, &sine, &decay);
-    Passed {
-        number: 0,
-        read: done.reads,
-        written: done.writes,
-    }
+    run(m, order, items, places, memory, &sine, &decay)
 }

@@ -13,6 +13,7 @@ use Rattle.layout.specs.Machine.{Order, Items}
 use Rattle.modes.specs.Modes.{replaces, writeData}
 use Rattle.generator.specs.Generator.{runMode}
 use Rattle.pass_model.specs.Generators.{of1978, generatorOf, turn1978, State, step, steps, takenBy}
+use Rattle.pass_model.specs.Clipped.{Marks, marked, markedBy}
 use Rattle.pass_generators.specs.Loops.{Ready}
 use Rattle.pass_generators.proofs.Readiness.{step-ready}
 
@@ -29,6 +30,17 @@ unfolding steps takenBy
 steps-end items order s₀ s i h e =
     let end : s ≡ steps of1978 items s₀ order = rw (drop-of-length-le order h) at e in
     rw end
+
+-- The marks likewise: those of what is left of the order.
+pub marks-on : (items : Items) (order : Order) (s : State) (marks : Marks) (i g : ℕ) {t : State} {after : Marks} → i < length order → g ≡ getD order i 0
+    → t ≡ step of1978 items s g → after ≡ marked of1978 items s marks g → markedBy of1978 items t after (drop (i + 1) order) ≡ markedBy of1978 items s marks (drop i order)
+unfolding markedBy
+marks-on items order s marks i g h eg e ea = rw (e, ea, eg, add-one, drop-cons order i 0 h)
+
+pub marks-end : (items : Items) (order : Order) (s₀ s : State) (marks₀ marks : Marks) (i : ℕ) → length order ≤ i
+    → markedBy of1978 items s marks (drop i order) ≡ markedBy of1978 items s₀ marks₀ order → marks ≡ markedBy of1978 items s₀ marks₀ order
+unfolding markedBy
+marks-end items order s₀ s marks₀ marks i h e = rw (drop-of-length-le order h) at e
 
 one-more : (b : Bool) (n : ℕ) → cond b (suc n) n ≤ n + 1
 one-more true n = omega arith

@@ -21,7 +21,8 @@ use Rattle.generator.specs.Generator.{runMode, stored, triggers, after, sounded
 use Rattle.generator.proofs.Turns.{rests, after-untold}
 use Rattle.pass_model.specs.Generators.{of1978, generatorOf, turn1978, State, told, fed, summed, step}
 use Rattle.pass_model.proofs.Turns.{waits-silent}
-use Rattle.pass_outputs.specs.Outputs.{heard, Sending, sent}
+use Rattle.pass_model.specs.Clipped.{Marks, sumLeaves, markedAt, marked}
+use Rattle.pass_outputs.specs.Outputs.{heard, heardLeaves, Sending, sent}
 use Rattle.pass_generators.specs.Loops.{WithinWidths, Sounding, sounded}
 use Rattle.pass_generators.proofs.Words.{put-same}
 
@@ -35,12 +36,12 @@ not-alone true x y = refl
 not-alone false x y = refl
 
 module _ (items : Items) (s : State) (g : ℕ) (u : Generator) (f : ℕ) (is-u : u ≡ generatorOf (s .words) g) (is-f : f ≡ fAt (s .sums) (u .gfm)) where
-  -- The envelope is on.
-  pub sounds-on : {v : Sounding} → envelopeOn (runMode u) ≡ true →
-      v ≡ sounded items (record { words = s .words; sums = s .sums; triggered = s .triggered; reads = s .reads }) g u f →
+  -- The envelope is on. The step, and its marks.
+  pub sounds-on : (marks : Marks) {v : Sounding} → envelopeOn (runMode u) ≡ true →
+      v ≡ sounded items (record { words = s .words; sums = s .sums; clipped = marks; triggered = s .triggered; reads = s .reads }) g u f →
       record { words = v .words; sums = v .sums; triggered = v .triggered; places = s .places; reads = v .reads; writes = s .writes } ≡ step of1978 items s g
   unfolding step turn1978 fed summed sounded heard envelopeOn isOneOf
-  sounds-on on e =
+  sounds-on marks on e =
       let r = runMode u in
       rw (
         e,
@@ -55,6 +56,12 @@ module _ (items : Items) (s : State) (g : ℕ) (u : Generator) (f : ℕ) (is-u :
         add-one,
       )
 
+  pub sounds-marked : (marks : Marks) {v : Sounding} → envelopeOn (runMode u) ≡ true →
+      v ≡ sounded items (record { words = s .words; sums = s .sums; clipped = marks; triggered = s .triggered; reads = s .reads }) g u f →
+      v .clipped ≡ marked of1978 items s marks g
+  unfolding marked turn1978 sumLeaves sounded heardLeaves
+  sounds-marked marks on e = rw (e, ← is-u, ← is-f, outputs (runMode u) on, not-first)
+
   -- The generator waits.
   pub waits-on : {words : Machine} → runMode u ≡ wait → words ≡ stored (s .words) (generatorAt g) (after u f (told (of1978 .distance) (s .triggered) g)) →
       record { words = words; sums = s .sums; triggered = s .triggered; places = s .places; reads = s .reads; writes = s .writes } ≡ step of1978 items s g
@@ -62,6 +69,12 @@ module _ (items : Items) (s : State) (g : ℕ) (u : Generator) (f : ℕ) (is-u :
   waits-on w e =
       let q = waits-silent (s .words) (s .sums) g (told (of1978 .distance) (s .triggered) g) (rw (← is-u) w) in
       rw (e, q .no-trigger, q .no-add, q .no-replace, q .no-feed, q .no-write, ← is-u, ← is-f)
+
+  pub waits-marked : (marks : Marks) → runMode u ≡ wait → marks ≡ marked of1978 items s marks g
+  unfolding marked markedAt sumLeaves
+  waits-marked marks w =
+      let q = waits-silent (s .words) (s .sums) g (told (of1978 .distance) (s .triggered) g) (rw (← is-u) w) in
+      rw (q .no-replace, q .no-add)
 
   -- Nothing is on.
   pub sends-on : {v : Sending} → WithinWidths (s .words) g → envelopeOn (runMode u) ≡ false → oscillatorOn (runMode u) ≡ false →
@@ -75,6 +88,12 @@ module _ (items : Items) (s : State) (g : ℕ) (u : Generator) (f : ℕ) (is-u :
       same : stored (s .words) (generatorAt g) u ≡ s .words
       same = rw is-u (put-same (s .words) g low)
 
+  pub sends-marked : (marks : Marks) → envelopeOn (runMode u) ≡ false → marks ≡ marked of1978 items s marks g
+  unfolding marked markedAt sumLeaves turn1978
+  sends-marked marks e =
+      let q = quiet (runMode u) e in
+      rw (← is-u, q .no-replace, q .no-add)
+
   -- Inactive or paused.
   pub step-idle : WithinWidths (s .words) g → runMode u < 2 → s ≡ step of1978 items s g
   unfolding sent
@@ -82,13 +101,18 @@ module _ (items : Items) (s : State) (g : ℕ) (u : Generator) (f : ℕ) (is-u :
       let i = idle (runMode u) h in
       sends-on low (i .no-envelope) (i .no-oscillator) (rw (i .no-DAC, i .no-write))
 
+  pub idle-marked : (marks : Marks) → runMode u < 2 → marks ≡ marked of1978 items s marks g
+  idle-marked marks h = sends-marked marks (idle (runMode u) h .no-envelope)
+
 -- What the code does for a generator whose envelope is on: x is what it brings.
 module _ (items : Items) (v : Sounding) (g : ℕ) (u : Generator) (f : ℕ) {on : Switches} {x : Sounded} where
-  pub sounds-by : {words triggered : List ℕ} {sums : Sums} {reads : ℕ} →
+  pub sounds-by : {words triggered : List ℕ} {sums : Sums} {clipped : Marks} {reads : ℕ} →
       on ≡ switchesOf (runMode u) → x ≡ soundedOf u f →
       words ≡ stored (v .words) (generatorAt g) (x .unit) →
       triggered ≡ cond (x .triggers) (set (v .triggered) g 1) (v .triggered) →
-      (sums ≡ heard (v .sums) (eqb (on .output) 1) (u .gsum) (x .p) (getD items (v .reads) 0)) × (reads ≡ cond (eqb (on .output) 1) (v .reads) (v .reads + 1)) →
-      record { words = words; sums = sums; triggered = triggered; reads = reads } ≡ sounded items v g u f
+      (sums ≡ heard (v .sums) (eqb (on .output) 1) (u .gsum) (x .p) (getD items (v .reads) 0))
+      × (clipped ≡ markedAt (v .clipped) (u .gsum) (heardLeaves (v .sums) (eqb (on .output) 1) (u .gsum) (x .p) (getD items (v .reads) 0)))
+      × (reads ≡ cond (eqb (on .output) 1) (v .reads) (v .reads + 1)) →
+      record { words = words; sums = sums; clipped = clipped; triggered = triggered; reads = reads } ≡ sounded items v g u f
   unfolding soundedOf sounded
-  sounds-by is ex ew et (es, er) = rw (ew, et, es, er, ex, is, adds-tells (runMode u))
+  sounds-by is ex ew et (es, em, er) = rw (ew, et, es, em, er, ex, is, adds-tells (runMode u))

@@ -10,7 +10,8 @@ use Rattle.layout.specs.Machine.{Machine, Order, Items, Sums, Reaches}
 use Rattle.modes.specs.Modes.{adds}
 use Rattle.generator.specs.declared.Generator.{Generator}
 use Rattle.generator.specs.Generator.{stored, runMode, pOf, triggers, after}
-use Rattle.pass_outputs.specs.Outputs.{heard}
+use Rattle.pass_model.specs.Clipped.{Marks, markedAt}
+use Rattle.pass_outputs.specs.Outputs.{heard, heardLeaves}
 
 -- The registers of generator g that a turn can change are within their widths.
 pub record WithinWidths (words : Machine) (g : ℕ) : Type 0 where
@@ -29,10 +30,11 @@ pub record Numbers (order : Order) : Type 0 where
   pub most : length order ≤ 256
   pub below : (i : ℕ) → i < length order → getD order i 0 < 256
 
--- What a generator whose envelope is on can change: the machine's words, sum memory, who has triggered, how many items were read.
+-- What a generator whose envelope is on can change: the machine's words, sum memory, the marks of its words, who has triggered, how many items were read.
 pub record Sounding : Type 0 where
   pub words : Machine
   pub sums : Sums
+  pub clipped : Marks
   pub triggered : List ℕ
   pub reads : ℕ
 
@@ -42,6 +44,7 @@ sounded items v g u f =
     record {
       words = stored (v .words) (generatorAt g) (after u f false);
       sums = heard (v .sums) (adds (runMode u)) (u .gsum) (pOf u f) (getD items (v .reads) 0);
+      clipped = markedAt (v .clipped) (u .gsum) (heardLeaves (v .sums) (adds (runMode u)) (u .gsum) (pOf u f) (getD items (v .reads) 0));
       triggered = cond (triggers u) (set (v .triggered) g 1) (v .triggered);
       reads = cond (adds (runMode u)) (v .reads) (v .reads + 1);
     }

@@ -9,6 +9,7 @@ ghost use Rattle.modes.specs.Modes.{rows, switchesOf, envelopeOn, wait};
 ghost use Rattle.layout.specs.Layout.{generatorAt};
 ghost use Rattle.generator.specs.Generator.{Ranged, stored, runMode, after};
 ghost use Rattle.pass_model.specs.Generators.{of1978, generatorOf, told, step, begun, takenBy};
+ghost use Rattle.pass_model.specs.Clipped.{marked, markedBy};
 ghost use Rattle.pass_generators.specs.Loops.{WithinWidths, Ready, Numbers, sounded};
 use exponential::Entries;
 use generator::Generator;
@@ -16,6 +17,7 @@ use modes::Rows;
 use modes::Switches;
 use pass_outputs::Triggered;
 use sine::Quarter;
+use sums::Clipped;
 use sums::Sums;
 
 // How many items were read and written.
@@ -48,6 +50,7 @@ fn put_generator_at(m: &mut [u32], g: usize, unit: Generator)
 fn play(
     m: &mut [u32],
     s: &mut Sums,
+    clipped: &mut Clipped,
     triggered: &mut Triggered,
     sine: &Quarter,
     decay: &Entries,
@@ -63,14 +66,14 @@ fn play(
     requires { ⌜ (now sine ≡ quarter) × (now decay ≡ entries tableSize) ⌝ }
     requires { ⌜ (on ≡ switchesOf (runMode unit)) × (envelopeOn (runMode unit) ≡ true) ⌝ }
     requires { ⌜ (f < 2 ^ 20) × (g < 256) × (reads < 256) ⌝ }
-    ensures { λ r. ⌜ record { words = now (m .exit); sums = now (s .exit); triggered = now (triggered .exit); reads = r } ≡ sounded (now (items .entry)) (record { words = now (m .entry); sums = now (s .entry); triggered = now (triggered .entry); reads = reads }) g unit f ⌝ }
+    ensures { λ r. ⌜ record { words = now (m .exit); sums = now (s .exit); clipped = now (clipped .exit); triggered = now (triggered .exit); reads = r } ≡ sounded (now (items .entry)) (record { words = now (m .entry); sums = now (s .entry); clipped = now (clipped .entry); triggered = now (triggered .entry); reads = reads }) g unit f ⌝ }
 {
     let sounded = unit.play(sine, decay, on, f);
     let turned = sounded.unit;
     let p = sounded.p;
     put_generator_at(m, g, turned);
     pass_outputs::mark(triggered, g, sounded.triggers);
-    pass_outputs::hear(s, items, reads, on.output, unit.gsum, p)
+    pass_outputs::hear(s, clipped, items, reads, on.output, unit.gsum, p)
 }
 
 // A generator in 1001 is taken.
@@ -89,6 +92,7 @@ fn wait(m: &mut [u32], triggered: &Triggered, g: usize, unit: Generator, f: u32)
 fn step(
     m: &mut [u32],
     s: &mut Sums,
+    clipped: &mut Clipped,
     triggered: &mut Triggered,
     switches: &Rows,
     sine: &Quarter,
@@ -103,6 +107,7 @@ fn step(
     requires { ⌜ (now switches ≡ rows) × (now sine ≡ quarter) × (now decay ≡ entries tableSize) ⌝ }
     requires { ⌜ (g < 256) × (done .reads < 256) × (done .writes < 256) ⌝ }
     ensures { λ r. ⌜ record { words = now (m .exit); sums = now (s .exit); triggered = now (triggered .exit); places = now (places .exit); reads = r .reads; writes = r .writes } ≡ step of1978 (now (items .entry)) (record { words = now (m .entry); sums = now (s .entry); triggered = now (triggered .entry); places = now (places .entry); reads = done .reads; writes = done .writes }) g ⌝ }
+    ensures { λ _. ⌜ now (clipped .exit) ≡ marked of1978 (now (items .entry)) (record { words = now (m .entry); sums = now (s .entry); triggered = now (triggered .entry); places = now (places .entry); reads = done .reads; writes = done .writes }) (now (clipped .entry)) g ⌝ }
 {
     let unit = generator_at(m, g);
     if unit.gmode < 128 {
@@ -114,6 +119,7 @@ fn step(
         let reads = play(
             m,
             s,
+            clipped,
             triggered,
             sine,
             decay,
@@ -140,10 +146,11 @@ fn step(
     }
 }
 
-// The generators of an order are taken one after the other, from nothing triggered, read and written. The tables are handed on, so that a caller of many passes copies them once.
+// The generators of an order are taken one after the other, from nothing triggered, read and written; words that left their range are marked. The tables are handed on, so that a caller of many passes copies them once.
 pub fn generators(
     m: &mut [u32],
     s: &mut Sums,
+    clipped: &mut Clipped,
     order: &[u32],
     items: &[u32],
     places: &mut [u32],
@@ -154,6 +161,7 @@ pub fn generators(
     requires { ⌜ Numbers (now order) ⌝ }
     requires { ⌜ (now sine ≡ quarter) × (now decay ≡ entries tableSize) ⌝ }
     ensures { λ r. ⌜ record { words = now (m .exit); sums = now (s .exit); places = now (places .exit); reads = r .reads; writes = r .writes } ≡ takenBy of1978 (now (items .entry)) (begun (now (m .entry)) (now (s .entry)) (now (places .entry))) (now (order .entry)) ⌝ }
+    ensures { λ _. ⌜ now (clipped .exit) ≡ markedBy of1978 (now (items .entry)) (begun (now (m .entry)) (now (s .entry)) (now (places .entry))) (now (clipped .entry)) (now (order .entry)) ⌝ }
 {
     let switches = modes::table();
     let mut triggered = [0u8; layout::GENERATORS];
@@ -167,6 +175,7 @@ pub fn generators(
         let next = step(
             m,
             s,
+            clipped,
             &mut triggered,
             &switches,
             sine,

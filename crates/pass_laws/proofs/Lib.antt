@@ -10,4 +10,5 @@ pub mod PassModes
 pub mod PassSettings
 pub mod PassDelays
 pub mod PassCounts
+pub mod PassClipped
 pub mod PassesInSequence

@@ -10,7 +10,7 @@ use borrow.Author.Tests.{eqb-true, eqb-false, ne-eqb, ltb-true}
 use lib.Dec.{eqb, ltb, lit<, lit≤}
 use lib.ListN.{length, getD}
 use Rattle.lists.proofs.Below.{and-first}
-use Rattle.layout.specs.Layout.{generatorAt, modifierAt, dxAt, tAt, nAt, counterAt, lingeringAt, lingerPassAt, overrunAt, delayAt, delayX, delayY, delayZ, delayP, GN, GM, GP, GL, GSUM, GFM, GMODE, MIN, MRM, MSUM, MMODE}
+use Rattle.layout.specs.Layout.{generatorAt, modifierAt, dxAt, tAt, nAt, updateTicksAt, counterAt, lingeringAt, lingerPassAt, overrunAt, updateTicksAt, delayAt, delayX, delayY, delayZ, delayP, GN, GM, GP, GL, GSUM, GFM, GMODE, MIN, MRM, MSUM, MMODE}
 use Rattle.modes.specs.Modes.{wait, runningC, withRunMode}
 use Rattle.machine.specs.Questions.{sound}
 use Rattle.machine.proofs.SoundMachine.{reaches}
@@ -22,7 +22,7 @@ use Rattle.generator.specs.declared.Generator.{Generator}
 use Rattle.generator.specs.Generator.{runMode, triggers, gmodeAfter, after}
 use Rattle.pass_model.specs.Generators.{generatorOf, turn1978, of1978, State, told, step, steps, begun}
 use Rattle.pass_model.specs.Pass.{Call, Outcome, ran, passOf}
-use Rattle.pass_model.proofs.Delays.{OffUnits, off-below, off-setting}
+use Rattle.pass_model.proofs.Delays.{OffUnits, off-below, off-past, off-setting}
 use Rattle.pass_model.proofs.Modifiers.{Elsewhere}
 use Rattle.pass_laws.specs.Settings.{SettingsKept}
 use Rattle.pass_laws.proofs.Frames.{broughtAt, setting, apart-other, step-length, step-below, steps-keep, steps-middle, steps-beyond, steps-setting, steps-quadrants}
@@ -129,6 +129,7 @@ same-settings m =
       dx = refl;
       t = refl;
       n = refl;
+      updateTicks = refl;
       lingering = refl;
       lingerPass = refl;
       overrun = refl;
@@ -219,6 +220,7 @@ module _ (m : Machine) (call : Call) (p : Admitted m (call .order)) where
         dx = control-word dxAt (lit≤ tt) (lit< tt) (eqb-false dxAt counterAt refl);
         t = control-word tAt (lit≤ tt) (lit< tt) (eqb-false tAt counterAt refl);
         n = control-word nAt (lit≤ tt) (lit< tt) (eqb-false nAt counterAt refl);
+        updateTicks = beyond-word updateTicksAt (lit≤ tt) (off-past updateTicksAt (lit≤ tt)) (eqb-false updateTicksAt counterAt refl);
         lingering = control-word lingeringAt (lit≤ tt) (lit< tt) (eqb-false lingeringAt counterAt refl);
         lingerPass = control-word lingerPassAt (lit≤ tt) (lit< tt) (eqb-false lingerPassAt counterAt refl);
         overrun = control-word overrunAt (lit≤ tt) (lit< tt) (eqb-false overrunAt counterAt refl);

@@ -5,7 +5,7 @@ use mathlib.Core.Path.{_≡_}
 use Prim.Native.Nat.{ℕ, _+_, _%_, _^_, _<_}
 use lib.Dec.{eqb}
 use lib.ListN.{getD}
-use Rattle.layout.specs.Layout.{generatorAt, modifierAt, dxAt, tAt, nAt, lingeringAt, lingerPassAt, overrunAt, delayAt, delayX, delayZ, delayP, GN, GM, GP, GL, GSUM, GFM, GMODE, MIN, MRM, MSUM, MMODE}
+use Rattle.layout.specs.Layout.{generatorAt, modifierAt, dxAt, tAt, nAt, lingeringAt, lingerPassAt, overrunAt, updateTicksAt, delayAt, delayX, delayZ, delayP, GN, GM, GP, GL, GSUM, GFM, GMODE, MIN, MRM, MSUM, MMODE}
 use Rattle.layout.specs.Machine.{Machine, runModeAt}
 use Rattle.modes.specs.Modes.{wait, runningC}
 
@@ -44,6 +44,7 @@ pub record SettingsKept (m r : Machine) : Type 0 where
   pub dx : getD r dxAt 0 ≡ getD m dxAt 0
   pub t : getD r tAt 0 ≡ getD m tAt 0
   pub n : getD r nAt 0 ≡ getD m nAt 0
+  pub updateTicks : getD r updateTicksAt 0 ≡ getD m updateTicksAt 0
   pub lingering : getD r lingeringAt 0 ≡ getD m lingeringAt 0
   pub lingerPass : getD r lingerPassAt 0 ≡ getD m lingerPassAt 0
   pub overrun : getD r overrunAt 0 ≡ getD m overrunAt 0

@@ -31,6 +31,10 @@ pub record OffUnits (i : ℕ) : Type 0 where
 pub off-below : (i : ℕ) → i < delayAt 0 → OffUnits i
 off-below i h = record { y = λ u l e. omega arith; way = λ u j l k e. omega arith }
 
+-- A place past the last unit.
+pub off-past : (i : ℕ) → delayAt 32 ≤ i → OffUnits i
+off-past i h = record { y = λ u l e. omega arith; way = λ u j l k e. omega arith }
+
 -- X, Z and P of a unit.
 pub off-setting : (u j : ℕ) → u < 32 → j < 4 → j ≢ delayY → OffUnits (delayAt u + j)
 off-setting u j h l n = record { y = λ v k e. omega (arith, n); way = λ v i k b e. omega arith }

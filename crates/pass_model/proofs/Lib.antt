@@ -5,3 +5,4 @@ pub mod Delays
 pub mod Modifiers
 pub mod Asked
 pub mod Turns
+pub mod Clipped

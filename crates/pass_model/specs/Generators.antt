@@ -85,10 +85,14 @@ summed s b item =
     (cond (b .adds) (putSum s (b .word) (sum 20 (sumAt s (b .word)) (b .p)))
     s)
 
+-- What generator g brings, taken from a state.
+abbrev pub broughtBy : Generators → State → ℕ → Brought
+broughtBy of s g = of .turn (s .words) (s .sums) g (told (of .distance) (s .triggered) g)
+
 -- Generator g is taken. It reads the next of some items.
 unfoldable pub step : Generators → Items → State → ℕ → State
 step of items s g =
-    let b = of .turn (s .words) (s .sums) g (told (of .distance) (s .triggered) g) in
+    let b = broughtBy of s g in
     record {
       words = fed (stored (s .words) (generatorAt g) (b .unit)) b;
       sums = summed (s .sums) b (getD items (s .reads) 0);

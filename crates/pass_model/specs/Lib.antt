@@ -1,3 +1,4 @@
 pub mod Generators
+pub mod Clipped
 pub mod Modifiers
 pub mod Pass

@@ -1,4 +1,4 @@
--- A pass by an order of the generators (document 01, "A pass, and two orders of it" and "Questions at the door"; document 02, Q-1).
+-- A pass by an order of the generators (document 01, "A pass, and two orders of it" and "Questions at the door"; document 02, Q-1 and Q-6).
 -- Assumes nothing.
 use Prim.Native.Nat.{ℕ, _+_, _/_, _%_, _^_}
 use mathlib.Core.Bool.{cond}
@@ -15,6 +15,7 @@ use Rattle.order.specs.Order.{question5, question6, question7, question8}
 use Rattle.delay_questions.specs.Questions.{question10, question11, question12}
 use Rattle.sums.specs.Sums.{modifierThis, sumsOf, closed}
 use Rattle.pass_model.specs.Generators.{Generators, of1978, begun, Taken, takenBy}
+use Rattle.pass_model.specs.Clipped.{Marks, noMarks, markedBy}
 use Rattle.pass_model.specs.Modifiers.{Held, modifiedBy}
 
 -- What a pass is called with, beside the machine: an order, items to read, places for written items, and delay memory.
@@ -32,11 +33,13 @@ by order call = record { order = order; items = call .items; places = call .plac
 abbrev pub plainCall : Order → Items → Places → Call
 plainCall order items places = record { order = order; items = items; places = places; memory = zeros memoryWords }
 
--- What a pass answers and leaves: the number of the refusing question or 0, the items read and written, the machine, the written places and delay memory.
+-- What a pass answers and leaves: the number of the refusing question or 0, the items read and written, a mark for each generator-this word that left its range,
+-- the machine, the written places and delay memory.
 pub record Outcome : Type 0 where
   pub number : ℕ
   pub read : ℕ
   pub written : ℕ
+  pub clipped : Marks
   pub machine : Machine
   pub places : Places
   pub memory : Memory
@@ -55,19 +58,31 @@ completed t h s =
 unfoldable pub generatorsTaken : Machine → Call → Taken
 generatorsTaken m call = takenBy of1978 (call .items) (begun m (sumsOf m) (call .places)) (call .order)
 
--- What follows: the modifiers, by T as the pass began, on the delay memory that the call brought, and the end of the pass.
+-- The marks that they set, none being set at first.
+unfoldable pub generatorsClipped : Machine → Call → Marks
+generatorsClipped m call = markedBy of1978 (call .items) (begun m (sumsOf m) (call .places)) noMarks (call .order)
+
+-- What follows: the modifiers, by T as the pass began, on the delay memory that the call brought, and the end of the pass. No step of it sets a mark.
 unfoldable pub finished : Machine → Call → Taken → Outcome
 finished m call t =
     let h = completed (ticksOf m) (record { words = t .words; memory = call .memory }) (t .sums) in
-    record { number = 0; read = t .reads; written = t .writes; machine = h .words; places = t .places; memory = h .memory }
+    record {
+      number = 0;
+      read = t .reads;
+      written = t .writes;
+      clipped = generatorsClipped m call;
+      machine = h .words;
+      places = t .places;
+      memory = h .memory;
+    }
 
 -- A pass that all questions let through.
 unfoldable pub ran : Machine → Call → Outcome
 ran m call = finished m call (generatorsTaken m call)
 
--- A refused pass answers the number and leaves all as it was.
+-- A refused pass answers the number, sets no mark and leaves all as it was.
 unfoldable pub refused : ℕ → Machine → Call → Outcome
-refused n m call = record { number = n; read = 0; written = 0; machine = m; places = call .places; memory = call .memory }
+refused n m call = record { number = n; read = 0; written = 0; clipped = noMarks; machine = m; places = call .places; memory = call .memory }
 
 -- The questions of a pass, in sequence.
 unfoldable pub passRefusal : Machine → Call → ℕ

@@ -4,7 +4,7 @@ use Prim.Native.Nat.{ℕ, suc, _%_, _^_}
 use mathlib.Core.Bool.{Bool, cond}
 use lib.Dec.{eqb}
 use lib.ListN.{set}
-use Rattle.words.specs.Words.{sum}
+use Rattle.words.specs.Words.{sum, leaves}
 use Rattle.layout.specs.Layout.{dacAt}
 use Rattle.layout.specs.Machine.{Machine, Places, Sums}
 use Rattle.modes.specs.Modes.{writeData, writeDAC}
@@ -15,6 +15,10 @@ use Rattle.generator.specs.Generator.{runMode}
 -- What is heard in sum memory: P is added, or replaces the word together with a read item.
 unfoldable pub heard : Sums → Bool → ℕ → ℕ → ℕ → Sums
 heard s adding gsum p item = cond adding (putSum s gsum (sum 20 (sumAt s gsum) p)) (putSum s gsum (sum 20 p (item % 2 ^ 20)))
+
+-- Whether the signed sum that is heard leaves its range.
+unfoldable pub heardLeaves : Sums → Bool → ℕ → ℕ → ℕ → Bool
+heardLeaves s adding gsum p item = cond adding (leaves 20 (sumAt s gsum) p) (leaves 20 p (item % 2 ^ 20))
 
 -- What a generator with nothing on can change: the machine's words, the places for written items, how many were written.
 pub record Sending : Type 0 where

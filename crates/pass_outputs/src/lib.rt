@@ -1,4 +1,4 @@
-// What a generator's turn brings beside its registers: P in sum memory, items read and written, a DAC, a trigger.
+// What a generator's turn brings beside its registers: P in sum memory, whether the sum left its range, items read and written, a DAC, a trigger.
 ghost use mathlib.Core.Path.{_≡_};
 ghost use mathlib.Core.Bool.{cond};
 ghost use lib.Dec.{eqb};
@@ -6,8 +6,10 @@ ghost use Prim.Native.Nat.{_+_, _<_, _^_};
 ghost use lib.ListN.{getD, set};
 ghost use Rattle.layout.specs.Machine.{Reaches};
 ghost use Rattle.pass_model.specs.Generators.{of1978, told};
-ghost use Rattle.pass_outputs.specs.Outputs.{heard, sent};
+ghost use Rattle.pass_model.specs.Clipped.{markedAt};
+ghost use Rattle.pass_outputs.specs.Outputs.{heard, heardLeaves, sent};
 use generator::Generator;
+use sums::Clipped;
 use sums::Sums;
 
 // A 1 for each generator that was taken and triggered.
@@ -38,17 +40,40 @@ pub fn mark(triggered: &mut Triggered, g: usize, triggers: bool)
     }
 }
 
-// P goes into sum memory: where the output is 1 it is added, else it replaces a word together with the next read item.
-pub fn hear(s: &mut Sums, items: &[u32], reads: usize, output: u8, gsum: u32, p: u32) -> usize
-    requires { ⌜ (gsum < 2 ^ 6) × (p < 2 ^ 20) × (reads < 256) ⌝ }
-    ensures { λ r. ⌜ (now (s .exit) ≡ heard (now (s .entry)) (eqb output 1) gsum p (getD (now (items .entry)) reads 0)) × (r ≡ cond (eqb output 1) reads (reads + 1)) ⌝ }
+// The mark of a word after a sum in it: set where the sum left its range, else as it was.
+fn mark_after(mark: u8, left: bool) -> u8
+    ensures { λ r. ⌜ r ≡ cond left 1 mark ⌝ }
 {
+    if left {
+        return 1;
+    }
+    mark
+}
+
+// P goes into sum memory: where the output is 1 it is added, else it replaces a word together with the next read item. The word is marked where the signed sum left its range.
+pub fn hear(
+    s: &mut Sums,
+    clipped: &mut Clipped,
+    items: &[u32],
+    reads: usize,
+    output: u8,
+    gsum: u32,
+    p: u32,
+) -> usize
+    requires { ⌜ (gsum < 2 ^ 6) × (p < 2 ^ 20) × (reads < 256) ⌝ }
+    ensures { λ r. ⌜ (now (s .exit) ≡ heard (now (s .entry)) (eqb output 1) gsum p (getD (now (items .entry)) reads 0)) × (now (clipped .exit) ≡ markedAt (now (clipped .entry)) gsum (heardLeaves (now (s .entry)) (eqb output 1) gsum p (getD (now (items .entry)) reads 0))) × (r ≡ cond (eqb output 1) reads (reads + 1)) ⌝ }
+{
+    let i = (gsum % 64) as usize;
+    let mark = clipped[i];
     if output == 1 {
-        sums::add(s, gsum, p);
+        let added = sums::add(s, gsum, p);
+        clipped[i] = mark_after(mark, added);
         return reads;
     }
     let item = guarded::word_at(items, reads) % layout::WORD_LIMIT;
     sums::replace(s, gsum, words::add20(p, item));
+    let replaced = words::leaves20(p, item);
+    clipped[i] = mark_after(mark, replaced);
     reads + 1
 }
 

@@ -1,2 +1,3 @@
 pub mod Quarter
 pub mod Exact
+pub mod Fold

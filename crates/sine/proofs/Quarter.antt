@@ -6,11 +6,13 @@ use mathlib.Core.List.{List}
 use Prim.Native.Nat.{ℕ, _-_, _/_, _%_, _<_, _≤_}
 use native.Mathlib.Nat.{min-le-left}
 use native.Mathlib.Omega.{arith}
-use lib.Dec.{T, eqb}
+use lib.Dec.{T, eqb, leb}
+use borrow.Author.Tests.{leb-true}
 use lib.ListN.{length, getD}
 use Rattle.lists.specs.Lists.{tabulate}
+use Rattle.lists.proofs.Tests.{below}
 use Rattle.lists.proofs.Tables.{every, agrees, tabulated-numbers, tabulate-at}
-use Rattle.sine.specs.Sine.{entry, quarter, indexOf, magnitude}
+use Rattle.sine.specs.Sine.{angle, firstThree, polynomial, entry, quarter, indexOf, magnitude}
 
 -- A table of 2,048 numbers that agree with the rule is the quarter sine.
 pub quarter-is : (xs : List ℕ) → length xs ≡ 2048 → T (every (agrees entry) 0 xs) → xs ≡ quarter
@@ -37,6 +39,15 @@ magnitude-at k = quarter-at (indexOf k) (index-below k)
 pub entry-low : (j : ℕ) → entry j ≤ 4095
 unfolding entry
 entry-low j = min-le-left 4095 _
+
+-- No entry is 0, and so the sine never is: one test over the 2,048 entries.
+entry-positive : (j : ℕ) → j < 2048 → leb 1 (entry j) ≡ true
+unfolding entry polynomial firstThree angle
+entry-positive j h = below (λ i. leb 1 (entry i)) 2048 tt j h
+
+pub magnitude-positive : (k : ℕ) → 0 < magnitude k
+unfolding magnitude
+magnitude-positive k = leb-true 1 (entry (indexOf k)) (entry-positive (indexOf k) (index-below k))
 
 pub magnitude-low : (k : ℕ) → magnitude k ≤ 4095
 unfolding magnitude

@@ -71,6 +71,10 @@ indexOf k = cond (eqb (k / 2048 % 2) 1) (2047 - k % 2048) (k % 2048)
 unfoldable pub negative : ℕ → Bool
 negative k = leb 2 (k / 2048)
 
+-- The sign of the sine of K as a number: 0, or 1 where it is negative.
+unfoldable pub signOf : ℕ → ℕ
+signOf k = cond (negative k) 1 0
+
 -- The magnitude of the sine of K.
 unfoldable pub magnitude : ℕ → ℕ
 magnitude k = entry (indexOf k)

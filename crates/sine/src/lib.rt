@@ -1,7 +1,7 @@
 // The sine of the high 13 bits of a word, from a constant quarter table.
 ghost use mathlib.Core.Path.{_≡_};
 ghost use Prim.Native.Nat.{_<_};
-ghost use Rattle.sine.specs.Sine.{quarter, indexOf, negative, magnitude};
+ghost use Rattle.sine.specs.Sine.{quarter, indexOf, signOf, magnitude};
 
 pub type Quarter = [u16; 2048];
 
@@ -2064,24 +2064,29 @@ pub fn table() -> Quarter
     SINE
 }
 
+// Of the quarter number the low bit says whether the quarter is read backwards, the high bit whether the sine is negative there.
+// Backwards, place j is 2,047 - j, which is j with its eleven bits inverted: an exclusive or with 2,047 times the low bit.
+//   quarter 0: place j,         sign 0
+//   quarter 1: place 2,047 - j, sign 0
+//   quarter 2: place j,         sign 1
+//   quarter 3: place 2,047 - j, sign 1
+
 // The place in the quarter table for K read unsigned, k.
 pub fn index(k: u32) -> usize
     requires { ⌜ k < 8192 ⌝ }
     ensures { λ r. ⌜ r ≡ indexOf k ⌝ }
 {
     let j = (k % 2048) as usize;
-    if k / 2048 % 2 == 1 {
-        return 2047 - j;
-    }
-    j
+    let backwards = (k / 2048 % 2) as usize;
+    j ^ (2047 * backwards)
 }
 
-// Whether the sine of k is negative.
-pub fn is_negative(k: u32) -> bool
+// The sign of the sine of k: 0, or 1 where it is negative.
+pub fn sign(k: u32) -> u32
     requires { ⌜ k < 8192 ⌝ }
-    ensures { λ r. ⌜ r ≡ negative k ⌝ }
+    ensures { λ r. ⌜ r ≡ signOf k ⌝ }
 {
-    2 <= k / 2048
+    k / 2048 / 2
 }
 
 // A table's number as a word.

@@ -12,7 +12,7 @@ use lib.Pow.{pow-pos}
 use lib.ListN.{length, getD, set, take, drop, length-set, length-drop}
 use lib.Seq.{length-take-le, getD-take, getD-drop, getD-set-other}
 use Rattle.layout.specs.Layout.{quadrantAt}
-use Rattle.words.specs.Words.{sum, Word}
+use Rattle.words.specs.Words.{sum, leaves, Word}
 use Rattle.sums.specs.Sums.{quadrantOf, sumsOf, wordAt, sumAt, putSum, fAt}
 use Rattle.layout.specs.Machine.{Reaches}
 
@@ -107,3 +107,8 @@ pub add-code : (s : List (List ℕ)) (g p : ℕ) {i w r : ℕ} → i ≡ g → w
     → set s 0 (set (getD s 0 []) i r) ≡ putSum s g (sum 20 (sumAt s g) p)
 unfolding sumAt
 add-code s g p ei ew er = put-code s g (sum 20 (sumAt s g) p) ei (er ∙ rw (ew, ei))
+
+-- Whether that sum leaves its range.
+pub leaves-code : (s : List (List ℕ)) (g p : ℕ) {i w : ℕ} {r : Bool} → i ≡ g → w ≡ wordAt (getD s 0 []) i → r ≡ leaves 20 w p → r ≡ leaves 20 (sumAt s g) p
+unfolding sumAt
+leaves-code s g p ei ew er = er ∙ rw (ew, ei)

@@ -5,13 +5,16 @@ ghost use Prim.Native.Nat.{_+_, _≤_, _<_, _^_};
 ghost use lib.ListN.{length, getD, take, drop};
 ghost use lib.Seq.{sets};
 ghost use Rattle.layout.specs.Machine.{Reaches};
-ghost use Rattle.words.specs.Words.{sum, Word};
+ghost use Rattle.words.specs.Words.{sum, leaves, Word};
 ghost use Rattle.sums.specs.Sums.{sumsOf, wordAt, sumAt, putSum, fAt, closed};
 
 // A quadrant, and sum memory: the quadrants by number.
 pub type Quadrant = [u32; layout::QUADRANT_WORDS];
 
 pub type Sums = [Quadrant; layout::QUADRANTS];
+
+// A mark for each word of generator-this: 1 where a signed sum in it left its range in a pass, else 0.
+pub type Clipped = [u8; layout::QUADRANT_WORDS];
 
 pub const GENERATOR_THIS: usize = 0;
 
@@ -49,14 +52,16 @@ pub fn f_at(s: &Sums, gfm: u32) -> u32
     quadrant_word(s, MODIFIER_LAST, i)
 }
 
-// P is added into generator-this word gsum.
-pub fn add(s: &mut Sums, gsum: u32, p: u32)
+// P is added into generator-this word gsum; the answer is whether the signed sum left its range.
+pub fn add(s: &mut Sums, gsum: u32, p: u32) -> bool
     requires { ⌜ (gsum < 2 ^ 6) × (p < 2 ^ 20) ⌝ }
-    ensures { λ r. ⌜ now (s .exit) ≡ putSum (now (s .entry)) gsum (sum 20 (sumAt (now (s .entry)) gsum) p) ⌝ }
+    ensures { λ r. ⌜ (now (s .exit) ≡ putSum (now (s .entry)) gsum (sum 20 (sumAt (now (s .entry)) gsum) p)) × (r ≡ leaves 20 (sumAt (now (s .entry)) gsum) p) ⌝ }
 {
     let i = (gsum % 64) as usize;
-    let sum = words::add20(quadrant_word(s, GENERATOR_THIS, i), p);
+    let word = quadrant_word(s, GENERATOR_THIS, i);
+    let sum = words::add20(word, p);
     s[GENERATOR_THIS][i] = sum;
+    words::leaves20(word, p)
 }
 
 // Generator-this word gsum is replaced.

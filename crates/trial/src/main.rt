@@ -20,13 +20,13 @@ fn flag(b: bool) -> u32 {
     if b { 1 } else { 0 }
 }
 
-// Whether the sine of k is negative, and its magnitude.
+// The sign of the sine of k, 1 where it is negative, and its magnitude.
 fn sine_of(x: &[u32; 16], sine: &Quarter) -> [u32; 16]
     requires { ⌜ now sine ≡ quarter ⌝ }
 {
     let k = x[1] % 8192;
     let mut r = [0u32; 16];
-    r[0] = flag(sine::is_negative(k));
+    r[0] = sine::sign(k);
     r[1] = sine::magnitude(sine, k);
     r
 }

@@ -8,12 +8,12 @@ use Prim.Native.Nat.{ℕ, zero, suc, _+_, _-_, _*_, _≤_}
 use native.Mathlib.Omega.{arith}
 use borrow.Author.Tests.{eq-eqb, ne-eqb}
 use lib.Dec.{eqb}
-use lib.ListN.{length, drop, take, set, length-drop}
+use lib.ListN.{length, getD, drop, take, set, length-drop}
 use Rattle.lists.proofs.Choices.{of-cond}
 use Rattle.lists.proofs.Parts.{part-from}
-use Rattle.layout.specs.Layout.{lingeringAt}
+use Rattle.layout.specs.Layout.{lingeringAt, updateTicksAt}
 use Rattle.machine.specs.Questions.{question1, question2}
-use Rattle.machine.proofs.SoundMachine.{reaches}
+use Rattle.machine.proofs.SoundMachine.{reaches, sound-ticks}
 use Rattle.command_built.specs.Built.{commandRefusal}
 use Rattle.command.specs.Command.{done, waits}
 use Rattle.update.specs.Update.{Outcome, outcome, mostCommands, stillLingering, takenBy, updateOf, takenCount, tailAt}
@@ -39,9 +39,13 @@ module _ (m cs : List ℕ) where
     unfolding updateOf
     update-takes s q = rw (eq-eqb (asked (question1 m ∷ question2 m ∷ [])) 0 e, s) q
 
-    pub update-ran : {most r n : ℕ} {l : List ℕ} → stillLingering m ≡ false → most ≡ mostCommands m →
+    -- The word of the update ticks has the most commands that are taken.
+    most-commands : getD m updateTicksAt 0 ≡ mostCommands m
+    most-commands = sound-ticks m (machine-passes m e .1)
+
+    pub update-ran : {most r n : ℕ} {l : List ℕ} → stillLingering m ≡ false → most ≡ getD m updateTicksAt 0 →
         (r ≤ length cs) × (outcome n l (drop r cs) ≡ takenBy most (set m lingeringAt 0) cs) → (r ≤ length cs) × (outcome n l (drop r cs) ≡ updateOf m cs)
-    update-ran s b (h, q) = (h, update-takes s (q ∙ ap (λ (k : ℕ). takenBy k (set m lingeringAt 0) cs) b))
+    update-ran s b (h, q) = (h, update-takes s (q ∙ ap (λ (k : ℕ). takenBy k (set m lingeringAt 0) cs) (b ∙ most-commands)))
 
 -- The part handed back is a tail of the commands.
 pub record Tail (cs left : List ℕ) : Type 0 where
@@ -107,6 +111,25 @@ none-taken P m cs e p q = go (eqb (asked (question1 m ∷ question2 m ∷ [])) 0
     go true true l = p
     go true false l = rw (stays (mostCommands m) (set m lingeringAt 0) cs l) q
     go false b l = p
+
+-- No more are taken than the most.
+taken-few : (k : ℕ) (m cs : List ℕ) → length cs ≤ length (takenBy k m cs .rest) + k
+unfolding takenBy
+taken-few zero m cs = omega arith
+taken-few (suc k) m [] = omega arith
+taken-few (suc k) m (c ∷ cs) =
+    of-cond (λ (o : Outcome). suc (length cs) ≤ length (o .rest) + suc k) (eqb (commandRefusal c) 0)
+    (of-cond (λ (o : Outcome). suc (length cs) ≤ length (o .rest) + suc k) (waits m c) (omega arith) (omega (arith, taken-few k (done m c) cs)))
+    (omega arith)
+
+pub at-most : (m cs : List ℕ) → takenCount m cs ≤ mostCommands m
+unfolding updateOf
+at-most m cs = omega (arith, few) where
+  few : length cs ≤ length (updateOf m cs .rest) + mostCommands m
+  few =
+      of-cond (λ (o : Outcome). length cs ≤ length (o .rest) + mostCommands m) (eqb (asked (question1 m ∷ question2 m ∷ [])) 0)
+      (of-cond (λ (o : Outcome). length cs ≤ length (o .rest) + mostCommands m) (stillLingering m) (omega arith) (taken-few (mostCommands m) (set m lingeringAt 0) cs))
+      (omega arith)
 
 -- What is left is the commands from the count on.
 taken-rest : (m cs : List ℕ) → drop (takenCount m cs) cs ≡ updateOf m cs .rest

@@ -5,8 +5,8 @@ use mathlib.Core.Bool.{Bool, cond, not, _&&_}
 use mathlib.Core.List.{[], _∷_}
 use lib.Dec.{eqb}
 use lib.ListN.{length, getD, set}
-use Rattle.layout.specs.Layout.{nAt, counterAt, lingeringAt, lingerPassAt}
-use Rattle.layout.specs.Machine.{Machine, Commands, ticksOf}
+use Rattle.layout.specs.Layout.{counterAt, lingeringAt, lingerPassAt}
+use Rattle.layout.specs.Machine.{Machine, Commands, updateTicksOf}
 use Rattle.questions.specs.Questions.{asked}
 use Rattle.machine.specs.Questions.{question1, question2}
 use Rattle.command_built.specs.Built.{commandRefusal}
@@ -21,9 +21,9 @@ pub record Outcome : Type 0 where
 abbrev pub outcome : ℕ → Machine → Commands → Outcome
 outcome number machine rest = record { number = number; machine = machine; rest = rest }
 
--- At most N-T-8 commands, none if that is negative.
+-- At most N-T-8 commands, none if that is negative: the update ticks of the machine's N and T.
 abbrev pub mostCommands : Machine → ℕ
-mostCommands m = getD m nAt 0 - ticksOf m - 8
+mostCommands m = updateTicksOf m
 
 -- Whether it is lingering and the counter isn't the Linger pass.
 unfoldable pub stillLingering : Machine → Bool

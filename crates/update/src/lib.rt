@@ -6,7 +6,7 @@ ghost use lib.ListN.{length, drop};
 ghost use Rattle.layout.specs.Machine.{Reaches};
 ghost use Rattle.questions.specs.Questions.{asked};
 ghost use Rattle.machine.specs.Questions.{question1, question2};
-ghost use Rattle.update.specs.Update.{outcome, mostCommands, stillLingering, takenBy, updateOf, takenCount, tailAt};
+ghost use Rattle.update.specs.Update.{outcome, stillLingering, takenBy, updateOf, takenCount, tailAt};
 
 // Whether it is lingering and the counter isn't the Linger pass.
 fn still_lingering(m: &[u32]) -> bool
@@ -17,19 +17,6 @@ fn still_lingering(m: &[u32]) -> bool
     let counter = m[layout::COUNTER_AT];
     let pass = m[layout::LINGER_PASS_AT];
     (lingering == 1) & (counter != pass)
-}
-
-// The most commands that an update takes, by N and T as it begins.
-fn most_commands(m: &[u32]) -> usize
-    requires { ⌜ Reaches (now m) ⌝ }
-    ensures { λ r. ⌜ r ≡ mostCommands (now (m .entry)) ⌝ }
-{
-    let n = m[layout::N_AT] as usize;
-    let busy = layout::ticks(m) + 8;
-    if n < busy {
-        return 0;
-    }
-    n - busy
 }
 
 // Takes at most so many commands and answers how many it took.
@@ -56,7 +43,7 @@ fn run(m: &mut [u32], commands: &[u32], most: usize, refused: &mut u32) -> usize
     i
 }
 
-// An update of a machine that passes questions 1 and 2. Answers how many commands it takes.
+// An update of a machine that passes questions 1 and 2, so that its word has the update ticks of its N and T. Answers how many commands it takes.
 pub fn take_commands(m: &mut [u32], commands: &[u32], refused: &mut u32) -> usize
     requires { ⌜ asked (question1 (now m) ∷ question2 (now m) ∷ []) ≡ 0 ⌝ }
     ensures { λ r. ⌜ (r ≤ length (now (commands .entry))) × (outcome (now (refused .exit)) (now (m .exit)) (drop r (now (commands .entry))) ≡ updateOf (now (m .entry)) (now (commands .entry))) ⌝ }
@@ -65,7 +52,7 @@ pub fn take_commands(m: &mut [u32], commands: &[u32], refused: &mut u32) -> usiz
         *refused = 0;
         return 0;
     }
-    let most = most_commands(m);
+    let most = layout::wide(m[layout::UPDATE_TICKS_AT]);
     m[layout::LINGERING_AT] = 0;
     run(m, commands, most, refused)
 }

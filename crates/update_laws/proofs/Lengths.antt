@@ -8,7 +8,7 @@ use lib.Dec.{eqb, ltb}
 use lib.ListN.{length, set, length-set}
 use Rattle.lists.proofs.Choices.{of-cond}
 use Rattle.layout.specs.Layout.{lingeringAt}
-use Rattle.layout.specs.Machine.{runModeAt}
+use Rattle.layout.specs.Machine.{runModeAt, withUpdateTicks}
 use Rattle.questions.specs.Questions.{asked}
 use Rattle.modes.specs.Modes.{pause, wait}
 use Rattle.machine.specs.Questions.{question1, question2}
@@ -115,8 +115,8 @@ module _ (n : ℕ) where
       (of-cond (Long n) (eqb (ttOf c) 0b11) (lingered-long _ (set-long m e _ _) _) e))
 
   ticks-long : (m : List ℕ) → Long n m → (c : ℕ) → Long n (ticksSet m c)
-  unfolding ticksSet
-  ticks-long m e c = of-cond (Long n) (flag 32 c) (set-long m e _ _) (set-long m e _ _)
+  unfolding ticksSet withUpdateTicks
+  ticks-long m e c = set-long _ (of-cond (Long n) (flag 32 c) (set-long m e _ _) (set-long m e _ _)) _ _
 
   -- A command.
   done-long : (m : List ℕ) → Long n m → (c : ℕ) → Long n (done m c)
@@ -127,6 +127,9 @@ module _ (n : ℕ) where
       (of-cond (Long n) (eqb (code5 c) 0b00010) (timed-long m e c)
       (of-cond (Long n) (eqb (code5 c) 0b00011) (ticks-long m e c)
       (of-cond (Long n) (ltb (code5 c) 0b11000) (generator-long m e c) (modifier-long m e c)))))
+
+pub done-length : (m : List ℕ) (c : ℕ) → length (done m c) ≡ length m
+done-length m c = done-long (length m) m (record { is = refl }) c .is
 
 pub command-length : (m : List ℕ) (c : ℕ) → length (afterCommand m c) ≡ length m
 unfolding afterCommand

@@ -10,20 +10,20 @@ use lib.Dec.{eqb, leb, ltb, lit<, lit≤}
 use Rattle.lists.specs.Lists.{isOneOf}
 use Rattle.lists.proofs.Below.{and-both}
 use Rattle.lists.proofs.Choices.{of-cond, of-test}
-use Rattle.layout.specs.Layout.{GMODE, dxAt, tAt, nAt, counterAt, lingeringAt, lingerPassAt, overrunAt}
-use Rattle.layout.specs.Machine.{gmodeAt, runModeAt}
+use Rattle.layout.specs.Layout.{GMODE, tAt, nAt, counterAt, lingeringAt, lingerPassAt, overrunAt}
+use Rattle.layout.specs.Machine.{Reaches, gmodeAt, runModeAt, withUpdateTicks}
 use Rattle.layout.specs.Widths.{gmodeBits, wordBits, counterBits, lingerBits}
 use Rattle.modes.specs.Modes.{builtRun, builtOscillator, pause, wait, runningA, withRunMode}
-use Rattle.machine.specs.Questions.{between, goodGmode, regions, sound}
+use Rattle.machine.specs.Questions.{between, goodGmode, regions, testAt, sound}
 use Rattle.machine.proofs.Words.{gmode-from}
-use Rattle.machine.proofs.SoundMachine.{sound-generator}
+use Rattle.machine.proofs.SoundMachine.{sound-generator, sound-with-ticks}
 use Rattle.command_fields.specs.Fields.{field, flag, dataOf, code5}
 use Rattle.command_misc.specs.Misc.{releasedOne, releasedBelow, released, miscellany}
 use Rattle.command_timer.specs.Timer.{counterSet, behind, waitsFor, lingered, ttOf, timed, ticksData, ticksSet}
 use Rattle.command_built.specs.Built.{commandRefusal}
 use Rattle.command.specs.Command.{done, afterCommand}
 use Rattle.update_laws.proofs.Accepted.{Accepted, accepted, ticks-accepted}
-use Rattle.update_laws.proofs.SoundLoads.{Sound, generator-keeps, control-keeps, delay-load-sound, generator-load-sound, modifier-load-sound}
+use Rattle.update_laws.proofs.SoundLoads.{Sound, generator-keeps, dx-keeps, later-keeps, delay-load-sound, generator-load-sound, modifier-load-sound}
 
 -- A generator that goes to 1111 has a good GMODE: its oscillator mode is kept.
 good-released : (m : List ℕ) → Sound m → (g : ℕ) → g < 256 → goodGmode (withRunMode runningA (gmodeAt m g)) ≡ true
@@ -48,21 +48,21 @@ released-sound r m e (suc n) h =
 miscellany-sound : (m : List ℕ) → Sound m → (c : ℕ) → Sound (miscellany m c)
 unfolding miscellany released regions
 miscellany-sound m e c =
-    let first = of-cond Sound (eqb (field 29 30 c) 0b01) (control-keeps dxAt (dataOf c) (lit≤ tt) (lit< tt) (lt-ltb (dataOf c) (2 ^ wordBits) (omega arith)) m e) e in
+    let first = of-cond Sound (eqb (field 29 30 c) 0b01) (dx-keeps (dataOf c) (lt-ltb (dataOf c) (2 ^ wordBits) (omega arith)) m e) e in
     let second = of-cond Sound (flag 33 c) (released-sound wait _ first 256 (omega arith)) first in
     of-cond Sound (flag 34 c) (released-sound pause _ second 256 (omega arith)) second
 
 -- TIMER.
 counter-sound : (m : List ℕ) → Sound m → (n : ℕ) → n < 2 ^ counterBits → Sound (counterSet m n)
 unfolding counterSet regions
-counter-sound m e n l = control-keeps counterAt n (lit≤ tt) (lit< tt) (lt-ltb n (2 ^ counterBits) l) m e
+counter-sound m e n l = later-keeps counterAt n (lit< tt) (lit< tt) (lt-ltb n (2 ^ counterBits) l) m e
 
 lingered-sound : (m : List ℕ) → Sound m → (n : ℕ) → n < 2 ^ lingerBits → Sound (lingered m n)
 unfolding lingered regions
 lingered-sound m e n l =
-    let waiting = control-keeps lingeringAt 1 (lit≤ tt) (lit< tt) refl m e in
-    of-cond Sound (waitsFor m n) (control-keeps lingerPassAt n (lit≤ tt) (lit< tt) (lt-ltb n (2 ^ lingerBits) l) _ waiting)
-    (of-cond Sound (eqb (behind m n) 0) e (control-keeps overrunAt 1 (lit≤ tt) (lit< tt) refl m e))
+    let waiting = later-keeps lingeringAt 1 (lit< tt) (lit< tt) refl m e in
+    of-cond Sound (waitsFor m n) (later-keeps lingerPassAt n (lit< tt) (lit< tt) (lt-ltb n (2 ^ lingerBits) l) _ waiting)
+    (of-cond Sound (eqb (behind m n) 0) e (later-keeps overrunAt 1 (lit< tt) (lit< tt) refl m e))
 
 timed-sound : (m : List ℕ) → Sound m → (c : ℕ) → Sound (timed m c)
 unfolding timed
@@ -76,24 +76,24 @@ timed-sound m e c =
 within : (a b x : ℕ) → a ≤ x → x ≤ b → between a b x ≡ true
 within a b x p q = and-both (leb a x) (leb x b) (le-leb a x p) (le-leb x b q)
 
-ticks-sound : (m : List ℕ) → Sound m → (c : ℕ) → Accepted c → eqb (code5 c) 0b00011 ≡ true → Sound (ticksSet m c)
-unfolding ticksSet regions
-ticks-sound m e c p t =
-    of-test Sound (flag 32 c)
-    (λ q. control-keeps nAt (ticksData c + 2) (lit≤ tt) (lit< tt) (within 2 1025 (ticksData c + 2) (omega arith) (omega arith)) m e)
-    (λ q. let l = ticks-accepted c p t q in control-keeps tAt (ticksData c + 1) (lit≤ tt) (lit< tt) (within 1 256 (ticksData c + 1) (omega arith) (omega arith)) m e)
+ticks-sound : (m : List ℕ) → Sound m → Reaches m → (c : ℕ) → Accepted c → eqb (code5 c) 0b00011 ≡ true → Sound (ticksSet m c)
+unfolding ticksSet regions testAt
+ticks-sound m e r c p t =
+    of-test (λ (l : List ℕ). Sound (withUpdateTicks l)) (flag 32 c)
+    (λ q. sound-with-ticks m e r nAt (ticksData c + 2) (lit< tt) (within 2 1025 (ticksData c + 2) (omega arith) (omega arith)))
+    (λ q. let l = ticks-accepted c p t q in sound-with-ticks m e r tAt (ticksData c + 1) (lit< tt) (within 1 256 (ticksData c + 1) (omega arith) (omega arith)))
 
 -- An accepted command, and any command in its turn.
-pub done-sound : (m : List ℕ) → Sound m → (c : ℕ) → commandRefusal c ≡ 0 → Sound (done m c)
+pub done-sound : (m : List ℕ) → Sound m → Reaches m → (c : ℕ) → commandRefusal c ≡ 0 → Sound (done m c)
 unfolding done
-done-sound m e c z =
+done-sound m e r c z =
     let p = accepted c z in
     of-cond Sound (eqb (code5 c) 0b00000) (miscellany-sound m e c)
     (of-test Sound (eqb (code5 c) 0b00001) (λ t. delay-load-sound c m e p t)
     (λ q. of-cond Sound (eqb (code5 c) 0b00010) (timed-sound m e c)
-    (of-test Sound (eqb (code5 c) 0b00011) (λ t. ticks-sound m e c p t)
+    (of-test Sound (eqb (code5 c) 0b00011) (λ t. ticks-sound m e r c p t)
     (λ q. of-cond Sound (ltb (code5 c) 0b11000) (generator-load-sound m e c p) (modifier-load-sound m e c p)))))
 
-pub command-sound : (m : List ℕ) (c : ℕ) → sound m ≡ true → sound (afterCommand m c) ≡ true
+pub command-sound : (m : List ℕ) (c : ℕ) → Reaches m → sound m ≡ true → sound (afterCommand m c) ≡ true
 unfolding afterCommand
-command-sound m c e = of-test Sound (eqb (commandRefusal c) 0) (λ t. done-sound m e c (eqb-true (commandRefusal c) 0 t)) (λ q. e)
+command-sound m c r e = of-test Sound (eqb (commandRefusal c) 0) (λ t. done-sound m e r c (eqb-true (commandRefusal c) 0 t)) (λ q. e)

@@ -12,12 +12,12 @@ use Rattle.words.specs.Words.{extended, signed}
 use Rattle.words.proofs.Residues.{low-lt}
 use Rattle.lists.proofs.Below.{and-second, and-both}
 use Rattle.lists.proofs.Choices.{of-cond, of-test}
-use Rattle.layout.specs.Layout.{machineLength, generatorAt, modifierAt, dxAt, delayAt, delayX, delayY, delayZ, delayP, GO, GJ, GK, GN, GM, GP, GQ, GL, GSUM, GFM, GMODE, M0, M1, L0, L1, MIN, MRM, MSUM, MMODE}
+use Rattle.layout.specs.Layout.{generatorAt, modifierAt, dxAt, nAt, delayAt, delayX, delayY, delayZ, delayP, GO, GJ, GK, GN, GM, GP, GQ, GL, GSUM, GFM, GMODE, M0, M1, L0, L1, MIN, MRM, MSUM, MMODE}
 use Rattle.layout.specs.Widths.{gjBits, gnBits, gmBits, gqBits, glBits, gsumBits, gfmBits, coefficientBits, msumBits, mmodeBits, wordBits, delayBits, delayModeBits}
 use Rattle.built_codes.specs.BuiltCodes.{builtFunction, builtMode}
 use Rattle.machine.specs.Questions.{bits, goodMmode, regions, testAt, sound}
 use Rattle.machine.proofs.Regions.{region, start, unit-test}
-use Rattle.machine.proofs.SoundMachine.{sound-set, sound-modifier, sound-controls}
+use Rattle.machine.proofs.SoundMachine.{Single, single-below, single-above, sound-set, sound-modifier, sound-controls}
 use Rattle.command_fields.specs.Fields.{field, flag, dataOf, code3, code4, code5, generatorNumber, modifierNumber}
 use Rattle.command_load.specs.Loads.{loadedUnless, clearedIf, loadedData, loadedRight, loadedLeft, loadedAdjusted, loadedTwo, loadedThenCleared}
 use Rattle.command_generator.specs.GeneratorLoads.{generatorWord, loadedGQ, loadedGJ, loadedGP, loadedGN, loadedGL, loadedGK, loadedGMODE, loadedGO, afterGeneratorLoad}
@@ -39,25 +39,32 @@ Passes k j v = getD (region regions k .tests) j (λ y. false) v ≡ true
 
 -- Word j of unit u of region k.
 unit-keeps : (k u j i v : ℕ) → u < region regions k .units → j < length (region regions k .tests)
-    → i ≡ start regions k + (length (region regions k .tests) * u + j) → i < machineLength → Passes k j v → Keeps i v
+    → i ≡ start regions k + (length (region regions k .tests) * u + j) → Single i → Passes k j v → Keeps i v
 unit-keeps k u j i v h l q n p m e = sound-set m e i v n (ap (λ (at : ℕ). testAt regions at v) q ∙ unit-test regions k u j v h l ∙ p)
 
--- A word of a generator, of a modifier, of the words from DX on, and of a delay unit.
+-- A word of a generator, of a modifier, DX, a word from the counter on, and of a delay unit.
 pub generator-keeps : (g j v : ℕ) → g < 256 → j < 11 → Passes 0 j v → Keeps (generatorAt g + j) v
 unfolding regions
-generator-keeps g j v h l p = unit-keeps 0 g j (generatorAt g + j) v h l (omega arith) (omega arith) p
+generator-keeps g j v h l p = unit-keeps 0 g j (generatorAt g + j) v h l (omega arith) (single-below (omega arith)) p
 
 modifier-keeps : (k j v : ℕ) → k < 128 → j < 8 → Passes 1 j v → Keeps (modifierAt k + j) v
 unfolding regions
-modifier-keeps k j v h l p = unit-keeps 1 k j (modifierAt k + j) v h l (omega arith) (omega arith) p
+modifier-keeps k j v h l p = unit-keeps 1 k j (modifierAt k + j) v h l (omega arith) (single-below (omega arith)) p
 
-pub control-keeps : (i v : ℕ) → dxAt ≤ i → i < delayAt 0 → Passes 4 (i - dxAt) v → Keeps i v
+control-keeps : (i v : ℕ) → dxAt ≤ i → i < delayAt 0 → Single i → Passes 4 (i - dxAt) v → Keeps i v
 unfolding regions
-control-keeps i v h l p = unit-keeps 4 0 (i - dxAt) i v (lit< tt) (omega arith) (omega arith) (omega arith) p
+control-keeps i v h l s p = unit-keeps 4 0 (i - dxAt) i v (lit< tt) (omega arith) (omega arith) s p
+
+pub dx-keeps : (v : ℕ) → Passes 4 0 v → Keeps dxAt v
+unfolding regions
+dx-keeps v p = control-keeps dxAt v (lit≤ tt) (lit< tt) (single-below (lit< tt)) p
+
+pub later-keeps : (i v : ℕ) → nAt < i → i < delayAt 0 → Passes 4 (i - dxAt) v → Keeps i v
+later-keeps i v h l p = control-keeps i v (omega arith) l (single-above h (omega arith)) p
 
 delay-keeps : (u j v : ℕ) → u < 32 → j < 7 → Passes 5 j v → Keeps (delayAt u + j) v
 unfolding regions
-delay-keeps u j v h l p = unit-keeps 5 u j (delayAt u + j) v h l (omega arith) (omega arith) p
+delay-keeps u j v h l p = unit-keeps 5 u j (delayAt u + j) v h l (omega arith) (single-above (omega arith) (omega arith)) p
 
 module _ (c : ℕ) where
   -- The addressed generator, the addressed modifier and the addressed delay unit.
@@ -91,7 +98,7 @@ module _ (c : ℕ) where
       → dataOf c * 2 ^ (w - wordBits) + getD m dxAt 0 / 2 ^ (40 - w) < 2 ^ w → Sound (loadedAdjusted m c i w)
   unfolding loadedAdjusted loadedLeft loadedRight extended regions
   adjusted-sound m e i w p l =
-      of-cond Sound (flag 27 c) (control-keeps dxAt 0 (lit≤ tt) (lit< tt) refl (set m i _) (p _ l m e)) (p _ (low-lt w (signed wordBits (dataOf c))) m e)
+      of-cond Sound (flag 27 c) (dx-keeps 0 refl (set m i _) (p _ l m e)) (p _ (low-lt w (signed wordBits (dataOf c))) m e)
 
   two-sound : (m : List ℕ) → Sound m → (i v j w : ℕ) → (flag 4 c ≡ false → Keeps i v) → (flag 5 c ≡ false → Keeps j w) → Sound (loadedTwo m c i v j w)
   unfolding loadedTwo

@@ -29,11 +29,11 @@ add-law (pos a) (negsuc b) = omega (arith, sub-law a (suc b))
 add-law (negsuc a) (pos b) = omega (arith, sub-law b (suc a))
 add-law (negsuc a) (negsuc b) = omega arith
 
-neg-up : (n : ℕ) → up (negℤ (pos n)) ≡ 0
+pub neg-up : (n : ℕ) → up (negℤ (pos n)) ≡ 0
 neg-up zero = refl
 neg-up (suc n) = refl
 
-neg-down : (n : ℕ) → down (negℤ (pos n)) ≡ n
+pub neg-down : (n : ℕ) → down (negℤ (pos n)) ≡ n
 neg-down zero = refl
 neg-down (suc n) = refl
 

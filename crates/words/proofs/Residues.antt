@@ -3,13 +3,13 @@
 use mathlib.Core.Path.{_≡_, refl, sym, ap, _∙_}
 use mathlib.Core.Bool.{Bool, true, false, cond}
 use Prim.Native.Nat.{ℕ, suc, _+_, _-_, _*_, _/_, _%_, _^_, _<_, _≤_}
-use native.Mathlib.Nat.{add-zero, mod-self, zero-mod, suc-mul, mod-add-mod, add-mod, mod-lt, mod-eq-of-lt, mod-add-div', add-mul-mod-self-right, le-mul-of-pos-right}
+use native.Mathlib.Nat.{zero-add, add-zero, add-mul, mul-comm, mul-assoc, mod-self, zero-mod, suc-mul, mod-add-mod, add-mod, mod-lt, mod-eq-of-lt, mod-add-div', add-mul-mod-self-right, le-mul-of-pos-right}
 use native.Mathlib.Omega.{arith}
 use lib.Dec.{ltb}
-use lib.Pow.{pow-pos, mod-mod-pow}
-use lib.IntN.{ℤ, pos, negsuc, _+ℤ_, _-ℤ_}
+use lib.Pow.{pow-pos, pow-add, mod-mod-pow}
+use lib.IntN.{ℤ, pos, negsuc, negℤ, _+ℤ_, _-ℤ_, _*ℤ_}
 use Rattle.words.specs.Words.{lowBits, signed, sum, extended, sumInto, exactSum}
-use Rattle.words.proofs.Differences.{up, down, add-law, Difference, is-difference}
+use Rattle.words.proofs.Differences.{up, down, neg-up, neg-down, add-law, Difference, is-difference}
 
 module _ (m : ℕ) (m-pos : 0 < m) where
   plus : (a b c d : ℕ) → a % m ≡ b % m → c % m ≡ d % m → (a + c) % m ≡ (b + d) % m
@@ -158,3 +158,29 @@ into-code u w a b {x} h p e =
     ap (λ (n : ℕ). n % 2 ^ u)
     (e ∙ ap (λ (n : ℕ). (a + n) % 2 ^ 32) p ∙ sym (low-plus 32 a (signed w b)))
     ∙ low-low u 32 (pos a +ℤ signed w b) h
+
+-- The low w bits of a signed word of v bits times a number are those of the product of the word itself.
+pub low-times : (w v k n : ℕ) → w ≤ v → k < 2 ^ v → lowBits w (signed v k *ℤ pos n) ≡ k * n % 2 ^ w
+unfolding signed lowBits
+low-times w v k n h l = by (ltb k (2 ^ (v - 1)))
+  where
+    taken : ℕ
+    taken = suc (2 ^ v - suc k) * n
+
+    all : k + suc (2 ^ v - suc k) ≡ 2 ^ v
+    all = omega (arith, l)
+
+    split : 2 ^ v ≡ 2 ^ (v - w) * 2 ^ w
+    split = ap (λ (x : ℕ). 2 ^ x) (omega (arith, h)) ∙ pow-add 2 (v - w) w
+
+    whole : k * n + taken ≡ n * 2 ^ (v - w) * 2 ^ w
+    whole = sym (add-mul k (suc (2 ^ v - suc k)) n) ∙ ap (λ (x : ℕ). x * n) (all ∙ split) ∙ mul-comm _ n ∙ sym (mul-assoc n (2 ^ (v - w)) (2 ^ w))
+
+    by : (c : Bool) → lowBits w (cond c (pos k) (negsuc (2 ^ v - suc k)) *ℤ pos n) ≡ k * n % 2 ^ w
+    by true = refl
+    by false =
+        low-is w (negℤ (pos taken)) (k * n)
+        (ap (λ (x : ℕ). (k * n + x) % 2 ^ w) (neg-down taken)
+        ∙ ap (λ (x : ℕ). x % 2 ^ w) (whole ∙ sym (zero-add (n * 2 ^ (v - w) * 2 ^ w)))
+        ∙ add-mul-mod-self-right 0 (n * 2 ^ (v - w)) (2 ^ w)
+        ∙ ap (λ (x : ℕ). x % 2 ^ w) (sym (neg-up taken)))

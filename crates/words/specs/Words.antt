@@ -3,7 +3,7 @@
 use Prim.Native.Nat.{ℕ, suc, _-_, _%_, _^_, _<_}
 use mathlib.Core.Bool.{Bool, true, cond}
 use mathlib.Core.Path.{_≡_}
-use lib.Dec.{leb, ltb}
+use lib.Dec.{eqb, leb, ltb}
 use lib.IntN.{ℤ, pos, negsuc, negℤ, _+ℤ_}
 use lib.Signed.{mag}
 use Rattle.words.specs.declared.SignMagnitude.{SignMagnitude}
@@ -42,9 +42,9 @@ unfoldable pub outside : ℕ → ℤ → Bool
 outside u (pos n) = leb (2 ^ u) n
 outside u (negsuc n) = true
 
--- The integer that a sign and a magnitude stand for.
+-- The integer that a sign and a magnitude stand for: the sign is 0, or 1 where it is negative.
 unfoldable pub valueOf : SignMagnitude → ℤ
-valueOf s = cond (s .negative) (negℤ (pos (s .magnitude))) (pos (s .magnitude))
+valueOf s = cond (eqb (s .sign) 0) (pos (s .magnitude)) (negℤ (pos (s .magnitude)))
 
 -- A word r of 20 bits, and its value v.
 pub record Word (v r : ℕ) : Type 0 where

@@ -4,9 +4,9 @@ ghost use Prim.Native.Nat.{_<_, _^_};
 ghost use lib.IntN.{pos, _+ℤ_, _-ℤ_};
 ghost use Rattle.words.specs.Words.{lowBits, signed, sum, leaves, extended, sumInto, exactSum, outside, valueOf};
 
-// A number by its sign and its magnitude.
+// A number by its sign, 0 or 1 where it is negative, and its magnitude.
 pub struct SignMagnitude {
-    pub negative: bool,
+    pub sign: u32,
     pub magnitude: u32,
 }
 
@@ -99,9 +99,9 @@ pub fn into30(a: u32, b: u32) -> u32
 pub fn word20(s: SignMagnitude) -> u32
     ensures { λ r. ⌜ r ≡ lowBits 20 (valueOf s) ⌝ }
 {
-    if s.negative {
-        std::num::wrapping_sub_u32(0, s.magnitude) % 1048576
-    } else {
+    if s.sign == 0 {
         s.magnitude % 1048576
+    } else {
+        std::num::wrapping_sub_u32(0, s.magnitude) % 1048576
     }
 }

@@ -1,4 +1,4 @@
--- `bench_file::read` meets its contract: question 9 first, then a fresh machine and what the lines set.
+-- `bench_file::read` meets its contract: question 9 first, then a fresh machine, what the lines set and the update ticks that follow.
 -- Assumes nothing.
 use mathlib.Core.Path.{sym, _∙_}
 use borrow.Author.Tests.{not-true, not-false}
@@ -45,9 +45,18 @@ load-requires c κs =
     let ends = fits .before .before .before in
     sym (ends .before .ended .ensures) ∙ not-false _ (ends .if1 .left)
 
+count-update-ticks-requires : tie.Need-count-update-ticks-requires
+count-update-ticks-requires c κs =
+    let loaded = c .before in
+    let cleared = loaded .before .before .before in
+    let fits = cleared .before .before in
+    let a = fits .before .before .before .before .before .before .args in
+    whole.loaded-reaches (cleared .fresh .ensures .1 ∙ whole.fresh-run (a .m .now) (cleared .before .fresh-arg .given .0 .1)) (loaded .load .kept .1 .0)
+
 returns-3 : tie.Need-returns-3
 returns-3 c =
-    let cleared = c .before .before .before in
+    let loaded = c .before .before in
+    let cleared = loaded .before .before .before in
     let fits = cleared .before .before in
     let judged = fits .before .before in
     let ends = judged .before in
@@ -62,8 +71,9 @@ returns-3 c =
     (fits .before .fit .ensures)
     (not-false _ (fits .if2 .left))
     (cleared .fresh .ensures .1 ∙ whole.fresh-run (a .m .now) (cleared .before .fresh-arg .given .0 .1))
-    (c .load .ensures .0)
-    (c .load .ensures .1)
+    (loaded .load .ensures .0)
+    (loaded .load .ensures .1)
+    (c .count-update-ticks .ensures)
 
 pub read-spec : {M : Type 1} → statement M
 read-spec =
@@ -76,4 +86,5 @@ read-spec =
     returns-2
     fresh-requires
     load-requires
+    count-update-ticks-requires
     returns-3)

@@ -10,10 +10,10 @@ use Rattle.envelope.proofs.enveloped.Statement.{statement}
 use Rattle.envelope.proofs.enveloped.Tie as tie
 
 mul-magnitude : tie.Need-mul-magnitude
-mul-magnitude c = omega (arith, product-fits (c .before .pre .0) (c .before .pre .1))
+mul-magnitude c = omega (arith, product-fits (c .before .pre .1) (c .before .pre .2))
 
 add-magnitude : tie.Need-add-magnitude
-add-magnitude c = omega (arith, product-fits (c .before .pre .0) (c .before .pre .1))
+add-magnitude c = omega (arith, product-fits (c .before .pre .1) (c .before .pre .2))
 
 word20-requires : tie.Need-word20-requires
 word20-requires c κs = search needs

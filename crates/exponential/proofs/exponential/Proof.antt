@@ -1,4 +1,4 @@
--- `exponential::exponential` meets its contract: the table has the entry at H's low bits, and the shift divides it.
+-- `exponential::exponential` meets its contract: the table has the entry at the exponent's low bits, and the shift divides it.
 -- Assumes nothing.
 use borrow.Author.Needs.{needs}
 use native.Mathlib.Omega.{arith}

@@ -17,7 +17,9 @@ same-length-3 : tie.Need-same-length-3
 same-length-3 c = search needs
 
 returns : tie.Need-returns
-returns c = c .before .before .before .before .before .before .pass .ensures
+returns c =
+    let passed = c .before in
+    passed .before .before .before .before .before .before .pass .ensures
 
 pub karvelorn-pass-spec : {M : Type 1} → statement M
 karvelorn-pass-spec = tie.close (tie.spec pass-requires same-length same-length-2 same-length-3 returns)

@@ -24,9 +24,13 @@ controls-within-requires c κs = search needs
 delays-within-requires : tie.Need-delays-within-requires
 delays-within-requires c κs = search needs
 
+ticks-counted-requires : tie.Need-ticks-counted-requires
+ticks-counted-requires c κs = search needs
+
 returns : tie.Need-returns
 returns c =
-    let controls = c .before in
+    let delays = c .before in
+    let controls = delays .before in
     let modifiers = controls .before in
     let generators = modifiers .before in
     let dacs = generators .before in
@@ -37,7 +41,8 @@ returns c =
       sums .words-below .ensures,
       dacs .words-below2 .ensures,
       controls .controls-within .ensures,
-      c .delays-within .ensures,
+      delays .delays-within .ensures,
+      c .ticks-counted .ensures,
     )
     (sym (sound-swept (sums .before .before .args .m .now)))
 
@@ -51,4 +56,5 @@ sound-spec =
     modifiers-within-requires
     controls-within-requires
     delays-within-requires
+    ticks-counted-requires
     returns)

@@ -8,11 +8,11 @@ use Rattle.oscillator.proofs.pulse.Tie as tie
 
 returns : tie.Need-returns
 unfolding pulse valueOf
-returns c = record { is = rw (c .if1 .taken); low = omega arith }
+returns c = record { is = rw (c .if1 .taken); bit = omega arith; low = omega arith }
 
 returns-2 : tie.Need-returns-2
 unfolding pulse valueOf
-returns-2 c = record { is = rw (c .if1 .left); low = omega arith }
+returns-2 c = record { is = rw (c .if1 .left); bit = omega arith; low = omega arith }
 
 pub pulse-spec : {M : Type 1} → statement M
 pulse-spec = tie.close (tie.spec returns returns-2)

@@ -1,6 +1,7 @@
 -- `pass` meets its contract: refused it leaves all as it was, and else it runs.
 use mathlib.Core.Path.{sym, _∙_}
 use borrow.Author.Tests.{ne-eqb}
+use Rattle.lists.specs.Lists.{zeros}
 use Rattle.pass_model.specs.Pass.{Call, passOf, refused}
 use Rattle.pass_model.proofs.Asked.{passes, few-ticks}
 use Rattle.pass.proofs.Readiness.{is-ready, are-numbers}
@@ -21,7 +22,7 @@ same-length-3 : tie.Need-same-length-3
 same-length-3 c = search needs
 
 returns : tie.Need-returns
-unfolding passOf refused
+unfolding passOf refused zeros
 returns c = rw (← (c .before .refusal .ensures), ne-eqb _ 0 (c .if1 .taken))
 
 table-requires : tie.Need-table-requires

@@ -1,6 +1,7 @@
 -- `run` meets its contract: the promises of the stages, one after the other; each keeps the machine's length.
 use mathlib.Core.Path.{_∙_}
 use native.Mathlib.Omega.{arith}
+use Rattle.lists.specs.Lists.{zeros}
 use Rattle.layout.proofs.Reach.{same-reach}
 use Rattle.pass.proofs.Runs.{ran-by}
 use Rattle.pass.proofs.run.Statement.{statement}
@@ -17,7 +18,7 @@ load-requires c κs =
 
 generators-requires : tie.Need-generators-requires
 generators-requires c κs =
-    let ticks = c .before .before .before .before .before in
+    let ticks = c .before .before .before .before .before .before in
     let known = ticks .before in
     let start = known .before .before .before .before .before .before in
     (start .pre .0, (start .pre .1 .0, start .pre .1 .1 .1))
@@ -26,7 +27,8 @@ modifiers-requires : tie.Need-modifiers-requires
 modifiers-requires c κs =
     let handed = c .before .before .before in
     let generators = handed .before .before .before .before in
-    let ticks = generators .before .before .before .before .before .before in
+    let load = generators .before .before .before .before .before in
+    let ticks = load .before .before in
     let known = ticks .before in
     let start = known .before .before .before .before .before .before in
     (same-reach (generators .generators .kept .0) (start .pre .0 .reaches), omega (arith, ticks .ticks .ensures, start .pre .1 .1 .0))
@@ -36,7 +38,8 @@ close-requires c κs =
     let modifiers = c .before .before .before .before .before .before in
     let handed = modifiers .before .before .before .before in
     let generators = handed .before .before .before .before in
-    let ticks = generators .before .before .before .before .before .before in
+    let load = generators .before .before .before .before .before in
+    let ticks = load .before .before in
     let known = ticks .before in
     let start = known .before .before .before .before .before .before in
     same-reach (modifiers .modifiers .kept .0 ∙ generators .generators .kept .0) (start .pre .0 .reaches)
@@ -48,7 +51,8 @@ count-requires c κs =
     let modifiers = called .before .before .before .before in
     let handed = modifiers .before .before .before .before in
     let generators = handed .before .before .before .before in
-    let ticks = generators .before .before .before .before .before .before in
+    let load = generators .before .before .before .before .before in
+    let ticks = load .before .before in
     let known = ticks .before in
     let start = known .before .before .before .before .before .before in
     same-reach (close .close .kept .0 ∙ (modifiers .modifiers .kept .0 ∙ generators .generators .kept .0)) (start .pre .0 .reaches)
@@ -70,7 +74,7 @@ same-length-2 c =
     let modifiers = called .before .before .before .before in
     let handed = modifiers .before .before .before .before in
     let generators = handed .before .before .before .before in
-    generators .generators .kept .1 .1 .1 .1 .0
+    generators .generators .kept .1 .1 .1 .1 .1 .0
 
 same-length-3 : tie.Need-same-length-3
 same-length-3 c =
@@ -80,6 +84,7 @@ same-length-3 c =
     modifiers .modifiers .kept .1 .1 .0
 
 returns : tie.Need-returns
+unfolding zeros
 returns c =
     let count = c .before .before in
     let close = count .before .before .before .before in
@@ -87,9 +92,9 @@ returns c =
     let modifiers = called .before .before .before .before in
     let handed = modifiers .before .before .before .before in
     let generators = handed .before .before .before .before in
-    let load = generators .before .before .before .before in
+    let load = generators .before .before .before .before .before in
     let ticks = load .before .before in
-    ran-by _ _ _ _ _ (ticks .ticks .ensures) (load .load .ensures) (generators .generators .ensures) (modifiers .modifiers .ensures) (close .close .ensures) (count .count .ensures)
+    ran-by _ _ _ _ _ (ticks .ticks .ensures) (load .load .ensures) (generators .generators .ensures .0) (generators .generators .ensures .1) (modifiers .modifiers .ensures) (close .close .ensures) (count .count .ensures)
 
 pub run-spec : {M : Type 1} → statement M
 run-spec =

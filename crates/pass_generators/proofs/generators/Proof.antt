@@ -1,4 +1,4 @@
--- `generators` meets its contract: what is left of the order, from the state that the arrays hold, leaves what the whole leaves.
+-- `generators` meets its contract: what is left of the order, from the state and the marks that the arrays hold, leaves what the whole leaves.
 use Prim.Native.Nat.{_-_, _<_, _≤_}
 use mathlib.Core.Path.{_≡_, refl, _∙_}
 use native.Mathlib.Omega.{arith}
@@ -6,13 +6,14 @@ use borrow.Author.Needs.{needs}
 use lib.ListN.{length, drop}
 use Rattle.lists.specs.Lists.{zeros}
 use Rattle.pass_model.specs.Generators.{of1978, State, begun, steps}
+use Rattle.pass_model.specs.Clipped.{markedBy}
 use Rattle.pass_generators.specs.Loops.{Ready}
-use Rattle.pass_generators.proofs.Runs.{steps-on, steps-end, reads-most, writes-most, still-ready}
+use Rattle.pass_generators.proofs.Runs.{steps-on, steps-end, marks-on, marks-end, reads-most, writes-most, still-ready}
 use Rattle.pass_generators.proofs.generators.Statement.{statement}
 use Rattle.pass_generators.proofs.generators.Tie as tie
 
 abbrev Inv-loop : tie.InvT-loop
-Inv-loop m₀ s₀ order items places₀ sine decay switches triggered₀ done₀ i₀ m s places triggered done i =
+Inv-loop m₀ s₀ clipped₀ order items places₀ sine decay switches triggered₀ done₀ i₀ m s clipped places triggered done i =
     (i ≤ length order)
     × (length m ≡ length m₀)
     × (length places ≡ length places₀)
@@ -21,9 +22,11 @@ Inv-loop m₀ s₀ order items places₀ sine decay switches triggered₀ done�
     × (done .writes ≤ i)
     × (steps of1978 items (record { words = m; sums = s; triggered = triggered; places = places; reads = done .reads; writes = done .writes }) (drop i order)
     ≡ steps of1978 items (begun m₀ s₀ places₀) order)
+    × (markedBy of1978 items (record { words = m; sums = s; triggered = triggered; places = places; reads = done .reads; writes = done .writes }) clipped (drop i order)
+    ≡ markedBy of1978 items (begun m₀ s₀ places₀) clipped₀ order)
 
 abbrev μ-loop : tie.MeasureT-loop
-μ-loop m₀ s₀ order items places₀ sine decay switches triggered₀ done₀ i₀ m s places triggered done i =
+μ-loop m₀ s₀ clipped₀ order items places₀ sine decay switches triggered₀ done₀ i₀ m s clipped places triggered done i =
     length order - i
 
 table-requires : tie.Need-table-requires Inv-loop μ-loop
@@ -33,7 +36,7 @@ loop-holds : tie.Need-loop-holds Inv-loop μ-loop
 unfolding begun zeros
 loop-holds c =
     let start = c .before .before .before .before .before in
-    (omega arith, refl, refl, start .pre .0, omega arith, omega arith, refl)
+    (omega arith, refl, refl, start .pre .0, omega arith, omega arith, refl, refl)
 
 mul-wide : tie.Need-mul-wide Inv-loop μ-loop
 mul-wide c = omega arith
@@ -47,7 +50,7 @@ wide-requires c κs = search needs
 step-requires : tie.Need-step-requires Inv-loop μ-loop
 step-requires c κs =
     let array = c .before .before in
-    let entry = array .before .before .before in
+    let entry = array .before .before .before .before in
     let z = entry .before .before .before in
     let switches = z .before in
     let start = switches .before .before .before .before .before in
@@ -72,7 +75,7 @@ loop-again : tie.Need-loop-again Inv-loop μ-loop
 loop-again c =
     let taken = c .before .before .before .before in
     let array = taken .before .before .before in
-    let entry = array .before .before .before in
+    let entry = array .before .before .before .before in
     let test = entry .before .before in
     let z = test .before in
     let tables = z .before in
@@ -84,11 +87,12 @@ loop-again c =
     let below : entry .wide .result < 256 = rw (entry .wide .ensures) (start .pre .1 .0 .below (l .i) more) in (
       omega (arith, more),
       taken .step .kept .0 ∙ l .inv .1,
-      taken .step .kept .1 .1 .1 .1 .1 .1 .1 .0 ∙ l .inv .2,
-      still-ready items s _ (taken .step .ensures) below (l .inv .3),
-      omega (arith, reads-most items s _ (taken .step .ensures)),
-      omega (arith, writes-most items s _ (taken .step .ensures)),
-      steps-on items _ s _ _ more (entry .wide .ensures) (taken .step .ensures) ∙ l .inv .6,
+      taken .step .kept .1 .1 .1 .1 .1 .1 .1 .1 .0 ∙ l .inv .2,
+      still-ready items s _ (taken .step .ensures .0) below (l .inv .3),
+      omega (arith, reads-most items s _ (taken .step .ensures .0)),
+      omega (arith, writes-most items s _ (taken .step .ensures .0)),
+      steps-on items _ s _ _ more (entry .wide .ensures) (taken .step .ensures .0) ∙ l .inv .6,
+      marks-on items _ s _ _ _ more (entry .wide .ensures) (taken .step .ensures .0) (taken .step .ensures .1) ∙ l .inv .7,
     )
 
 same-length : tie.Need-same-length Inv-loop μ-loop
@@ -100,7 +104,7 @@ same-length-2 c = c .before .loop .inv .2
 returns : tie.Need-returns Inv-loop μ-loop
 returns c =
     let z = c .before in
-    steps-end _ _ _ _ (z .loop .i) (omega arith) (z .loop .inv .6)
+    (steps-end _ _ _ _ (z .loop .i) (omega arith) (z .loop .inv .6), marks-end _ _ _ _ _ _ (z .loop .i) (omega arith) (z .loop .inv .7))
 
 pub generators-spec : {M : Type 1} → statement M
 generators-spec =

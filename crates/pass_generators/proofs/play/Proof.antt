@@ -18,7 +18,8 @@ mark-requires c κs = search needs
 hear-requires : tie.Need-hear-requires
 unfolding soundedOf
 hear-requires c κs =
-    let put = c .before .before .before .before .before in
+    let mark = c .before .before in
+    let put = mark .before .before .before .before in
     let played = put .before .before .before in
     let start = played .before .before .before in
     (start .pre .1 .0 .gsum-low, rw (played .play .ensures) (p-low _ _), start .pre .1 .1 .1 .1 .2)
@@ -28,7 +29,7 @@ same-length c = search needs
 
 returns : tie.Need-returns
 returns c =
-    let mark = c .before .before in
+    let mark = c .before .before .before in
     let put = mark .before .before .before .before in
     let played = put .before .before .before in
     let start = played .before .before .before in

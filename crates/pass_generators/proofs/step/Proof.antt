@@ -5,7 +5,7 @@ use native.Mathlib.Omega.{arith}
 use Rattle.modes.proofs.Exclusions.{envelope-is, envelope-not, oscillator-not, waits-is}
 use Rattle.pass_model.specs.Generators.{State}
 use Rattle.pass_model.proofs.Puts.{generator-ranged}
-use Rattle.pass_generators.proofs.Steps.{step-idle, sounds-on, waits-on, sends-on}
+use Rattle.pass_generators.proofs.Steps.{step-idle, idle-marked, sounds-on, sounds-marked, waits-on, waits-marked, sends-on, sends-marked}
 use borrow.Author.Needs.{needs}
 use Rattle.pass_generators.proofs.step.Statement.{statement}
 use Rattle.pass_generators.proofs.step.Tie as tie
@@ -20,7 +20,7 @@ returns : tie.Need-returns
 returns c =
     let unit = c .before .before in
     let start = unit .before .before .before .before .before in
-    step-idle _ _ _ _ _ (unit .generator-at .ensures) refl (start .pre .1 .0) (omega arith)
+    (step-idle _ _ _ _ _ (unit .generator-at .ensures) refl (start .pre .1 .0) (omega arith), idle-marked _ _ _ _ _ (unit .generator-at .ensures) refl _ (omega arith))
 
 f-at-requires : tie.Need-f-at-requires
 f-at-requires c κs =
@@ -36,7 +36,7 @@ switches-of-requires c κs =
 
 play-requires : tie.Need-play-requires
 play-requires c κs =
-    let taken = c .before .before .before in
+    let taken = c .before .before .before .before in
     let switches = taken .before .before in
     let f = switches .before .before in
     let unit = f .before .before .before .before in
@@ -58,14 +58,18 @@ same-length-2 c = search needs
 returns-2 : tie.Need-returns-2
 returns-2 c =
     let played = c .before .before in
-    let taken = played .before .before .before .before in
+    let taken = played .before .before .before .before .before in
     let switches = taken .before .before in
     let f = switches .before .before in
     let unit = f .before .before .before .before in
     let a = unit .before .before .before .before .before .args in
     let s : State
     = record { words = a .m .now; sums = a .s .now; triggered = a .triggered .now; places = a .places .now; reads = a .done .reads; writes = a .done .writes } in
-    sounds-on _ s _ _ _ (unit .generator-at .ensures) (f .f-at .ensures .is) (envelope-is _ _ (switches .switches-of .ensures) (taken .if2 .taken)) (played .play .ensures)
+    let on = envelope-is _ _ (switches .switches-of .ensures) (taken .if2 .taken) in
+    let marks = a .clipped .now in (
+      sounds-on _ s _ _ _ (unit .generator-at .ensures) (f .f-at .ensures .is) marks on (played .play .ensures),
+      sounds-marked _ s _ _ _ (unit .generator-at .ensures) (f .f-at .ensures .is) marks on (played .play .ensures),
+    )
 
 wait-requires : tie.Need-wait-requires
 wait-requires c κs =
@@ -93,7 +97,10 @@ returns-3 c =
     let switches = left .before .before in
     let f = switches .before .before in
     let unit = f .before .before .before .before in
-    waits-on _ _ _ _ _ (unit .generator-at .ensures) (f .f-at .ensures .is) (waits-is _ _ (switches .switches-of .ensures) (left .if2 .left) (taken .if3 .taken)) (wait .wait .ensures)
+    let waits = waits-is _ _ (switches .switches-of .ensures) (left .if2 .left) (taken .if3 .taken) in (
+      waits-on _ _ _ _ _ (unit .generator-at .ensures) (f .f-at .ensures .is) waits (wait .wait .ensures),
+      waits-marked _ _ _ _ _ (unit .generator-at .ensures) (f .f-at .ensures .is) _ waits,
+    )
 
 send-requires : tie.Need-send-requires
 send-requires c κs =
@@ -119,7 +126,10 @@ returns-4 c =
     let unit = f .before .before .before .before in
     let start = unit .before .before .before .before .before in
     let on = switches .switches-of .ensures in
-    sends-on _ _ _ _ _ (unit .generator-at .ensures) (f .f-at .ensures .is) (start .pre .1 .0) (envelope-not _ _ on (left .if2 .left)) (oscillator-not _ _ on (quiet .if3 .left)) (send .send .ensures)
+    let off = envelope-not _ _ on (left .if2 .left) in (
+      sends-on _ _ _ _ _ (unit .generator-at .ensures) (f .f-at .ensures .is) (start .pre .1 .0) off (oscillator-not _ _ on (quiet .if3 .left)) (send .send .ensures),
+      sends-marked _ _ _ _ _ (unit .generator-at .ensures) (f .f-at .ensures .is) _ off,
+    )
 
 pub step-spec : {M : Type 1} → statement M
 step-spec =

@@ -1,8 +1,8 @@
--- `sums::add` meets its contract: the word's sum, stored, is the definition.
+-- `sums::add` meets its contract: the word's sum, stored, is the definition, and so is whether it leaves its range.
 -- Assumes nothing.
 use borrow.Author.Needs.{needs}
 use native.Mathlib.Omega.{arith}
-use Rattle.sums.proofs.Memory.{add-code}
+use Rattle.sums.proofs.Memory.{add-code, leaves-code}
 use Rattle.sums.proofs.add.Statement.{statement}
 use Rattle.sums.proofs.add.Tie as tie
 
@@ -24,10 +24,16 @@ index-1-s c = search needs
 index-2-s : tie.Need-index-2-s
 index-2-s c = search needs
 
+leaves20-requires : tie.Need-leaves20-requires
+leaves20-requires c κs = search needs
+
 returns : tie.Need-returns
-returns c = add-code _ _ _ (omega arith) (c .before .quadrant-word .ensures .is) (c .add20 .ensures)
+returns c =
+    let sum = c .before in
+    let word = sum .before .quadrant-word .ensures .is in
+    (add-code _ _ _ (omega arith) word (sum .add20 .ensures), leaves-code _ _ _ (omega arith) word (c .leaves20 .ensures))
 
 pub add-spec : {M : Type 1} → statement M
 add-spec =
     tie.close
-    (tie.spec cast-i quadrant-word-requires add20-requires mul-s index-1-s index-2-s returns)
+    (tie.spec cast-i quadrant-word-requires add20-requires mul-s index-1-s index-2-s leaves20-requires returns)

@@ -1,4 +1,4 @@
--- `update::take_commands` meets its contract: where lingering goes on nothing is taken, and else what the loop takes.
+-- `update::take_commands` meets its contract: where lingering goes on nothing is taken, and else what the loop takes, at most as many as the word of the update ticks says.
 -- Assumes nothing.
 use mathlib.Core.Path.{sym, _∙_}
 use native.Mathlib.Omega.{arith}
@@ -22,8 +22,14 @@ returns c =
     let start = test .before .before .before .before in
     (omega arith, update-lingers (start .args .m .now) (start .args .commands .now) (start .pre) (sym (test .still-lingering .ensures) ∙ c .if1 .taken))
 
-most-commands-requires : tie.Need-most-commands-requires
-most-commands-requires c κs = let test = c .before .before in passes-reach _ (test .before .before .before .before .pre)
+slice-read-wide : tie.Need-slice-read-wide
+slice-read-wide c =
+    let start = c .before .before .before .before .before .before in
+    let r = passes-reach (start .args .m .now) (start .pre) in
+    omega (arith, r .all)
+
+wide-requires : tie.Need-wide-requires
+wide-requires c κs = search needs
 
 slice-write-m : tie.Need-slice-write-m
 slice-write-m c =
@@ -54,7 +60,7 @@ returns-2 c =
     let lingering = most .before .before in
     let test = lingering .before in
     let start = test .before .before .before .before in
-    update-ran (start .args .m .now) (start .args .commands .now) (start .pre) (sym (test .still-lingering .ensures) ∙ lingering .if1 .left) (most .most-commands .ensures) (ran .run .ensures)
+    update-ran (start .args .m .now) (start .args .commands .now) (start .pre) (sym (test .still-lingering .ensures) ∙ lingering .if1 .left) (most .wide .ensures) (ran .run .ensures)
 
 pub take-commands-spec : {M : Type 1} → statement M
 take-commands-spec =
@@ -63,7 +69,8 @@ take-commands-spec =
     still-lingering-requires
     same-length
     returns
-    most-commands-requires
+    slice-read-wide
+    wide-requires
     slice-write-m
     run-requires
     same-length-2

@@ -2,6 +2,7 @@
 -- Assumes nothing.
 use borrow.Author.Needs.{needs}
 use mathlib.Core.Path.{ap, _∙_}
+use borrow.Author.Tests.{eq-eqb, ne-eqb}
 use lib.Dec.{lit≤}
 use lib.IntN.{pos, negℤ, +ℤ-idl}
 use Rattle.words.specs.Words.{lowBits, valueOf}
@@ -9,19 +10,19 @@ use Rattle.words.proofs.Residues.{minus-code}
 use Rattle.words.proofs.word20.Statement.{statement}
 use Rattle.words.proofs.word20.Tie as tie
 
+returns : tie.Need-returns
+unfolding lowBits valueOf
+returns c = rw (eq-eqb _ 0 (c .before .if1 .taken))
+
 wrapping-sub-u32-requires : tie.Need-wrapping-sub-u32-requires
 wrapping-sub-u32-requires c κs = search needs
 
-returns : tie.Need-returns
-unfolding valueOf
-returns c =
-    rw (c .before .if1 .taken)
-    (minus-code 20 0 _ _ (lit≤ tt) (c .wrapping-sub-u32 .ensures)
-    ∙ ap (lowBits 20) (+ℤ-idl (negℤ (pos (c .before .before .args .s .magnitude)))))
-
 returns-2 : tie.Need-returns-2
-unfolding lowBits valueOf
-returns-2 c = rw (c .before .if1 .left)
+unfolding valueOf
+returns-2 c =
+    rw (ne-eqb _ 0 (c .before .if1 .left))
+    (minus-code 20 0 _ _ (lit≤ tt) (c .wrapping-sub-u32 .ensures)
+    ∙ ap (lowBits 20) (+ℤ-idl (negℤ (pos (c .before .before .before .args .s .magnitude)))))
 
 pub word20-spec : {M : Type 1} → statement M
 word20-spec = tie.close (tie.spec wrapping-sub-u32-requires returns returns-2)

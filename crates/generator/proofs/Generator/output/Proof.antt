@@ -37,13 +37,16 @@ returns-2 c =
     output-of-gk _ (leveled .before .before .args .self) _ _ _ (leveled .level .ensures) (c .sine-under2 .ensures) (tested .if2 .taken)
 
 shaped-requires : tie.Need-shaped-requires
-shaped-requires c κs = search needs
+shaped-requires c κs =
+    let leveled = c .before .before .before .before .before .before .before in
+    let start = leveled .before .before in
+    (start .pre .0, (start .pre .1 .0 .0, ((start .pre .1 .1 .0, start .pre .1 .1 .1, omega (arith, start .pre .0 .gk-low)), (omega arith, omega arith))))
 
 enveloped-requires : tie.Need-enveloped-requires
 enveloped-requires c κs =
     let tested = c .before .before .before .before in
     let leveled = tested .before .before .before .before in
-    (c .shaped .ensures .low, rw (leveled .level .ensures) (level-low _ _ _))
+    (c .shaped .ensures .bit, c .shaped .ensures .low, rw (leveled .level .ensures) (level-low _ _ _))
 
 returns-3 : tie.Need-returns-3
 unfolding vOf

@@ -30,7 +30,14 @@ pulse-requires c κs = search needs
 
 returns-3 : tie.Need-returns-3
 unfolding waveOf
-returns-3 c = let e : c .before .before .before .before .before .args .self .gmode % 16 ≡ 3 = omega arith in rw (e, ← (c .before .left-range .ensures)) (c .pulse .ensures)
+returns-3 c = rw (c .before .before .if3 .taken, ← (c .before .left-range .ensures)) (c .pulse .ensures)
+
+sum-of-cosines-requires : tie.Need-sum-of-cosines-requires
+sum-of-cosines-requires c κs = search needs
+
+returns-4 : tie.Need-returns-4
+unfolding waveOf
+returns-4 c = let e : c .before .before .before .before .before .args .self .gmode % 16 ≡ 4 = omega arith in rw e (c .sum-of-cosines .ensures)
 
 pub shaped-spec : {M : Type 1} → statement M
 shaped-spec =
@@ -42,4 +49,6 @@ shaped-spec =
     returns-2
     left-range-requires
     pulse-requires
-    returns-3)
+    returns-3
+    sum-of-cosines-requires
+    returns-4)
