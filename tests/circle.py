@@ -21,7 +21,7 @@ import partials as tables  # noqa: E402
 # Each bell: so many partials, N, and the seed of its numbers. Of two channels one bell has partials on either.
 BELLS = [(5, 265, 1), (8, 400, 2), (12, 200, 3), (20, 265, 4), (40, 265, 5), (40, 128, 6)]
 HIGHEST = 60.0  # levels spread over so many dB
-NAMED_MOST = 0.2  # no more than this part of all partials may be named as not reachable
+NAMED_MOST = 0.15  # no more than this part of all partials may be named as not reachable
 
 
 def bell(count, n, seed):
