@@ -1,6 +1,6 @@
 /* karvelorn.h: a 1978 synthesizer in whole numbers, for a host in C99 or C++.
  *
- * The library is target/staticlib/libhost.a (made by `rt staticlib host`), for x86-64. It needs only memcpy, memset and
+ * The library is target/staticlib/libkarvelorn.a (made by `rt staticlib karvelorn`), for x86-64. It needs only memcpy, memset and
  * memcmp of the C library, keeps nothing between calls, allocates nothing and prints nothing. Calls on different
  * machines may run at the same time. examples/ring_host.c is a whole host to start from.
  *

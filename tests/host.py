@@ -3,7 +3,7 @@
     python3 tests/host.py [--dry] [COUNT] [SEED]
 
 Run from the repository root. Builds examples/ring_host.c with include/karvelorn.h and
-target/staticlib/libhost.a, with the address and undefined-behaviour sanitizers on and
+target/staticlib/libkarvelorn.a, with the address and undefined-behaviour sanitizers on and
 tests/host_guard.c before each call, and rings the files of tests/ring_files.py, COUNT of
 them at random: the host must print what the reference does, and the sanitizers nothing.
 Fails too where the files met something too seldom. With --dry nothing is built or run.
@@ -57,7 +57,7 @@ def links_alone():
 def build():
     """Builds the host; says whether that went well."""
     if not library_is_new():
-        subprocess.run(["rt", "staticlib", "host"], cwd=ROOT, check=True, stdout=subprocess.DEVNULL)
+        subprocess.run(["rt", "staticlib", "karvelorn"], cwd=ROOT, check=True, stdout=subprocess.DEVNULL)
     return links_alone() and compiled("gcc", "-std=c99", *WARNINGS, *SANITIZERS, *GUARDED, "-I", INCLUDE,
                     SOURCE, GUARD, LIBRARY, "-o", HOST)
 

@@ -19,7 +19,7 @@ from reference import layout  # noqa: E402
 from reference.faults import NAMES, switched_on  # noqa: E402
 
 BATCH, SHOWN, WORDS_SHOWN = 500, 5, 8
-LIBRARY = os.path.join(ROOT, "target", "staticlib", "libhost.a")
+LIBRARY = os.path.join(ROOT, "target", "staticlib", "libkarvelorn.a")
 
 
 class Test(NamedTuple):
@@ -48,7 +48,7 @@ def library_is_new():
 def build(test):
     """The test's program, over the static library."""
     if not library_is_new():
-        subprocess.run(["rt", "staticlib", "host"], cwd=ROOT, check=True, stdout=subprocess.DEVNULL)
+        subprocess.run(["rt", "staticlib", "karvelorn"], cwd=ROOT, check=True, stdout=subprocess.DEVNULL)
     source = os.path.join(ROOT, "tests", test.name + ".c")
     subprocess.run(["gcc", "-std=c99", "-Wall", "-Wextra", "-pedantic", "-Werror", "-O1",
                     "-I", os.path.join(ROOT, "include"), source, LIBRARY, "-o", test.program],

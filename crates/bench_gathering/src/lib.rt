@@ -11,12 +11,14 @@ ghost use Rattle.order_lists.specs.Sequences.{byNumber};
 ghost use Rattle.bench_pass.specs.ByNumber.{passed};
 ghost use Rattle.bench_ringing.specs.Steps.{ringingAt, stepOf, commandsTaken};
 ghost use Rattle.bench_gathering.specs.Gathering.{gathered};
+use bench_ringing::Output;
 use bench_ringing::Progress;
 use exponential::Entries;
 use sine::Quarter;
 
-// One step, its line put after the bytes that a buffer has. A pass is left, and which question refuses it is known.
+// One step, what it gives out put after the bytes that a buffer has. A pass is left, and which question refuses it is known.
 fn step_into(
+    output: Output,
     at: Progress,
     m: &mut [u32],
     commands: &[u32],
@@ -32,14 +34,15 @@ fn step_into(
     requires { ⌜ now order ≡ byNumber 256 ⌝ }
     requires { ⌜ number ≡ passed (now m) (now memory) .number ⌝ }
     requires { ⌜ (now sine ≡ quarter) × (now decay ≡ entries tableSize) ⌝ }
-    ensures { λ r. ⌜ r .length ≡ at .length + length (stepOf (ringingAt at (now (m .entry)) (now (memory .entry)) (now (commands .entry))) .bytes) ⌝ }
-    ensures { λ _. ⌜ now (out .exit) ≡ sets (now (out .entry)) (at .length) (stepOf (ringingAt at (now (m .entry)) (now (memory .entry)) (now (commands .entry))) .bytes) ⌝ }
-    ensures { λ r. ⌜ ringingAt r (now (m .exit)) (now (memory .exit)) (now (commands .entry)) ≡ stepOf (ringingAt at (now (m .entry)) (now (memory .entry)) (now (commands .entry))) .next ⌝ }
-    ensures { λ r. ⌜ r .taken ≡ at .taken + commandsTaken (ringingAt at (now (m .entry)) (now (memory .entry)) (now (commands .entry))) (stepOf (ringingAt at (now (m .entry)) (now (memory .entry)) (now (commands .entry)))) ⌝ }
+    ensures { λ r. ⌜ r .length ≡ at .length + length (stepOf output (ringingAt at (now (m .entry)) (now (memory .entry)) (now (commands .entry))) .bytes) ⌝ }
+    ensures { λ _. ⌜ now (out .exit) ≡ sets (now (out .entry)) (at .length) (stepOf output (ringingAt at (now (m .entry)) (now (memory .entry)) (now (commands .entry))) .bytes) ⌝ }
+    ensures { λ r. ⌜ ringingAt r (now (m .exit)) (now (memory .exit)) (now (commands .entry)) ≡ stepOf output (ringingAt at (now (m .entry)) (now (memory .entry)) (now (commands .entry))) .next ⌝ }
+    ensures { λ r. ⌜ r .taken ≡ at .taken + commandsTaken (ringingAt at (now (m .entry)) (now (memory .entry)) (now (commands .entry))) (stepOf output (ringingAt at (now (m .entry)) (now (memory .entry)) (now (commands .entry)))) ⌝ }
 {
     let start = at.length;
     let mut line = [0u8; bench_text::LINE_BYTES];
     let next = bench_ringing::step(
+        output,
         at,
         m,
         commands,
@@ -53,16 +56,19 @@ fn step_into(
     let passes = next.passes;
     let taken = next.taken;
     let size = next.length;
+    let refused = next.refused;
     let length = bench_bytes::put(out, start, &line[0..size]);
     Progress {
         passes,
         taken,
         length,
+        refused,
     }
 }
 
-// Steps until no pass is left or the buffer may not hold another line. The questions of a pass are asked once, and again only after a step that took commands.
+// Steps until no pass is left or the buffer may not hold another line or frame. The questions of a pass are asked once, and again only after a step that took commands.
 fn gather_by(
+    output: Output,
     at: Progress,
     m: &mut [u32],
     commands: &[u32],
@@ -74,24 +80,37 @@ fn gather_by(
 ) -> Progress
     requires { ⌜ now order ≡ byNumber 256 ⌝ }
     requires { ⌜ (now sine ≡ quarter) × (now decay ≡ entries tableSize) ⌝ }
-    ensures { λ r. ⌜ r .length ≡ length (gathered (length (now (out .entry))) (ringingAt at (now (m .entry)) (now (memory .entry)) (now (commands .entry))) .bytes) ⌝ }
-    ensures { λ _. ⌜ now (out .exit) ≡ sets (now (out .entry)) 0 (gathered (length (now (out .entry))) (ringingAt at (now (m .entry)) (now (memory .entry)) (now (commands .entry))) .bytes) ⌝ }
-    ensures { λ r. ⌜ ringingAt r (now (m .exit)) (now (memory .exit)) (now (commands .entry)) ≡ gathered (length (now (out .entry))) (ringingAt at (now (m .entry)) (now (memory .entry)) (now (commands .entry))) .next ⌝ }
-    ensures { λ r. ⌜ r .taken ≡ at .taken + commandsTaken (ringingAt at (now (m .entry)) (now (memory .entry)) (now (commands .entry))) (gathered (length (now (out .entry))) (ringingAt at (now (m .entry)) (now (memory .entry)) (now (commands .entry)))) ⌝ }
+    ensures { λ r. ⌜ r .length ≡ length (gathered output (length (now (out .entry))) (ringingAt at (now (m .entry)) (now (memory .entry)) (now (commands .entry))) .bytes) ⌝ }
+    ensures { λ _. ⌜ now (out .exit) ≡ sets (now (out .entry)) 0 (gathered output (length (now (out .entry))) (ringingAt at (now (m .entry)) (now (memory .entry)) (now (commands .entry))) .bytes) ⌝ }
+    ensures { λ r. ⌜ ringingAt r (now (m .exit)) (now (memory .exit)) (now (commands .entry)) ≡ gathered output (length (now (out .entry))) (ringingAt at (now (m .entry)) (now (memory .entry)) (now (commands .entry))) .next ⌝ }
+    ensures { λ r. ⌜ r .taken ≡ at .taken + commandsTaken (ringingAt at (now (m .entry)) (now (memory .entry)) (now (commands .entry))) (gathered output (length (now (out .entry))) (ringingAt at (now (m .entry)) (now (memory .entry)) (now (commands .entry)))) ⌝ }
 {
     let passes = at.passes;
     let taken = at.taken;
+    let refused = at.refused;
     let mut number = bench_pass::refusal(m, memory);
     let mut here = Progress {
         passes,
         taken,
         length: 0,
+        refused,
     };
     while here.passes != 0 {
         if out.len() < here.length + bench_text::LINE_BYTES {
             return here;
         }
-        let next = step_into(here, m, commands, memory, order, number, out, sine, decay);
+        let next = step_into(
+            output,
+            here,
+            m,
+            commands,
+            memory,
+            order,
+            number,
+            out,
+            sine,
+            decay,
+        );
         let took = next.taken != here.taken;
         number = bench_ringing::next_number(m, memory, number, took);
         here = next;
@@ -99,22 +118,23 @@ fn gather_by(
     here
 }
 
-// Steps until no pass is left or the buffer may not hold another line; the length answered is that of all their lines.
+// Steps until no pass is left or the buffer may not hold another line or frame; the length answered is that of all that they give out.
 pub fn gather(
+    output: Output,
     at: Progress,
     m: &mut [u32],
     commands: &[u32],
     memory: &mut [u32],
     out: &mut [u8],
 ) -> Progress
-    ensures { λ r. ⌜ r .length ≡ length (gathered (length (now (out .entry))) (ringingAt at (now (m .entry)) (now (memory .entry)) (now (commands .entry))) .bytes) ⌝ }
-    ensures { λ _. ⌜ now (out .exit) ≡ sets (now (out .entry)) 0 (gathered (length (now (out .entry))) (ringingAt at (now (m .entry)) (now (memory .entry)) (now (commands .entry))) .bytes) ⌝ }
-    ensures { λ r. ⌜ ringingAt r (now (m .exit)) (now (memory .exit)) (now (commands .entry)) ≡ gathered (length (now (out .entry))) (ringingAt at (now (m .entry)) (now (memory .entry)) (now (commands .entry))) .next ⌝ }
-    ensures { λ r. ⌜ r .taken ≡ at .taken + commandsTaken (ringingAt at (now (m .entry)) (now (memory .entry)) (now (commands .entry))) (gathered (length (now (out .entry))) (ringingAt at (now (m .entry)) (now (memory .entry)) (now (commands .entry)))) ⌝ }
+    ensures { λ r. ⌜ r .length ≡ length (gathered output (length (now (out .entry))) (ringingAt at (now (m .entry)) (now (memory .entry)) (now (commands .entry))) .bytes) ⌝ }
+    ensures { λ _. ⌜ now (out .exit) ≡ sets (now (out .entry)) 0 (gathered output (length (now (out .entry))) (ringingAt at (now (m .entry)) (now (memory .entry)) (now (commands .entry))) .bytes) ⌝ }
+    ensures { λ r. ⌜ ringingAt r (now (m .exit)) (now (memory .exit)) (now (commands .entry)) ≡ gathered output (length (now (out .entry))) (ringingAt at (now (m .entry)) (now (memory .entry)) (now (commands .entry))) .next ⌝ }
+    ensures { λ r. ⌜ r .taken ≡ at .taken + commandsTaken (ringingAt at (now (m .entry)) (now (memory .entry)) (now (commands .entry))) (gathered output (length (now (out .entry))) (ringingAt at (now (m .entry)) (now (memory .entry)) (now (commands .entry)))) ⌝ }
 {
     let mut order = [0u32; layout::GENERATORS];
     bench_pass::by_number(&mut order);
     let sine = sine::table();
     let decay = exponential::table();
-    gather_by(at, m, commands, memory, &order, out, &sine, &decay)
+    gather_by(output, at, m, commands, memory, &order, out, &sine, &decay)
 }

@@ -31,6 +31,7 @@ use Rattle.update_laws.proofs.UpdateSound.{update-sound}
 use Rattle.bench_pass.specs.ByNumber.{benchCall, passed}
 use Rattle.bench_pass.proofs.Asked.{answered, ticks-most, data-none, units-decide}
 use Rattle.bench_ringing.specs.Steps.{Known, Ringing, stepOf, commandsTaken}
+use Rattle.bench_ringing.specs.declared.Output.{Output}
 use Rattle.bench_ringing.proofs.Turns.{by-pass, by-update, by-both}
 
 -- A refused pass leaves its machine and delay memory.
@@ -101,14 +102,14 @@ module _ (m : Machine) (memory : Memory) (n : passed m memory .number ≡ 0) whe
         memory-passes (sym (then-units e))
 
 -- A step, by whether its pass is let through.
-module _ (r : Ringing) (some : r .passes ≢ 0) where
+module _ (o : Output) (r : Ringing) (some : r .passes ≢ 0) where
   abbrev pass : Passed
   pass = passed (r .machine) (r .memory)
 
   record AfterUpdate : Type 0 where
-    machine : stepOf r .next .machine ≡ updateOf (pass .machine) (r .commands) .machine
-    commands : stepOf r .next .commands ≡ updateOf (pass .machine) (r .commands) .rest
-    memory : stepOf r .next .memory ≡ pass .memory
+    machine : stepOf o r .next .machine ≡ updateOf (pass .machine) (r .commands) .machine
+    commands : stepOf o r .next .commands ≡ updateOf (pass .machine) (r .commands) .rest
+    memory : stepOf o r .next .memory ≡ pass .memory
 
   after-update : pass .number ≡ 0 → AfterUpdate
   after-update z = go (eqb (updateOf (pass .machine) (r .commands) .number) 0) refl
@@ -117,14 +118,14 @@ module _ (r : Ringing) (some : r .passes ≢ 0) where
       u = updateOf (pass .machine) (r .commands)
 
       go : (b : Bool) → eqb (u .number) 0 ≡ b → AfterUpdate
-      go true e = let s = by-both r some z (eqb-true (u .number) 0 e) in record { machine = rw s refl; commands = rw s refl; memory = rw s refl }
-      go false e = let s = by-update r some z (eqb-false (u .number) 0 e) in record { machine = rw s refl; commands = rw s refl; memory = rw s refl }
+      go true e = let s = by-both o r some z (eqb-true (u .number) 0 e) in record { machine = rw s refl; commands = rw s refl; memory = rw s refl }
+      go false e = let s = by-update o r some z (eqb-false (u .number) 0 e) in record { machine = rw s refl; commands = rw s refl; memory = rw s refl }
 
-  pub step-known : {n : ℕ} {took : Bool} → n ≡ pass .number → (took ≡ false → commandsTaken r (stepOf r) ≡ 0) → (took ≡ true → commandsTaken r (stepOf r) ≢ 0)
-      → Known (stepOf r .next .machine) (stepOf r .next .memory) n took
+  pub step-known : {n : ℕ} {took : Bool} → n ≡ pass .number → (took ≡ false → commandsTaken r (stepOf o r) ≡ 0) → (took ≡ true → commandsTaken r (stepOf o r) ≢ 0)
+      → Known (stepOf o r .next .machine) (stepOf o r .next .memory) n took
   step-known {n} {took} en none one = go (eqb n 0) refl
     where
-      go : (b : Bool) → eqb n 0 ≡ b → Known (stepOf r .next .machine) (stepOf r .next .memory) n took
+      go : (b : Bool) → eqb n 0 ≡ b → Known (stepOf o r .next .machine) (stepOf o r .next .memory) n took
       go true e =
           let z : pass .number ≡ 0 = sym en ∙ eqb-true n 0 e in
           let s = after-update z in
@@ -136,7 +137,7 @@ module _ (r : Ringing) (some : r .passes ≢ 0) where
           })
       go false e =
           let h : pass .number ≢ 0 = λ q. eqb-false n 0 e (en ∙ q) in
-          let s = by-pass r some h in
+          let s = by-pass o r some h in
           let stays = refused-stays (r .machine) (r .memory) h in
           rw s
           (record {

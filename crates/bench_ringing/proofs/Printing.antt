@@ -1,66 +1,226 @@
--- The steps of a ringing, one after another until no pass is left, print what is to be printed.
+-- The steps of a ringing, one after another until no pass is left, give out all that is heard; as lines they are what is to be printed.
 -- Assumes nothing.
 use mathlib.Core.Path.{_≡_, refl, sym, _∙_, ap}
 use mathlib.Core.Logic.{_≢_}
 use mathlib.Core.Bool.{Bool, true, false, cond}
-use mathlib.Core.List.{List, [], _++_, append-nil}
+use mathlib.Core.List.{List, [], _∷_, _++_, append-nil, append-assoc}
 use Prim.Native.Nat.{ℕ, zero, suc, _-_, _≤_, _<_}
 use native.Mathlib.Omega.{arith}
-use borrow.Author.Tests.{eqb-true, eqb-false, ne-eqb}
+use borrow.Author.Tests.{eqb-true, eqb-false, eq-eqb, ne-eqb}
 use lib.Dec.{eqb}
+use Rattle.layout.specs.Machine.{Machine, Memory, Commands}
+use Rattle.pass_model.specs.Pass.{Outcome as Passed}
 use Rattle.bench_text.specs.Text.{refusalLine}
 use Rattle.update.specs.Update.{Outcome, updateOf}
 use Rattle.bench_pass.specs.ByNumber.{passed}
 use Rattle.bench_ringing.specs.Ringing.{lineAfter, printed}
-use Rattle.bench_ringing.specs.Steps.{Ringing, Step, stepOf, untilDone}
+use Rattle.bench_ringing.specs.Heard.{Heard, heardAfter, heardRefused, heard, linesAfter, linesHeard, framesOf}
+use Rattle.bench_ringing.specs.Steps.{givenAfter, givenRefused, Ringing, Step, stepOf, untilDone}
+use Rattle.bench_ringing.specs.declared.Output.{Output}
+use Rattle.bench_ringing.specs.declared.Output.the-variants.{Lines, Frames}
+use Rattle.bench_ringing.proofs.Turns.{by-pass, by-update, by-both}
 
--- What is printed from a ringing under way.
-abbrev pub onward : Ringing → List ℕ
-onward r = printed (r .passes) (r .machine) (r .memory) (r .commands)
+-- What is given out of machines one after another, and of all that is heard.
+unfoldable pub givenMachines : Output → List Machine → List ℕ
+givenMachines o [] = []
+givenMachines o (m ∷ ms) = givenAfter o m ++ givenMachines o ms
+
+unfoldable pub givenEnd : Output → ℕ → List ℕ
+givenEnd o n = cond (eqb n 0) [] (givenRefused o n)
+
+unfoldable pub given : Output → Heard → List ℕ
+given o h = givenMachines o (h .machines) ++ givenEnd o (h .number)
+
+-- What is heard of a ringing under way, what is given out of that, and the number that ends it.
+abbrev pub heardFrom : Ringing → Heard
+heardFrom r = heard (r .passes) (r .machine) (r .memory) (r .commands)
+
+abbrev pub onward : Output → Ringing → List ℕ
+onward o r = given o (heardFrom r)
+
+unfoldable pub endNumber : Ringing → ℕ
+endNumber r = cond (eqb (r .passes) 0) (r .number) (heardFrom r .number)
+
+-- Nothing but a refusal, by its number.
+refused-given : (o : Output) (n : ℕ) → n ≢ 0 → given o (heardRefused n) ≡ givenRefused o n
+unfolding given givenMachines givenEnd
+refused-given o n h = rw (ne-eqb n 0 h)
+
+none-given : (o : Output) → given o (heardRefused 0) ≡ []
+unfolding given givenMachines givenEnd
+none-given o = refl
+
+after-given : (o : Output) (m : Machine) (h : Heard) → given o (heardAfter m h) ≡ givenAfter o m ++ given o h
+unfolding given givenMachines
+after-given o m h = append-assoc (givenAfter o m) (givenMachines o (h .machines)) (givenEnd o (h .number))
 
 -- With no pass left it is nothing.
-pub none-left : (r : Ringing) → r .passes ≡ 0 → [] ≡ onward r
-unfolding printed
-none-left r z = rw z refl
+none-heard : (r : Ringing) → r .passes ≡ 0 → heardFrom r ≡ heardRefused 0
+unfolding heard
+none-heard r z = rw z refl
 
--- A step of a ringing with a pass left: it lowers the passes left, and what it prints and what is printed after it is all.
-pub record Falls (r : Ringing) (all : List ℕ) (s : Step) : Type 0 where
+pub none-left : (o : Output) (r : Ringing) → r .passes ≡ 0 → [] ≡ onward o r
+none-left o r z = sym (ap (given o) (none-heard r z) ∙ none-given o)
+
+pub ended-number : (r : Ringing) → r .passes ≡ 0 → endNumber r ≡ r .number
+unfolding endNumber
+ended-number r z = rw (eq-eqb (r .passes) 0 z)
+
+-- The number that ends a ringing is that of what is heard, where none has ended it before.
+pub heard-number : (r : Ringing) → r .number ≡ 0 → endNumber r ≡ heardFrom r .number
+unfolding endNumber
+heard-number r z = go (eqb (r .passes) 0) refl
+  where
+    go : (b : Bool) → eqb (r .passes) 0 ≡ b → cond b (r .number) (heardFrom r .number) ≡ heardFrom r .number
+    go true e = z ∙ sym (ap (λ (h : Heard). h .number) (none-heard r (eqb-true (r .passes) 0 e)))
+    go false e = refl
+
+-- What is heard of a ringing with a pass left, by the two numbers.
+module _ (r : Ringing) (some : r .passes ≢ 0) where
+  abbrev pass : Passed
+  pass = passed (r .machine) (r .memory)
+
+  abbrev update : Outcome
+  update = updateOf (pass .machine) (r .commands)
+
+  one-more : r .passes ≡ suc (r .passes - 1)
+  one-more = omega arith
+
+  begins : heardFrom r ≡ heard (suc (r .passes - 1)) (r .machine) (r .memory) (r .commands)
+  begins = ap (λ (i : ℕ). heard i (r .machine) (r .memory) (r .commands)) one-more
+
+  heard-pass : pass .number ≢ 0 → heardFrom r ≡ heardRefused (pass .number)
+  unfolding heard
+  heard-pass h = begins ∙ rw (ne-eqb (pass .number) 0 h)
+
+  heard-update : pass .number ≡ 0 → update .number ≢ 0 → heardFrom r ≡ heardRefused (update .number)
+  unfolding heard
+  heard-update z h = begins ∙ rw (eq-eqb (pass .number) 0 z, ne-eqb (update .number) 0 h)
+
+  heard-both : pass .number ≡ 0 → update .number ≡ 0 → heardFrom r ≡ heardAfter (update .machine) (heard (r .passes - 1) (update .machine) (pass .memory) (update .rest))
+  unfolding heard
+  heard-both z h = begins ∙ rw (eq-eqb (pass .number) 0 z, eq-eqb (update .number) 0 h)
+
+  number-from : endNumber r ≡ heardFrom r .number
+  unfolding endNumber
+  number-from = rw (ne-eqb (r .passes) 0 some)
+
+-- A step of a ringing with a pass left: it lowers the passes left, what it gives out and what is given out after it is all, and the number that ends it stays.
+pub record Falls (o : Output) (r : Ringing) (s : Step) : Type 0 where
   pub falls : s .next .passes < r .passes
-  pub prints : all ≡ s .bytes ++ onward (s .next)
+  pub prints : onward o r ≡ s .bytes ++ onward o (s .next)
+  pub ends : endNumber r ≡ endNumber (s .next)
 
-of-choice : (r : Ringing) → r .passes ≢ 0 → (a b : Bool) (n : ℕ) (m memory : List ℕ) (u : Outcome)
-    → Falls r (cond a (cond b (lineAfter (u .machine) ++ printed (r .passes - 1) (u .machine) memory (u .rest)) (refusalLine (u .number))) (refusalLine n))
-    (cond a
-    (cond b
-    (record { bytes = lineAfter (u .machine); next = record { passes = r .passes - 1; machine = u .machine; memory = memory; commands = u .rest } })
-    (record { bytes = refusalLine (u .number); next = record { passes = 0; machine = u .machine; memory = memory; commands = u .rest } }))
-    (record { bytes = refusalLine n; next = record { passes = 0; machine = m; memory = memory; commands = r .commands } }))
-unfolding printed
-of-choice r some true true n m memory u = record { falls = omega arith; prints = refl }
-of-choice r some true false n m memory u = record { falls = omega arith; prints = sym (append-nil (refusalLine (u .number))) }
-of-choice r some false b n m memory u = record { falls = omega arith; prints = sym (append-nil (refusalLine n)) }
-
-pub step-falls : (r : Ringing) → r .passes ≢ 0 → Falls r (onward r) (stepOf r)
-unfolding printed stepOf
-step-falls r some =
-    let p = passed (r .machine) (r .memory) in
-    let u = updateOf (p .machine) (r .commands) in
-    let k : r .passes ≡ suc (r .passes - 1) = omega arith in
-    let f = of-choice r some (eqb (p .number) 0) (eqb (u .number) 0) (p .number) (p .machine) (p .memory) u in
+-- A refusal leaves a ringing that is done.
+falls-refused : (o : Output) (r : Ringing) → r .passes ≢ 0 → {m memory commands : List ℕ} (n : ℕ) → n ≢ 0 → heardFrom r ≡ heardRefused n
+    → Falls o r (record { bytes = givenRefused o n; next = record { passes = 0; machine = m; memory = memory; commands = commands; number = n } })
+falls-refused o r some {m} {memory} {commands} n h e =
+    let next : Ringing = record { passes = 0; machine = m; memory = memory; commands = commands; number = n } in
     record {
-      falls = rw (ne-eqb (r .passes) 0 some) (f .falls);
-      prints = ap (λ (i : ℕ). printed i (r .machine) (r .memory) (r .commands)) k ∙ rw (ne-eqb (r .passes) 0 some) (f .prints);
+      falls = omega arith;
+      prints = ap (given o) e ∙ refused-given o n h ∙ sym (append-nil (givenRefused o n)) ∙ ap (λ (l : List ℕ). givenRefused o n ++ l) (none-left o next refl);
+      ends = number-from r some ∙ ap (λ (l : Heard). l .number) e ∙ sym (ended-number next refl);
     }
 
--- So the steps until done are the defined output.
-pub steps-are-output : (k : ℕ) (r : Ringing) → r .passes ≤ k → untilDone k r ≡ onward r
-unfolding untilDone
-steps-are-output zero r h = none-left r (omega arith)
-steps-are-output (suc k) r h = by (eqb (r .passes) 0) refl (λ n. steps-are-output k (stepOf r .next) (omega (arith, step-falls r n .falls)))
+pub step-falls : (o : Output) (r : Ringing) → r .passes ≢ 0 → Falls o r (stepOf o r)
+step-falls o r some = go (eqb (p .number) 0) refl (eqb (u .number) 0) refl
   where
-    by : (b : Bool) → eqb (r .passes) 0 ≡ b → (r .passes ≢ 0 → untilDone k (stepOf r .next) ≡ onward (stepOf r .next))
-        → cond b [] (stepOf r .bytes ++ untilDone k (stepOf r .next)) ≡ onward r
-    by true e f = none-left r (eqb-true (r .passes) 0 e)
+    p : Passed
+    p = passed (r .machine) (r .memory)
+
+    u : Outcome
+    u = updateOf (p .machine) (r .commands)
+
+    go : (a : Bool) → eqb (p .number) 0 ≡ a → (b : Bool) → eqb (u .number) 0 ≡ b → Falls o r (stepOf o r)
+    go true e true f =
+        let z = eqb-true (p .number) 0 e in
+        let y = eqb-true (u .number) 0 f in
+        let h = heard-both r some z y in
+        let next : Ringing = record { passes = r .passes - 1; machine = u .machine; memory = p .memory; commands = u .rest; number = 0 } in
+        rw (by-both o r some z y)
+        (record {
+          falls = omega arith;
+          prints = ap (given o) h ∙ after-given o (u .machine) (heardFrom next);
+          ends = number-from r some ∙ ap (λ (l : Heard). l .number) h ∙ sym (heard-number next refl);
+        })
+    go true e false f =
+        let z = eqb-true (p .number) 0 e in
+        let y = eqb-false (u .number) 0 f in
+        rw (by-update o r some z y) (falls-refused o r some (u .number) y (heard-update r some z y))
+    go false e b f =
+        let z = eqb-false (p .number) 0 e in
+        rw (by-pass o r some z) (falls-refused o r some (p .number) z (heard-pass r some z))
+
+-- So the steps until done give out all that is heard.
+pub steps-are-given : (o : Output) (k : ℕ) (r : Ringing) → r .passes ≤ k → untilDone o k r ≡ onward o r
+unfolding untilDone
+steps-are-given o zero r h = none-left o r (omega arith)
+steps-are-given o (suc k) r h = by (eqb (r .passes) 0) refl (λ n. steps-are-given o k (stepOf o r .next) (omega (arith, step-falls o r n .falls)))
+  where
+    by : (b : Bool) → eqb (r .passes) 0 ≡ b → (r .passes ≢ 0 → untilDone o k (stepOf o r .next) ≡ onward o (stepOf o r .next))
+        → cond b [] (stepOf o r .bytes ++ untilDone o k (stepOf o r .next)) ≡ onward o r
+    by true e f = none-left o r (eqb-true (r .passes) 0 e)
     by false e f =
         let n = eqb-false (r .passes) 0 e in
-        ap (λ (l : List ℕ). stepOf r .bytes ++ l) (f n) ∙ sym (step-falls r n .prints)
+        ap (λ (l : List ℕ). stepOf o r .bytes ++ l) (f n) ∙ sym (step-falls o r n .prints)
+
+-- What is printed are the lines of the machines that are heard, and the line of a refusal.
+after-line : (m : Machine) (h : Heard) → given Lines (heardAfter m h) ≡ lineAfter m ++ given Lines h
+unfolding givenAfter
+after-line m h = after-given Lines m h
+
+refused-line : (n : ℕ) → n ≢ 0 → given Lines (heardRefused n) ≡ refusalLine n
+unfolding givenRefused
+refused-line n h = refused-given Lines n h
+
+pub printed-given : (k : ℕ) (m : Machine) (memory : Memory) (commands : Commands) → printed k m memory commands ≡ given Lines (heard k m memory commands)
+unfolding printed heard
+printed-given zero m memory commands = sym (none-given Lines)
+printed-given (suc k) m memory commands =
+    go (eqb (p .number) 0) refl (eqb (u .number) 0) refl (printed-given k (u .machine) (p .memory) (u .rest))
+  where
+    p : Passed
+    p = passed m memory
+
+    u : Outcome
+    u = updateOf (p .machine) commands
+
+    rest : Heard
+    rest = heard k (u .machine) (p .memory) (u .rest)
+
+    go : (a : Bool) → eqb (p .number) 0 ≡ a → (b : Bool) → eqb (u .number) 0 ≡ b → printed k (u .machine) (p .memory) (u .rest) ≡ given Lines rest
+        → cond a (cond b (lineAfter (u .machine) ++ printed k (u .machine) (p .memory) (u .rest)) (refusalLine (u .number))) (refusalLine (p .number))
+        ≡ given Lines (cond a (cond b (heardAfter (u .machine) rest) (heardRefused (u .number))) (heardRefused (p .number)))
+    go true e true f q = ap (λ (l : List ℕ). lineAfter (u .machine) ++ l) q ∙ sym (after-line (u .machine) rest)
+    go true e false f q = sym (refused-line (u .number) (eqb-false (u .number) 0 f))
+    go false e b f q = sym (refused-line (p .number) (eqb-false (p .number) 0 e))
+
+lines-machines : (ms : List Machine) → givenMachines Lines ms ≡ linesAfter ms
+unfolding givenMachines givenAfter linesAfter
+lines-machines [] = refl
+lines-machines (m ∷ ms) = rw (lines-machines ms)
+
+lines-given : (h : Heard) → given Lines h ≡ linesHeard h
+unfolding given givenEnd givenRefused linesHeard
+lines-given h = rw (lines-machines (h .machines))
+
+pub printed-heard : (k : ℕ) (m : Machine) (memory : Memory) (commands : Commands) → printed k m memory commands ≡ linesHeard (heard k m memory commands)
+printed-heard k m memory commands = printed-given k m memory commands ∙ lines-given (heard k m memory commands)
+
+-- As frames they are the frames of the machines that are heard.
+frames-machines : (ms : List Machine) → givenMachines Frames ms ≡ framesOf ms
+unfolding givenMachines givenAfter framesOf
+frames-machines [] = refl
+frames-machines (m ∷ ms) = rw (frames-machines ms)
+
+frames-end : (n : ℕ) → givenEnd Frames n ≡ []
+unfolding givenEnd givenRefused
+frames-end n = go (eqb n 0)
+  where
+    go : (b : Bool) → _≡_ {A = List ℕ} (cond b [] []) []
+    go true = refl
+    go false = refl
+
+pub frames-given : (h : Heard) → given Frames h ≡ framesOf (h .machines)
+unfolding given
+frames-given h = rw (frames-end (h .number)) (append-nil (givenMachines Frames (h .machines)) ∙ frames-machines (h .machines))

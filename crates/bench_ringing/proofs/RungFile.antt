@@ -1,6 +1,6 @@
 -- The steps from what reading a text answers and leaves are the whole program's output.
 -- Assumes nothing.
-use mathlib.Core.Path.{_≡_, refl, _∙_, ap}
+use mathlib.Core.Path.{_≡_, refl, sym, _∙_, ap}
 use mathlib.Core.Bool.{Bool, true, false, cond}
 use mathlib.Core.List.{List, [], _∷_}
 use Prim.Native.Nat.{ℕ, _≤_}
@@ -23,7 +23,8 @@ use Rattle.bench_file.specs.BenchFile.{withWord, Reading, unread, withLine, wit
 use Rattle.bench_file.proofs.FewCommands.{few-commands}
 use Rattle.bench_ringing.specs.Ringing.{printed, memoryAtFirst, outputOf}
 use Rattle.bench_ringing.specs.Steps.{Ringing, untilDone, rungFrom}
-use Rattle.bench_ringing.proofs.Printing.{steps-are-output}
+use Rattle.bench_ringing.specs.declared.Output.the-variants.{Lines}
+use Rattle.bench_ringing.proofs.Printing.{steps-are-given, printed-given}
 
 -- What reading answers and leaves, by question 9.
 module _ (text m room : List ℕ) where
@@ -42,10 +43,11 @@ module _ (text m room : List ℕ) where
       go : (b : Bool) → isBenchFile text ≡ b → rungFrom (told b) ≡ cond b (printed (fileOf text .passes) (fileOf text .machine) memoryAtFirst (fileOf text .commands)) (refusalLine 9)
       go true e =
           let file = fileOf text in
-          let r : Ringing = record { passes = file .passes; machine = file .machine; memory = memoryAtFirst; commands = file .commands } in
-          ap (λ (l : List ℕ). untilDone (file .passes) (record { passes = file .passes; machine = file .machine; memory = memoryAtFirst; commands = l }))
+          let r : Ringing = record { passes = file .passes; machine = file .machine; memory = memoryAtFirst; commands = file .commands; number = 0 } in
+          ap (λ (l : List ℕ). untilDone Lines (file .passes) (record { passes = file .passes; machine = file .machine; memory = memoryAtFirst; commands = l; number = 0 }))
           (first-part (file .commands) room (omega (arith, few-commands text e)))
-          ∙ steps-are-output (file .passes) r (omega arith)
+          ∙ steps-are-given Lines (file .passes) r (omega arith)
+          ∙ sym (printed-given (file .passes) (file .machine) memoryAtFirst (file .commands))
       go false e = refl
 
   -- The commands that were read have room, which keeps its length.
@@ -88,3 +90,13 @@ pub read-machine : (text m room : List ℕ) → length m ≡ machineLength → l
 unfolding readOf fileOf
 read-machine text m room h =
     of-cond (λ (a : Answer). length (a .machine) ≡ machineLength) (isBenchFile text) (counted-length (withLines unread (linesOf text) .machine) ∙ lines-length unread (linesOf text) ∙ fresh-length) h
+
+-- As the code has them: the commands that were read lie within their room, and the machine is as long as a machine is.
+pub read-within : (text m room : List ℕ) {number passes count : ℕ} {m' room' : List ℕ} → length room ≡ commandPlaces
+    → record { number = number; passes = passes; count = count; machine = m'; room = room' } ≡ readOf text m room → count ≤ length room'
+read-within text m room h e =
+    omega (arith, read-count text m room, read-room text m room, ap (λ (a : Answer). a .count) e, ap (λ (a : Answer). length (a .room)) e)
+
+pub read-whole : (text m room : List ℕ) {number passes count : ℕ} {m' room' : List ℕ} → length m ≡ machineLength
+    → record { number = number; passes = passes; count = count; machine = m'; room = room' } ≡ readOf text m room → machineLength ≡ length m'
+read-whole text m room h e = sym (ap (λ (a : Answer). length (a .machine)) e ∙ read-machine text m room h)

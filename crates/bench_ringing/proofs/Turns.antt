@@ -24,9 +24,13 @@ use Rattle.lists.proofs.Choices.{of-cond}
 use Rattle.lists.proofs.Parts.{part-from}
 use Rattle.bench_text.specs.Text.{refusalLine}
 use Rattle.bench_text.proofs.Lines.{pass-line-length, refusal-line-length}
+use Rattle.wave_format.proofs.Numbers.{frame-length}
 use Rattle.bench_pass.specs.ByNumber.{passed}
 use Rattle.bench_ringing.specs.Ringing.{lineAfter}
-use Rattle.bench_ringing.specs.Steps.{Lined, Ringing, Step, stepOf, commandsTaken}
+use Rattle.bench_ringing.specs.Heard.{frameAfter}
+use Rattle.bench_ringing.specs.Steps.{Lined, givenAfter, givenRefused, Ringing, Step, stepOf, commandsTaken}
+use Rattle.bench_ringing.specs.declared.Output.{Output}
+use Rattle.bench_ringing.specs.declared.Output.the-variants.{Lines, Frames}
 
 -- A place past the end of the commands leaves none, as their end does.
 pub start-end : (cs : List ℕ) (from : ℕ) → length cs < from → drop (length cs) cs ≡ drop from cs
@@ -63,7 +67,7 @@ lined m cs q e =
     })
 
 -- A step by its passes and by the two numbers.
-module _ (r : Ringing) where
+module _ (o : Output) (r : Ringing) where
   abbrev pass : Passed
   pass = passed (r .machine) (r .memory)
 
@@ -71,38 +75,39 @@ module _ (r : Ringing) where
   update = updateOf (pass .machine) (r .commands)
 
   module _ (some : r .passes ≢ 0) where
-    pub by-pass : pass .number ≢ 0 → stepOf r ≡ record { bytes = refusalLine (pass .number); next = record { passes = 0; machine = pass .machine; memory = pass .memory; commands = r .commands } }
+    pub by-pass : pass .number ≢ 0
+        → stepOf o r ≡ record { bytes = givenRefused o (pass .number); next = record { passes = 0; machine = pass .machine; memory = pass .memory; commands = r .commands; number = pass .number } }
     unfolding stepOf
     by-pass h = rw (ne-eqb (r .passes) 0 some, ne-eqb (pass .number) 0 h)
 
     module _ (z : pass .number ≡ 0) where
       pub by-update : update .number ≢ 0
-          → stepOf r ≡ record { bytes = refusalLine (update .number); next = record { passes = 0; machine = update .machine; memory = pass .memory; commands = update .rest } }
+          → stepOf o r ≡ record { bytes = givenRefused o (update .number); next = record { passes = 0; machine = update .machine; memory = pass .memory; commands = update .rest; number = update .number } }
       unfolding stepOf
       by-update h = rw (ne-eqb (r .passes) 0 some, eq-eqb (pass .number) 0 z, ne-eqb (update .number) 0 h)
 
       pub by-both : update .number ≡ 0
-          → stepOf r ≡ record { bytes = lineAfter (update .machine); next = record { passes = r .passes - 1; machine = update .machine; memory = pass .memory; commands = update .rest } }
+          → stepOf o r ≡ record { bytes = givenAfter o (update .machine); next = record { passes = r .passes - 1; machine = update .machine; memory = pass .memory; commands = update .rest; number = 0 } }
       unfolding stepOf
       by-both h = rw (ne-eqb (r .passes) 0 some, eq-eqb (pass .number) 0 z, eq-eqb (update .number) 0 h)
 
--- What a step promises: its line's length, the line at the start of its buffer, what is left to ring, and the commands taken then.
-module _ (r : Ringing) (line : List ℕ) (from : ℕ) where
+-- What a step promises: the length of what it gives out, that at the start of its buffer, what is left to ring, and the commands taken then.
+module _ (o : Output) (r : Ringing) (line : List ℕ) (from : ℕ) where
   abbrev pub Stepped : List ℕ → ℕ → Ringing → ℕ → Type 0
   Stepped line' size next taken =
-      (size ≡ length (stepOf r .bytes))
-      × ((line' ≡ sets line 0 (stepOf r .bytes)) × ((next ≡ stepOf r .next) × (taken ≡ from + commandsTaken r (stepOf r))))
+      (size ≡ length (stepOf o r .bytes))
+      × ((line' ≡ sets line 0 (stepOf o r .bytes)) × ((next ≡ stepOf o r .next) × (taken ≡ from + commandsTaken r (stepOf o r))))
 
-  stepped : (bytes : List ℕ) {line' : List ℕ} {size taken : ℕ} {next : Ringing} → stepOf r ≡ record { bytes = bytes; next = next }
+  stepped : (bytes : List ℕ) {line' : List ℕ} {size taken : ℕ} {next : Ringing} → stepOf o r ≡ record { bytes = bytes; next = next }
       → (size ≡ length bytes) × (line' ≡ sets line 0 bytes) → taken ≡ from + (length (r .commands) - length (next .commands)) → Stepped line' size next taken
   stepped bytes e (es, el) et = rw e (es, (el, (refl, et)))
 
   module _ (some : r .passes ≢ 0) {n : ℕ} {after memory : List ℕ} (en : n ≡ passed (r .machine) (r .memory) .number) (ea : after ≡ passed (r .machine) (r .memory) .machine)
       (ey : memory ≡ passed (r .machine) (r .memory) .memory) where
     -- The pass is refused.
-    pub step-refused : n ≢ 0 → {line' : List ℕ} {size : ℕ} → (size ≡ length (refusalLine n)) × (line' ≡ sets line 0 (refusalLine n))
-        → Stepped line' size (record { passes = 0; machine = after; memory = memory; commands = r .commands }) from
-    step-refused h puts = stepped (refusalLine n) (by-pass r some (λ e. h (en ∙ e)) ∙ rw (← en, ea, ey)) puts (omega arith)
+    pub step-refused : n ≢ 0 → {line' : List ℕ} {size : ℕ} → (size ≡ length (givenRefused o n)) × (line' ≡ sets line 0 (givenRefused o n))
+        → Stepped line' size (record { passes = 0; machine = after; memory = memory; commands = r .commands; number = n }) from
+    step-refused h puts = stepped (givenRefused o n) (by-pass o r some (λ e. h (en ∙ e)) ∙ rw (← en, ea, ey)) puts (omega arith)
 
     module _ (z : n ≡ 0) {k count : ℕ} {last left : List ℕ} (eu : record { number = k; machine = last; rest = left } ≡ updateOf after (r .commands))
         (ec : count ≡ takenCount after (r .commands)) where
@@ -110,55 +115,78 @@ module _ (r : Ringing) (line : List ℕ) (from : ℕ) where
       updated = eu ∙ ap (λ (l : List ℕ). updateOf l (r .commands)) ea
 
       number-is : k ≡ updateOf (passed (r .machine) (r .memory) .machine) (r .commands) .number
-      number-is = ap (λ (o : Outcome). o .number) updated
+      number-is = ap (λ (u : Outcome). u .number) updated
 
       taken-is : from + count ≡ from + (length (r .commands) - length left)
-      taken-is = ap (λ (i : ℕ). from + i) (ec ∙ ap (λ (o : Outcome). length (r .commands) - length (o .rest)) (sym eu))
+      taken-is = ap (λ (i : ℕ). from + i) (ec ∙ ap (λ (u : Outcome). length (r .commands) - length (u .rest)) (sym eu))
 
       -- The update is refused.
-      pub step-update-refused : k ≢ 0 → {line' : List ℕ} {size : ℕ} → (size ≡ length (refusalLine k)) × (line' ≡ sets line 0 (refusalLine k))
-          → Stepped line' size (record { passes = 0; machine = last; memory = memory; commands = left }) (from + count)
+      pub step-update-refused : k ≢ 0 → {line' : List ℕ} {size : ℕ} → (size ≡ length (givenRefused o k)) × (line' ≡ sets line 0 (givenRefused o k))
+          → Stepped line' size (record { passes = 0; machine = last; memory = memory; commands = left; number = k }) (from + count)
       step-update-refused h puts =
-          stepped (refusalLine k)
-          (by-update r some (sym en ∙ z) (λ e. h (number-is ∙ e)) ∙ rw (← updated, ← ey))
+          stepped (givenRefused o k)
+          (by-update o r some (sym en ∙ z) (λ e. h (number-is ∙ e)) ∙ rw (← updated, ← ey))
           puts taken-is
 
       -- Neither is.
-      pub step-goes : k ≡ 0 → {line' : List ℕ} {size : ℕ} → (size ≡ length (lineAfter last)) × (line' ≡ sets line 0 (lineAfter last))
-          → Stepped line' size (record { passes = r .passes - 1; machine = last; memory = memory; commands = left }) (from + count)
+      pub step-goes : k ≡ 0 → {line' : List ℕ} {size : ℕ} → (size ≡ length (givenAfter o last)) × (line' ≡ sets line 0 (givenAfter o last))
+          → Stepped line' size (record { passes = r .passes - 1; machine = last; memory = memory; commands = left; number = k }) (from + count)
       step-goes h puts =
-          stepped (lineAfter last)
-          (by-both r some (sym en ∙ z) (sym number-is ∙ h) ∙ rw (← updated, ← ey))
+          stepped (givenAfter o last)
+          (by-both o r some (sym en ∙ z) (sym number-is ∙ h) ∙ rw (← updated, ← ey, h))
           puts taken-is
 
--- A step's line has at most 51 bytes.
+-- What a step gives out has at most 51 bytes.
 line-length : (m : List ℕ) → length (lineAfter m) ≤ 51
 unfolding lineAfter
 line-length m = pass-line-length _ _ _
 
-refusal-length : (n : ℕ) → length (refusalLine n) ≤ 51
-refusal-length n = omega (arith, refusal-line-length n)
+pub frame-after-length : (m : List ℕ) → length (frameAfter m) ≡ 6
+unfolding frameAfter
+frame-after-length m = frame-length _ _
+
+given-length : (o : Output) (m : List ℕ) → length (givenAfter o m) ≤ 51
+unfolding givenAfter
+given-length Lines m = line-length m
+given-length Frames m = omega (arith, frame-after-length m)
+
+refused-length : (o : Output) (n : ℕ) → length (givenRefused o n) ≤ 51
+unfolding givenRefused
+refused-length Lines n = omega (arith, refusal-line-length n)
+refused-length Frames n = omega arith
 
 Short : Step → Type 0
 Short s = length (s .bytes) ≤ 51
 
-pub step-length : (r : Ringing) → length (stepOf r .bytes) ≤ 51
+pub step-length : (o : Output) (r : Ringing) → length (stepOf o r .bytes) ≤ 51
 unfolding stepOf Short
-step-length r =
+step-length o r =
     of-cond Short (eqb (r .passes) 0) (omega arith)
     (of-cond Short (eqb (passed (r .machine) (r .memory) .number) 0)
-    (of-cond Short (eqb (updateOf (passed (r .machine) (r .memory) .machine) (r .commands) .number) 0) (line-length _) (refusal-length _))
-    (refusal-length _))
+    (of-cond Short (eqb (updateOf (passed (r .machine) (r .memory) .machine) (r .commands) .number) 0) (given-length o _) (refused-length o _))
+    (refused-length o _))
 
 -- A step takes commands from the front: no more are left than before.
 Fewer : Ringing → Step → Type 0
 Fewer r s = length (s .next .commands) ≤ length (r .commands)
 
-pub step-takes : (r : Ringing) → length (stepOf r .next .commands) ≤ length (r .commands)
+pub step-takes : (o : Output) (r : Ringing) → length (stepOf o r .next .commands) ≤ length (r .commands)
 unfolding stepOf Fewer
-step-takes r =
+step-takes o r =
     let l = left-within (passed (r .machine) (r .memory) .machine) (r .commands) refl in
     of-cond (Fewer r) (eqb (r .passes) 0) (omega arith)
     (of-cond (Fewer r) (eqb (passed (r .machine) (r .memory) .number) 0)
     (of-cond (Fewer r) (eqb (updateOf (passed (r .machine) (r .memory) .machine) (r .commands) .number) 0) l l)
     (omega arith))
+
+-- A step gives out a frame of six bytes, or none.
+OneFrame : Step → Type 0
+OneFrame s = length (s .bytes) ≤ 6
+
+pub frame-step : (r : Ringing) → length (stepOf Frames r .bytes) ≤ 6
+unfolding stepOf givenAfter givenRefused OneFrame
+frame-step r =
+    let p = passed (r .machine) (r .memory) in
+    let u = updateOf (p .machine) (r .commands) in
+    of-cond OneFrame (eqb (r .passes) 0) (omega arith)
+    (of-cond OneFrame (eqb (p .number) 0) (of-cond OneFrame (eqb (u .number) 0) (omega (arith, frame-after-length (u .machine))) (omega arith)) (omega arith))

@@ -1,2 +1,3 @@
 pub mod Ringing
+pub mod Heard
 pub mod Steps

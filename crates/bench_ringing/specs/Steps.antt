@@ -1,4 +1,4 @@
--- The ringing as the code goes: a step, and steps one after another. Readers need only `outputOf`, to which laws join these.
+-- The ringing as the code goes: a step, and steps one after another. Readers need only `outputOf` and `heard`, to which laws join these.
 -- Assumes nothing.
 use Prim.Native.Nat.{ℕ, zero, suc, _-_, _^_, _<_}
 use mathlib.Core.Bool.{Bool, true, false, cond}
@@ -16,7 +16,10 @@ use Rattle.bench_text.specs.Text.{refusalLine}
 use Rattle.bench_file.specs.BenchFile.{Answer}
 use Rattle.bench_pass.specs.ByNumber.{passed}
 use Rattle.bench_ringing.specs.Ringing.{lineAfter, memoryAtFirst}
+use Rattle.bench_ringing.specs.Heard.{frameAfter}
 use Rattle.bench_ringing.specs.declared.Progress.{Progress}
+use Rattle.bench_ringing.specs.declared.Output.{Output}
+use Rattle.bench_ringing.specs.declared.Output.the-variants.{Lines, Frames}
 
 -- What the line asks of a machine: it reaches so far, and the two words have 20 bits.
 pub record Lined (m : Machine) : Type 0 where
@@ -24,33 +27,43 @@ pub record Lined (m : Machine) : Type 0 where
   pub left : getD m (dacAt 0) 0 < 2 ^ 20
   pub right : getD m (dacAt 1) 0 < 2 ^ 20
 
--- A ringing under way: how many passes are left, the machine, delay memory, and the commands still left.
+-- What is given out of a machine after pass and update, and of a refusal: frames end at a refusal without a word.
+unfoldable pub givenAfter : Output → Machine → List ℕ
+givenAfter Lines m = lineAfter m
+givenAfter Frames m = frameAfter m
+
+unfoldable pub givenRefused : Output → ℕ → List ℕ
+givenRefused Lines n = refusalLine n
+givenRefused Frames n = []
+
+-- A ringing under way: how many passes are left, the machine, delay memory, the commands still left, and the number of the refusal that ended it, or 0.
 pub record Ringing : Type 0 where
   pub passes : ℕ
   pub machine : Machine
   pub memory : Memory
   pub commands : Commands
+  pub number : ℕ
 
 -- A progress with its machine, delay memory and all its commands as a ringing under way.
 abbrev pub ringingAt : Progress → Machine → Memory → Commands → Ringing
-ringingAt at m memory commands = record { passes = at .passes; machine = m; memory = memory; commands = drop (at .taken) commands }
+ringingAt at m memory commands = record { passes = at .passes; machine = m; memory = memory; commands = drop (at .taken) commands; number = at .refused }
 
--- A step: the bytes that it prints, and what is left to ring.
+-- A step: the bytes that it gives out, and what is left to ring.
 pub record Step : Type 0 where
   pub bytes : List ℕ
   pub next : Ringing
 
--- One pass and one update; after a refusal no pass is left. With no pass left nothing is printed.
-unfoldable pub stepOf : Ringing → Step
-stepOf r =
+-- One pass and one update; after a refusal no pass is left. With no pass left nothing is given out.
+unfoldable pub stepOf : Output → Ringing → Step
+stepOf o r =
     let p = passed (r .machine) (r .memory) in
     let u = updateOf (p .machine) (r .commands) in
     cond (eqb (r .passes) 0) (record { bytes = []; next = r })
     (cond (eqb (p .number) 0)
     (cond (eqb (u .number) 0)
-    (record { bytes = lineAfter (u .machine); next = record { passes = r .passes - 1; machine = u .machine; memory = p .memory; commands = u .rest } })
-    (record { bytes = refusalLine (u .number); next = record { passes = 0; machine = u .machine; memory = p .memory; commands = u .rest } }))
-    (record { bytes = refusalLine (p .number); next = record { passes = 0; machine = p .machine; memory = p .memory; commands = r .commands } }))
+    (record { bytes = givenAfter o (u .machine); next = record { passes = r .passes - 1; machine = u .machine; memory = p .memory; commands = u .rest; number = 0 } })
+    (record { bytes = givenRefused o (u .number); next = record { passes = 0; machine = u .machine; memory = p .memory; commands = u .rest; number = u .number } }))
+    (record { bytes = givenRefused o (p .number); next = record { passes = 0; machine = p .machine; memory = p .memory; commands = r .commands; number = p .number } }))
 
 -- How many commands a step takes.
 abbrev pub commandsTaken : Ringing → Step → ℕ
@@ -63,14 +76,14 @@ pub record Known (m : Machine) (memory : Memory) (number : ℕ) (took : Bool) : 
   pub memory-good : took ≡ true → memoryGood memory ≡ true
 
 -- The steps one after another until no pass is left, at most k of them.
-unfoldable pub untilDone : ℕ → Ringing → List ℕ
-untilDone zero r = []
-untilDone (suc k) r = let s = stepOf r in cond (eqb (r .passes) 0) [] (s .bytes ++ untilDone k (s .next))
+unfoldable pub untilDone : Output → ℕ → Ringing → List ℕ
+untilDone o zero r = []
+untilDone o (suc k) r = let s = stepOf o r in cond (eqb (r .passes) 0) [] (s .bytes ++ untilDone o k (s .next))
 
 -- The ringing that begins with what reading a text answers and leaves, over a delay memory of zeros.
 abbrev pub begun : Answer → Ringing
-begun a = record { passes = a .passes; machine = a .machine; memory = memoryAtFirst; commands = take (a .count) (a .room) }
+begun a = record { passes = a .passes; machine = a .machine; memory = memoryAtFirst; commands = take (a .count) (a .room); number = 0 }
 
 -- What the steps print from there; a refused text has the line of its refusal.
 unfoldable pub rungFrom : Answer → List ℕ
-rungFrom a = cond (eqb (a .number) 0) (untilDone (a .passes) (begun a)) (refusalLine (a .number))
+rungFrom a = cond (eqb (a .number) 0) (untilDone Lines (a .passes) (begun a)) (refusalLine (a .number))

@@ -12,16 +12,22 @@ ghost use Rattle.machine.specs.Questions.{question1, question2};
 ghost use Rattle.order_lists.specs.Sequences.{byNumber};
 ghost use Rattle.bench_pass.specs.ByNumber.{passed};
 ghost use Rattle.update.specs.Update.{updateOf, takenCount};
-ghost use Rattle.bench_ringing.specs.Ringing.{lineAfter};
-ghost use Rattle.bench_ringing.specs.Steps.{Lined, Known, ringingAt, stepOf, commandsTaken};
+ghost use Rattle.bench_ringing.specs.Steps.{Lined, Known, givenAfter, givenRefused, ringingAt, stepOf, commandsTaken};
 use exponential::Entries;
 use sine::Quarter;
 
-// How far a ringing is: the passes left, the commands taken so far, and the length of the last step's line.
+// What a ringing gives out: lines of text, or frames of sound.
+pub enum Output {
+    Lines,
+    Frames,
+}
+
+// How far a ringing is: the passes left, the commands taken so far, the length of what the last step gave out, and the number of the refusal that ended it, or 0.
 pub struct Progress {
     pub passes: u32,
     pub taken: usize,
     pub length: usize,
+    pub refused: u32,
 }
 
 // Where the commands still left begin, at most at their end.
@@ -44,20 +50,35 @@ fn ring_update(m: &mut [u32], commands: &[u32], from: usize, refused: &mut u32) 
     update::take_commands(m, &commands[start..], refused)
 }
 
-// The line of a machine. Answers its length.
-fn ring_line(m: &[u32], line: &mut [u8; bench_text::LINE_BYTES]) -> usize
+// What is given out of a machine. Answers its length.
+fn put_machine(output: Output, m: &[u32], line: &mut [u8; bench_text::LINE_BYTES]) -> usize
     requires { ⌜ Lined (now m) ⌝ }
-    ensures { λ r. ⌜ r ≡ length (lineAfter (now (m .entry))) ⌝ }
-    ensures { λ _. ⌜ now (line .exit) ≡ sets (now (line .entry)) 0 (lineAfter (now (m .entry))) ⌝ }
+    ensures { λ r. ⌜ r ≡ length (givenAfter output (now (m .entry))) ⌝ }
+    ensures { λ _. ⌜ now (line .exit) ≡ sets (now (line .entry)) 0 (givenAfter output (now (m .entry))) ⌝ }
 {
     let counter = m[layout::COUNTER_AT];
     let left = m[layout::DACS_AT];
     let right = m[layout::DACS_AT + 1];
-    bench_text::pass_line(line, counter, left, right)
+    match output {
+        Output::Lines => bench_text::pass_line(line, counter, left, right),
+        Output::Frames => wave_format::put_frame(line, left, right),
+    }
 }
 
-// One step: a pass and an update, and the line of both or of a refusal. A pass is left, and which question refuses it is known.
+// What is given out of a refusal. Answers its length.
+fn put_refusal(output: Output, number: u32, line: &mut [u8; bench_text::LINE_BYTES]) -> usize
+    ensures { λ r. ⌜ r ≡ length (givenRefused output number) ⌝ }
+    ensures { λ _. ⌜ now (line .exit) ≡ sets (now (line .entry)) 0 (givenRefused output number) ⌝ }
+{
+    match output {
+        Output::Lines => bench_text::refusal_line(line, number),
+        Output::Frames => 0,
+    }
+}
+
+// One step: a pass and an update, and what is given out of both or of a refusal. A pass is left, and which question refuses it is known.
 pub fn step(
+    output: Output,
     at: Progress,
     m: &mut [u32],
     commands: &[u32],
@@ -72,20 +93,21 @@ pub fn step(
     requires { ⌜ now order ≡ byNumber 256 ⌝ }
     requires { ⌜ number ≡ passed (now m) (now memory) .number ⌝ }
     requires { ⌜ (now sine ≡ quarter) × (now decay ≡ entries tableSize) ⌝ }
-    ensures { λ r. ⌜ r .length ≡ length (stepOf (ringingAt at (now (m .entry)) (now (memory .entry)) (now (commands .entry))) .bytes) ⌝ }
-    ensures { λ _. ⌜ now (line .exit) ≡ sets (now (line .entry)) 0 (stepOf (ringingAt at (now (m .entry)) (now (memory .entry)) (now (commands .entry))) .bytes) ⌝ }
-    ensures { λ r. ⌜ ringingAt r (now (m .exit)) (now (memory .exit)) (now (commands .entry)) ≡ stepOf (ringingAt at (now (m .entry)) (now (memory .entry)) (now (commands .entry))) .next ⌝ }
-    ensures { λ r. ⌜ r .taken ≡ at .taken + commandsTaken (ringingAt at (now (m .entry)) (now (memory .entry)) (now (commands .entry))) (stepOf (ringingAt at (now (m .entry)) (now (memory .entry)) (now (commands .entry)))) ⌝ }
+    ensures { λ r. ⌜ r .length ≡ length (stepOf output (ringingAt at (now (m .entry)) (now (memory .entry)) (now (commands .entry))) .bytes) ⌝ }
+    ensures { λ _. ⌜ now (line .exit) ≡ sets (now (line .entry)) 0 (stepOf output (ringingAt at (now (m .entry)) (now (memory .entry)) (now (commands .entry))) .bytes) ⌝ }
+    ensures { λ r. ⌜ ringingAt r (now (m .exit)) (now (memory .exit)) (now (commands .entry)) ≡ stepOf output (ringingAt at (now (m .entry)) (now (memory .entry)) (now (commands .entry))) .next ⌝ }
+    ensures { λ r. ⌜ r .taken ≡ at .taken + commandsTaken (ringingAt at (now (m .entry)) (now (memory .entry)) (now (commands .entry))) (stepOf output (ringingAt at (now (m .entry)) (now (memory .entry)) (now (commands .entry)))) ⌝ }
 {
     // After a refusal no pass is left.
     let ended: u32 = 0;
     let from = at.taken;
     if number != 0 {
-        let length = bench_text::refusal_line(line, number);
+        let length = put_refusal(output, number, line);
         return Progress {
             passes: ended,
             taken: from,
             length,
+            refused: number,
         };
     }
     bench_pass::run(m, memory, order, sine, decay);
@@ -93,19 +115,21 @@ pub fn step(
     let count = ring_update(m, commands, from, &mut refused);
     let taken = at.taken + count;
     if refused != 0 {
-        let length = bench_text::refusal_line(line, refused);
+        let length = put_refusal(output, refused, line);
         return Progress {
             passes: ended,
             taken,
             length,
+            refused,
         };
     }
-    let length = ring_line(m, line);
+    let length = put_machine(output, m, line);
     let passes = at.passes - 1;
     Progress {
         passes,
         taken,
         length,
+        refused,
     }
 }
 

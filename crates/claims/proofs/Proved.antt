@@ -27,6 +27,8 @@ use Rattle.equal_orders.proofs.WorkedExamples.{worked-examples}
 use Rattle.equal_any_order.proofs.AnyOrder.{any-order-says, any-order-refused, one-order, orders-apart}
 use Rattle.equal_any_order.proofs.MarksApart.{marks-equal, forth-sets, back-sets}
 use Rattle.equal_parts.proofs.Parts.{parts-says, none-shown, contents-part}
+use Rattle.wave_format.proofs.Samples.{sample-exact}
+use Rattle.bench_ringing.proofs.Printing.{printed-heard}
 use Rattle.bench_ringing.proofs.RungFile.{file-ticks, rung-file}
 use Rattle.bench_gathering.proofs.Gatherings.{gathered-file}
 use Rattle.claims.specs.Claims.{Claims}
@@ -81,4 +83,6 @@ claims =
       older-exponential = older-exponential;
       steps-are-output = rung-file;
       gathered-are-output = gathered-file;
+      printed-heard = printed-heard;
+      sample-exact = sample-exact;
     }

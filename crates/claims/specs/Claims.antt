@@ -5,7 +5,9 @@ use mathlib.Core.Bool.{true, false}
 use mathlib.Core.List.{List, [], _∷_}
 use mathlib.Core.Logic.{_↔_, _≢_}
 use mathlib.Core.Path.{_≡_}
+use lib.IntN.{pos, _*ℤ_}
 use lib.ListN.{length, getD, set}
+use Rattle.words.specs.Words.{signed}
 use Rattle.layout.specs.Layout.{counterAt, quadrantWords, machineLength, updateTicksAt}
 use Rattle.layout.specs.Machine.{Machine, Order, Items, Commands, Memory, ticksOf, updateTicks, updateTicksOf}
 use Rattle.layout.specs.Widths.{counterBits}
@@ -40,7 +42,8 @@ use Rattle.equal_any_order.specs.MarksApart.{upAndDown}
 use Rattle.equal_parts.specs.Parting.{PartingContents}
 use Rattle.bench_text.specs.Text.{lineBytes}
 use Rattle.bench_file.specs.BenchFile.{commandPlaces, fileOf, readOf}
-use Rattle.bench_ringing.specs.Ringing.{outputOf}
+use Rattle.bench_ringing.specs.Ringing.{printed, outputOf}
+use Rattle.bench_ringing.specs.Heard.{heard, linesHeard}
 use Rattle.bench_ringing.specs.Steps.{rungFrom}
 use Rattle.bench_gathering.specs.Gathering.{printedFrom}
 
@@ -125,3 +128,6 @@ pub record Claims : Type 0 where
   -- The steps of the bench program until no pass is left are its output, for every text; and so are they where they are gathered in a buffer that has room for a line.
   pub steps-are-output : (text m room : List ℕ) → length room ≡ commandPlaces → rungFrom (readOf text m room) ≡ outputOf text
   pub gathered-are-output : (size : ℕ) (text m room : List ℕ) → lineBytes ≤ size → length room ≡ commandPlaces → printedFrom size (readOf text m room) ≡ outputOf text
+  -- What is printed are the lines of the machines that are heard, and that of the refusal that ended them. A sample is its signed word times 16, exactly.
+  pub printed-heard : (passes : ℕ) (m : Machine) (memory : Memory) (commands : Commands) → printed passes m memory commands ≡ linesHeard (heard passes m memory commands)
+  pub sample-exact : (w : ℕ) → w < 2 ^ 20 → signed 24 (16 * w) ≡ pos 16 *ℤ signed 20 w

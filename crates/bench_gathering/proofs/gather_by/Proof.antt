@@ -11,20 +11,20 @@ use Rattle.bench_gathering.proofs.gather_by.Statement.{statement}
 use Rattle.bench_gathering.proofs.gather_by.Tie as tie
 
 abbrev Inv-loop : tie.InvT-loop
-Inv-loop m₀ commands memory₀ order out₀ sine decay passes taken number₀ here₀ m memory out number here =
+Inv-loop output m₀ commands memory₀ order out₀ sine decay passes taken refused number₀ here₀ m memory out number here =
     (length m ≡ length m₀)
     × ((length memory ≡ length memory₀)
     × ((number ≡ passed m memory .number)
-    × Gathering out₀ (record { passes = passes; machine = m₀; memory = memory₀; commands = drop taken commands }) taken out (here .length) (ringingAt here m memory commands) (here .taken)))
+    × Gathering output out₀ (record { passes = passes; machine = m₀; memory = memory₀; commands = drop taken commands; number = refused }) taken out (here .length) (ringingAt here m memory commands) (here .taken)))
 
 abbrev μ-loop : tie.MeasureT-loop
-μ-loop m₀ commands memory₀ order out₀ sine decay passes taken number₀ here₀ m memory out number here = here .passes
+μ-loop output m₀ commands memory₀ order out₀ sine decay passes taken refused number₀ here₀ m memory out number here = here .passes
 
 refusal-requires : tie.Need-refusal-requires Inv-loop μ-loop
 refusal-requires c κs = search needs
 
 loop-holds : tie.Need-loop-holds Inv-loop μ-loop
-loop-holds c = (refl, (refl, (c .refusal .ensures, gathering-begins _ _ _)))
+loop-holds c = (refl, (refl, (c .refusal .ensures, gathering-begins _ _ _ _)))
 
 add-if2 : tie.Need-add-if2 Inv-loop μ-loop
 add-if2 c = omega (arith, c .before .before .before .loop .inv .1 .1 .1 .inside)
@@ -62,7 +62,7 @@ next-number-requires c κs =
     let known = asked .before .before .before in
     let start = known .before .before .before .before .before in
     let a = start .args in
-    known-after (ringingAt (turn .loop .here) (turn .loop .m) (turn .loop .memory) (a .commands .now)) (turn .loop .here .taken) (test .if1 .taken) (turn .loop .inv .1 .1 .0) (stepped .step-into .ensures .1 .1 .0) (stepped .step-into .ensures .1 .1 .1)
+    known-after (a .output) (ringingAt (turn .loop .here) (turn .loop .m) (turn .loop .memory) (a .commands .now)) (turn .loop .here .taken) (test .if1 .taken) (turn .loop .inv .1 .1 .0) (stepped .step-into .ensures .1 .1 .0) (stepped .step-into .ensures .1 .1 .1)
 
 loop-less : tie.Need-loop-less Inv-loop μ-loop
 loop-less c =
@@ -75,7 +75,7 @@ loop-less c =
     let known = asked .before .before .before in
     let start = known .before .before .before .before .before in
     let a = start .args in
-    step-lowers (ringingAt (turn .loop .here) (turn .loop .m) (turn .loop .memory) (a .commands .now)) (test .if1 .taken) (stepped .step-into .ensures .1 .1 .0)
+    step-lowers (a .output) (ringingAt (turn .loop .here) (turn .loop .m) (turn .loop .memory) (a .commands .now)) (test .if1 .taken) (stepped .step-into .ensures .1 .1 .0)
 
 loop-again : tie.Need-loop-again Inv-loop μ-loop
 loop-again c =
@@ -84,9 +84,9 @@ loop-again c =
     let free = stepped .before .before .before .before in
     let test = free .before .before in
     let turn = test .before .before in (
-      stepped .step-into .kept .1 .0 ∙ turn .loop .inv .0,
+      stepped .step-into .kept .1 .1 .0 ∙ turn .loop .inv .0,
       (
-        stepped .step-into .kept .1 .1 .1 .0 ∙ turn .loop .inv .1 .0,
+        stepped .step-into .kept .1 .1 .1 .1 .0 ∙ turn .loop .inv .1 .0,
         (c .next-number .ensures, gathering-goes (turn .loop .inv .1 .1 .1) (test .if1 .taken) (free .if2 .left) (stepped .step-into .ensures)),
       ),
     )

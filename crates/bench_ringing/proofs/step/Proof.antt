@@ -10,8 +10,8 @@ use borrow.Author.Needs.{needs}
 use Rattle.bench_ringing.proofs.step.Statement.{statement}
 use Rattle.bench_ringing.proofs.step.Tie as tie
 
-refusal-line-requires : tie.Need-refusal-line-requires
-refusal-line-requires c κs = search needs
+put-refusal-requires : tie.Need-put-refusal-requires
+put-refusal-requires c κs = search needs
 
 returns : tie.Need-returns
 returns c =
@@ -20,7 +20,7 @@ returns c =
     let a = start .args in
     let n = start .pre .1 .1 .0 in
     let stays = refused-stays (a .m .now) (a .memory .now) (λ e. test .if1 .taken (n ∙ e)) in
-    step-refused (ringingAt (a .at) (a .m .now) (a .memory .now) (a .commands .now)) (a .line .now) (a .at .taken) (start .pre .0) (start .pre .1 .1 .0) (stays .0) (stays .1) (test .if1 .taken) (c .refusal-line .ensures)
+    step-refused (a .output) (ringingAt (a .at) (a .m .now) (a .memory .now) (a .commands .now)) (a .line .now) (a .at .taken) (start .pre .0) (start .pre .1 .1 .0) (stays .0) (stays .1) (test .if1 .taken) (c .put-refusal .ensures)
 
 run-requires : tie.Need-run-requires
 run-requires c κs = search needs
@@ -42,8 +42,8 @@ add-taken c =
     let a = start .args in
     omega (arith, start .good .1 .1 .0 .0, taken-most _ (a .commands .now) (a .at .taken) (updated .ring-update .ensures .0))
 
-refusal-line-requires-2 : tie.Need-refusal-line-requires-2
-refusal-line-requires-2 c κs = search needs
+put-refusal-requires-2 : tie.Need-put-refusal-requires-2
+put-refusal-requires-2 c κs = search needs
 
 same-length : tie.Need-same-length
 same-length c = search needs
@@ -60,10 +60,10 @@ returns-2 c =
     let passes = ran .before .before .before in
     let start = passes .before .before .before .before .before in
     let a = start .args in
-    step-update-refused (ringingAt (a .at) (a .m .now) (a .memory .now) (a .commands .now)) (a .line .now) (a .at .taken) (start .pre .0) (start .pre .1 .1 .0) (ran .run .ensures .0) (ran .run .ensures .1) (passes .if1 .left) (updated .ring-update .ensures .1) (updated .ring-update .ensures .0) (test .if2 .taken) (c .refusal-line2 .ensures)
+    step-update-refused (a .output) (ringingAt (a .at) (a .m .now) (a .memory .now) (a .commands .now)) (a .line .now) (a .at .taken) (start .pre .0) (start .pre .1 .1 .0) (ran .run .ensures .0) (ran .run .ensures .1) (passes .if1 .left) (updated .ring-update .ensures .1) (updated .ring-update .ensures .0) (test .if2 .taken) (c .put-refusal2 .ensures)
 
-ring-line-requires : tie.Need-ring-line-requires
-ring-line-requires c κs =
+put-machine-requires : tie.Need-put-machine-requires
+put-machine-requires c κs =
     let test = c .before .before in
     let updated = test .before .before .before .before in
     let known = updated .before .before .before in
@@ -92,22 +92,22 @@ returns-3 c =
     let passes = ran .before .before .before in
     let start = passes .before .before .before .before .before in
     let a = start .args in
-    step-goes (ringingAt (a .at) (a .m .now) (a .memory .now) (a .commands .now)) (a .line .now) (a .at .taken) (start .pre .0) (start .pre .1 .1 .0) (ran .run .ensures .0) (ran .run .ensures .1) (passes .if1 .left) (updated .ring-update .ensures .1) (updated .ring-update .ensures .0) (test .if2 .left) (line .ring-line .ensures)
+    step-goes (a .output) (ringingAt (a .at) (a .m .now) (a .memory .now) (a .commands .now)) (a .line .now) (a .at .taken) (start .pre .0) (start .pre .1 .1 .0) (ran .run .ensures .0) (ran .run .ensures .1) (passes .if1 .left) (updated .ring-update .ensures .1) (updated .ring-update .ensures .0) (test .if2 .left) (line .put-machine .ensures)
 
 pub step-spec : {M : Type 1} → statement M
 step-spec =
     tie.close
     (tie.spec
-    refusal-line-requires
+    put-refusal-requires
     returns
     run-requires
     ring-update-requires
     add-taken
-    refusal-line-requires-2
+    put-refusal-requires-2
     same-length
     same-length-2
     returns-2
-    ring-line-requires
+    put-machine-requires
     sub-passes
     same-length-3
     same-length-4

@@ -4,7 +4,7 @@ use Prim.Native.Nat.{ℕ}
 use lib.ListN.{replicate, length-replicate}
 use Rattle.layout.specs.Layout.{machineLength}
 use Rattle.bench_file.specs.BenchFile.{commandPlaces}
-use Rattle.ring.proofs.Parts.{read-whole, read-within}
+use Rattle.bench_ringing.proofs.RungFile.{read-whole, read-within}
 use borrow.Author.Needs.{needs}
 use Rattle.ring.proofs.ring.Statement.{statement}
 use Rattle.ring.proofs.ring.Tie as tie

@@ -1,0 +1,52 @@
+-- A ringing as it is heard: the machines that it goes through, up to a refusal. What the bench program prints are the lines of these machines (law `printed-heard`).
+-- Assumes nothing.
+use Prim.Native.Nat.{ℕ, zero, suc}
+use mathlib.Core.Bool.{cond}
+use mathlib.Core.List.{List, [], _∷_, _++_}
+use lib.Dec.{eqb}
+use lib.ListN.{getD}
+use Rattle.layout.specs.Layout.{dacAt}
+use Rattle.layout.specs.Machine.{Machine, Memory, Commands}
+use Rattle.update.specs.Update.{updateOf}
+use Rattle.bench_text.specs.Text.{refusalLine}
+use Rattle.wave_format.specs.WaveFormat.{frame}
+use Rattle.bench_pass.specs.ByNumber.{passed}
+use Rattle.bench_ringing.specs.Ringing.{lineAfter}
+
+-- The machines after each pass and its update, and the number of the refusal that ended the ringing, or 0.
+pub record Heard : Type 0 where
+  pub machines : List Machine
+  pub number : ℕ
+
+abbrev pub heardAfter : Machine → Heard → Heard
+heardAfter m h = record { machines = m ∷ h .machines; number = h .number }
+
+abbrev pub heardRefused : ℕ → Heard
+heardRefused n = record { machines = []; number = n }
+
+-- So many passes, each followed by an update with the commands still left; a refusal ends them. Delay memory goes from pass to pass.
+unfoldable pub heard : ℕ → Machine → Memory → Commands → Heard
+heard zero m memory commands = heardRefused 0
+heard (suc passes) m memory commands =
+    let p = passed m memory in
+    let u = updateOf (p .machine) commands in
+    cond (eqb (p .number) 0)
+    (cond (eqb (u .number) 0) (heardAfter (u .machine) (heard passes (u .machine) (p .memory) (u .rest))) (heardRefused (u .number)))
+    (heardRefused (p .number))
+
+-- The lines of machines, one after another, and of what is heard: a refusal has its own.
+unfoldable pub linesAfter : List Machine → List ℕ
+linesAfter [] = []
+linesAfter (m ∷ ms) = lineAfter m ++ linesAfter ms
+
+unfoldable pub linesHeard : Heard → List ℕ
+linesHeard h = linesAfter (h .machines) ++ cond (eqb (h .number) 0) [] (refusalLine (h .number))
+
+-- The frame of a machine after pass and update: DAC 0 on the left, DAC 1 on the right.
+unfoldable pub frameAfter : Machine → List ℕ
+frameAfter m = frame (getD m (dacAt 0) 0) (getD m (dacAt 1) 0)
+
+-- The frames of machines, one after another.
+unfoldable pub framesOf : List Machine → List ℕ
+framesOf [] = []
+framesOf (m ∷ ms) = frameAfter m ++ framesOf ms

@@ -1,0 +1,104 @@
+-- `bench_streams::read_all` meets its contract: each turn reads at least a byte, and what was read lies within the buffer.
+-- Assumes nothing.
+use mathlib.Core.Path.{_≡_, _∙_}
+use Prim.Native.Nat.{_≤_, _-_}
+use native.Mathlib.Omega.{arith}
+use lib.ListN.{length}
+use borrow.Author.Needs.{needs}
+use Rattle.bench_streams.proofs.Parts.{bytes-within, failed-within, more-within}
+use Rattle.bench_streams.proofs.read_all.Statement.{statement}
+use Rattle.bench_streams.proofs.read_all.Tie as tie
+
+abbrev Inv-loop : tie.InvT-loop
+Inv-loop buffer₀ n₀ buffer n = (length buffer ≡ length buffer₀) × (n ≤ length buffer)
+
+abbrev μ-loop : tie.MeasureT-loop
+μ-loop buffer₀ n₀ buffer n = length buffer - n
+
+loop-holds : tie.Need-loop-holds Inv-loop μ-loop
+loop-holds c = search needs
+
+sub-read-some : tie.Need-sub-read-some Inv-loop μ-loop
+sub-read-some c = search needs
+
+part-read-some-start : tie.Need-part-read-some-start Inv-loop μ-loop
+part-read-some-start c = search needs
+
+part-read-some-end : tie.Need-part-read-some-end Inv-loop μ-loop
+part-read-some-end c = search needs
+
+read-some-requires : tie.Need-read-some-requires Inv-loop μ-loop
+read-some-requires c κs = search needs
+
+enum-known-got : tie.Need-enum-known-got Inv-loop μ-loop
+enum-known-got c = search needs
+
+enum-told : tie.Need-enum-told Inv-loop μ-loop
+enum-told c = search needs
+
+same-length : tie.Need-same-length Inv-loop μ-loop
+same-length c = search needs
+
+returns : tie.Need-returns Inv-loop μ-loop
+returns c = failed-within
+
+same-length-2 : tie.Need-same-length-2 Inv-loop μ-loop
+same-length-2 c = search needs
+
+returns-2 : tie.Need-returns-2 Inv-loop μ-loop
+returns-2 c =
+    let part = c .before .before .before .before .before .before in
+    let loop = part .before .before .before .loop in
+    bytes-within (omega (arith, loop .inv .1, c .before .before .before .before .before .buffer .given .1))
+
+add-n : tie.Need-add-n Inv-loop μ-loop
+add-n c =
+    let part = c .before .before .before .before .before .before in
+    let loop = part .before .before .before .loop in
+    let read = part .read-some in
+    let back = c .before .before .before .before .before .buffer .given in
+    let got = c .before .before .got .given in
+    let more = more-within (loop .buffer) (read .last .0) (loop .n) (got .0 .0) (loop .inv .1) (back .0) (read .ensures (got .0 .0) (got .1)) in
+    record { fits = omega arith }
+
+loop-less : tie.Need-loop-less Inv-loop μ-loop
+loop-less c = omega (arith, c .before .before .before .before .before .buffer .given .1, c .if1 .left)
+
+loop-again : tie.Need-loop-again Inv-loop μ-loop
+loop-again c =
+    let part = c .before .before .before .before .before .before in
+    let loop = part .before .before .before .loop in
+    let read = part .read-some in
+    let back = c .before .before .before .before .before .buffer .given in
+    let got = c .before .before .got .given in
+    let more = more-within (loop .buffer) (read .last .0) (loop .n) (got .0 .0) (loop .inv .1) (back .0) (read .ensures (got .0 .0) (got .1)) in
+    (back .1 ∙ loop .inv .0, omega (arith, back .1))
+
+same-length-3 : tie.Need-same-length-3 Inv-loop μ-loop
+same-length-3 c = search needs
+
+returns-3 : tie.Need-returns-3 Inv-loop μ-loop
+returns-3 c = bytes-within (c .before .loop .inv .1)
+
+pub read-all-spec : {M : Type 1} → statement M
+read-all-spec =
+    tie.close
+    (tie.spec
+    Inv-loop
+    μ-loop
+    loop-holds
+    sub-read-some
+    part-read-some-start
+    part-read-some-end
+    read-some-requires
+    enum-known-got
+    enum-told
+    same-length
+    returns
+    same-length-2
+    returns-2
+    add-n
+    loop-less
+    loop-again
+    same-length-3
+    returns-3)

@@ -1,0 +1,3 @@
+pub mod FewPasses
+pub mod Sounding
+pub mod WholeText

@@ -1,0 +1,146 @@
+-- The header and the frames that are gathered behind it are the file of what is heard.
+-- Assumes nothing.
+use mathlib.Core.Path.{_≡_, refl, sym, _∙_, ap}
+use mathlib.Core.Logic.{_≢_}
+use mathlib.Core.Bool.{Bool, true, false, cond}
+use mathlib.Core.List.{List, [], _∷_, _++_}
+use Prim.Native.Nat.{ℕ, zero, suc, _+_, _*_, _-_, _/_, _^_, _≤_, _<_}
+use native.Mathlib.Omega.{arith}
+use native.Mathlib.Nat.{div-lt-iff-lt-mul}
+use borrow.Author.Tests.{eqb-true, eqb-false, eq-eqb, ne-eqb}
+use lib.Dec.{eqb}
+use lib.ListN.{length, take, drop, length-append, length-drop}
+use lib.Seq.{sets, length-sets, length-take-le}
+use Rattle.layout.specs.Layout.{nAt}
+use Rattle.layout.specs.Machine.{Machine, Memory, Commands}
+use Rattle.pass_model.specs.Pass.{Outcome as Passed}
+use Rattle.update.specs.Update.{Outcome, updateOf}
+use Rattle.bench_pass.specs.ByNumber.{passed}
+use Rattle.sums.proofs.Blocks.{part-back}
+use Rattle.bench_bytes.proofs.Puts.{Put, then, first-part}
+use Rattle.bench_text.specs.Text.{lineBytes}
+use Rattle.bench_lines.specs.Lines.{mostPasses}
+use Rattle.wave_format.specs.WaveFormat.{frameBytes, rateOf, header, headerBytes}
+use Rattle.wave_format.proofs.Numbers.{header-length}
+use Rattle.bench_ringing.specs.Heard.{Heard, heardAfter, heardRefused, heard, frameAfter, framesOf}
+use Rattle.bench_ringing.specs.Steps.{Ringing, Step}
+use Rattle.bench_ringing.specs.declared.Output.the-variants.{Frames}
+use Rattle.bench_ringing.proofs.Turns.{frame-after-length}
+use Rattle.bench_ringing.proofs.Printing.{frames-given, heard-number}
+use Rattle.bench_gathering.specs.Gathering.{gathered}
+use Rattle.bench_gathering.proofs.Gatherings.{frames-whole, frames-number}
+use Rattle.bench_wave.specs.Wave.{waveFile, waveRoom}
+
+-- The rate fits its four bytes, and six times the rate too.
+pub rate-below : (n : ℕ) → 1 ≤ n → rateOf n < 2 ^ 24
+unfolding rateOf
+rate-below n h = div-lt-iff-lt-mul {k = 390 * n} (omega arith) .1 (omega arith)
+
+-- A ringing that no question ends has a frame for each pass.
+pub frames-count : (k : ℕ) (m : Machine) (memory : Memory) (commands : Commands) → heard k m memory commands .number ≡ 0
+    → length (framesOf (heard k m memory commands .machines)) ≡ frameBytes * k
+unfolding heard framesOf
+frames-count zero m memory commands z = refl
+frames-count (suc k) m memory commands z =
+    go (eqb (p .number) 0) refl (eqb (u .number) 0) refl (frames-count k (u .machine) (p .memory) (u .rest)) z
+  where
+    p : Passed
+    p = passed m memory
+
+    u : Outcome
+    u = updateOf (p .machine) commands
+
+    rest : Heard
+    rest = heard k (u .machine) (p .memory) (u .rest)
+
+    all : Bool → Bool → Heard
+    all a b = cond a (cond b (heardAfter (u .machine) rest) (heardRefused (u .number))) (heardRefused (p .number))
+
+    go : (a : Bool) → eqb (p .number) 0 ≡ a → (b : Bool) → eqb (u .number) 0 ≡ b → (rest .number ≡ 0 → length (framesOf (rest .machines)) ≡ 6 * k) → all a b .number ≡ 0
+        → length (framesOf (all a b .machines)) ≡ 6 * suc k
+    go true e true f q y = omega (arith, q y, length-append (frameAfter (u .machine)) (framesOf (rest .machines)), frame-after-length (u .machine))
+    go true e false f q y = absurd (eqb-false (u .number) 0 f y)
+    go false e b f q y = absurd (eqb-false (p .number) 0 e y)
+
+-- A refusal makes no sound; what is heard to its end is the header and the frames.
+pub silent : (n : ℕ) (h : Heard) → h .number ≢ 0 → waveFile n h ≡ []
+unfolding waveFile
+silent n h e = rw (ne-eqb (h .number) 0 e)
+
+whole : (n : ℕ) (h : Heard) → h .number ≡ 0 → waveFile n h ≡ header (rateOf n) (length (framesOf (h .machines))) ++ framesOf (h .machines)
+unfolding waveFile
+whole n h e = rw (eq-eqb (h .number) 0 e)
+
+module _ (n passes : ℕ) (m memory commands : List ℕ) (few : passes ≤ mostPasses) (room : ℕ) (wide : waveRoom - headerBytes ≤ room) where
+  abbrev ringing : Ringing
+  ringing = record { passes = passes; machine = m; memory = memory; commands = commands; number = 0 }
+
+  abbrev rung : Heard
+  rung = heard passes m memory commands
+
+  fits : 6 * passes + lineBytes ≤ room
+  fits = omega arith
+
+  frames-are : gathered Frames room ringing .bytes ≡ framesOf (rung .machines)
+  frames-are = frames-whole room ringing fits ∙ frames-given rung
+
+  ends-with : gathered Frames room ringing .next .number ≡ rung .number
+  ends-with = frames-number room ringing fits ∙ heard-number ringing refl
+
+  -- What was made: the number, the file's length, and the file as the first part of a buffer.
+  abbrev pub Made : ℕ → ℕ → List ℕ → Type 0
+  Made number size out = (number ≡ rung .number) × ((size ≡ length (waveFile n rung)) × (take size out ≡ waveFile n rung))
+
+  pub made-refused : {number : ℕ} (out : List ℕ) → number ≡ gathered Frames room ringing .next .number → number ≢ 0 → Made number 0 out
+  made-refused out e h =
+      let w = silent n rung (λ z. h (e ∙ ends-with ∙ z)) in
+      (e ∙ ends-with, (ap length (sym w), sym w))
+
+  pub made-whole : {number size : ℕ} (out : List ℕ) {headed out' : List ℕ} → length out ≡ waveRoom
+      → headed ≡ sets out 0 (header (rateOf n) (frameBytes * passes))
+      → size ≡ length (gathered Frames room ringing .bytes)
+      → out' ≡ sets headed headerBytes (gathered Frames room ringing .bytes)
+      → number ≡ gathered Frames room ringing .next .number → number ≡ 0 → Made 0 (headerBytes + size) out'
+  made-whole {number} {size} out {headed} {out'} long eh es eo en z =
+      let done : rung .number ≡ 0 = sym (en ∙ ends-with) ∙ z in
+      let count : length (framesOf (rung .machines)) ≡ frameBytes * passes = frames-count passes m memory commands done in
+      let frames = framesOf (rung .machines) in
+      let head = header (rateOf n) (frameBytes * passes) in
+      let text : waveFile n rung ≡ head ++ frames = whole n rung done ∙ ap (λ (i : ℕ). header (rateOf n) i ++ frames) count in
+      let p : Put out 0 head headerBytes headed = record { ends = omega (arith, header-length (rateOf n) (frameBytes * passes)); leaves = eh } in
+      let q : Put headed headerBytes frames (headerBytes + length frames) out' =
+      record { ends = refl; leaves = eo ∙ ap (λ (l : List ℕ). sets headed headerBytes l) frames-are } in
+      let both = then out 0 head frames p q in
+      let total : length (head ++ frames) ≡ headerBytes + size =
+      omega (arith, length-append head frames, header-length (rateOf n) (frameBytes * passes), es, ap length frames-are) in
+      let short : length (head ++ frames) ≤ length out = omega (arith, total, es, ap length frames-are, count, few, long) in (
+        sym done,
+        (
+          sym (ap length text ∙ total),
+          ap (λ (i : ℕ). take i out') (sym total) ∙ ap (take (length (head ++ frames))) (both .leaves) ∙ first-part (head ++ frames) out short ∙ sym text,
+        ),
+      )
+
+-- The header leaves the length of its buffer.
+pub headed-long : (out : List ℕ) {headed : List ℕ} (rate bytes : ℕ) → headed ≡ sets out 0 (header rate bytes) → length headed ≡ length out
+headed-long out rate bytes e = ap length e ∙ length-sets out 0 (header rate bytes)
+
+-- What is gathered in the part behind the header is in the whole buffer behind it.
+pub behind-header : (out : List ℕ) (r : Ringing) {size : ℕ} {part : List ℕ} {next : Ringing} → headerBytes ≤ length out
+    → let lent = take (length out - headerBytes) (drop headerBytes out) in
+    size ≡ length (gathered Frames (length lent) r .bytes) → part ≡ sets lent 0 (gathered Frames (length lent) r .bytes) → next ≡ gathered Frames (length lent) r .next
+    → (size ≡ length (gathered Frames (length out - headerBytes) r .bytes))
+    × ((take headerBytes out ++ (part ++ drop (length out - headerBytes) (drop headerBytes out)) ≡ sets out headerBytes (gathered Frames (length out - headerBytes) r .bytes))
+    × (next .number ≡ gathered Frames (length out - headerBytes) r .next .number))
+behind-header out r {size} {part} {next} h es ep en =
+    let lent = take (length out - headerBytes) (drop headerBytes out) in
+    let k : length lent ≡ length out - headerBytes =
+    length-take-le (length out - headerBytes) (drop headerBytes out) (omega (arith, length-drop headerBytes out)) in
+    let bytes-are : gathered Frames (length lent) r ≡ gathered Frames (length out - headerBytes) r = ap (λ (i : ℕ). gathered Frames i r) k in (
+      es ∙ ap (λ (s : Step). length (s .bytes)) bytes-are,
+      (
+        ap (λ (l : List ℕ). take headerBytes out ++ (l ++ drop (length out - headerBytes) (drop headerBytes out))) (ep ∙ ap (λ (s : Step). sets lent 0 (s .bytes)) bytes-are)
+            ∙ part-back out (gathered Frames (length out - headerBytes) r .bytes) headerBytes h,
+        ap (λ (x : Ringing). x .number) en ∙ ap (λ (s : Step). s .next .number) bytes-are,
+      ),
+    )

@@ -1,0 +1,49 @@
+-- `bench_wave::gather_frames` meets its contract: what is gathered in the part behind the header is in the buffer behind it.
+-- Assumes nothing.
+use Rattle.bench_ringing.specs.Steps.{ringingAt}
+use Rattle.bench_wave.proofs.Sounding.{behind-header}
+use borrow.Author.Needs.{needs}
+use Rattle.bench_wave.proofs.gather_frames.Statement.{statement}
+use Rattle.bench_wave.proofs.gather_frames.Tie as tie
+
+sub-gather : tie.Need-sub-gather
+sub-gather c = search needs
+
+part-gather-start : tie.Need-part-gather-start
+part-gather-start c = search needs
+
+part-gather-end : tie.Need-part-gather-end
+part-gather-end c = search needs
+
+gather-requires : tie.Need-gather-requires
+gather-requires c κs = search needs
+
+same-length : tie.Need-same-length
+same-length c = search needs
+
+same-length-2 : tie.Need-same-length-2
+same-length-2 c = search needs
+
+same-length-3 : tie.Need-same-length-3
+same-length-3 c = search needs
+
+returns : tie.Need-returns
+returns c =
+    let called = c .before .before .before .before .before .before in
+    let known = called .before .before .before .before in
+    let start = known .before .before .before .before in
+    let a = start .args in
+    behind-header (a .out .now) (ringingAt (a .at) (a .m .now) (a .memory .now) (a .commands .now)) (start .pre) (called .gather .ensures .0) (called .gather .ensures .1 .0) (called .gather .ensures .1 .1 .0)
+
+pub gather-frames-spec : {M : Type 1} → statement M
+gather-frames-spec =
+    tie.close
+    (tie.spec
+    sub-gather
+    part-gather-start
+    part-gather-end
+    gather-requires
+    same-length
+    same-length-2
+    same-length-3
+    returns)

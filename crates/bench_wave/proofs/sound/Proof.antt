@@ -1,0 +1,104 @@
+-- `bench_wave::sound` meets its contract: the header is put by the number of passes, the frames behind it, and a refusal makes no file.
+-- Assumes nothing.
+use mathlib.Core.Path.{_≡_, _∙_}
+use mathlib.Core.List.{[]}
+use Prim.Native.Nat.{_-_, _≤_}
+use native.Mathlib.Omega.{arith}
+use lib.ListN.{length, getD}
+use Rattle.layout.specs.Layout.{nAt}
+use Rattle.machine.proofs.SoundMachine.{sound-controls}
+use Rattle.pass_model.proofs.Asked.{is-sound, is-whole}
+use Rattle.wave_format.specs.WaveFormat.{headerBytes, rateOf}
+use Rattle.bench_ringing.specs.Steps.{Ringing}
+use Rattle.bench_ringing.specs.declared.Output.the-variants.{Frames}
+use Rattle.bench_gathering.proofs.Gatherings.{gathered-length}
+use Rattle.bench_wave.specs.Wave.{waveRoom}
+use Rattle.bench_wave.proofs.Sounding.{rate-below, headed-long, made-refused, made-whole}
+use borrow.Author.Needs.{needs}
+use Rattle.bench_wave.proofs.sound.Statement.{statement}
+use Rattle.bench_wave.proofs.sound.Tie as tie
+
+slice-read-n : tie.Need-slice-read-n
+slice-read-n c =
+    let start = c .before .before .before .before in
+    omega (arith, is-whole (start .args .m .now) [] (start .pre .0))
+
+rate-requires : tie.Need-rate-requires
+rate-requires c κs =
+    let start = c .before .before .before .before in
+    let s = sound-controls (start .args .m .now) (is-sound (start .args .m .now) [] (start .pre .0)) in
+    (omega (arith, s .nLow), s .nHigh)
+
+mul-put-header : tie.Need-mul-put-header
+mul-put-header c = search needs
+
+put-header-requires : tie.Need-put-header-requires
+put-header-requires c κs =
+    let start = c .before .before .before .before .before .before in
+    let a = start .args in
+    let s = sound-controls (a .m .now) (is-sound (a .m .now) [] (start .pre .0)) in
+    (search needs, (rw (c .before .rate .ensures) (rate-below (getD (a .m .now) nAt 0) (omega (arith, s .nLow))), omega (arith, start .pre .1)))
+
+gather-frames-requires : tie.Need-gather-frames-requires
+gather-frames-requires c κs = search needs
+
+same-length : tie.Need-same-length
+same-length c = search needs
+
+same-length-2 : tie.Need-same-length-2
+same-length-2 c = search needs
+
+returns : tie.Need-returns
+returns c =
+    let called = c .before .before .before .before .before .before in
+    let put = called .before .before .before .before in
+    let start = put .before .before .before .before .before .before .before in
+    let a = start .args in
+    let long : length (a .out .now) ≡ waveRoom = search needs in
+    let same = headed-long (a .out .now) _ _ (put .put-header .ensures) ∙ long in
+    made-refused (getD (a .m .now) nAt 0) (a .passes) (a .m .now) (a .memory .now) (a .commands .now) (start .pre .1) _ (omega (arith, same)) [] (called .gather-frames .ensures .1 .1) (c .if1 .taken)
+
+add-t23 : tie.Need-add-t23
+add-t23 c =
+    let called = c .before .before .before .before .before .before .before in
+    let put = called .before .before .before .before in
+    let start = put .before .before .before .before .before .before .before in
+    let a = start .args in
+    let long : length (a .out .now) ≡ waveRoom = search needs in
+    let same = headed-long (a .out .now) _ _ (put .put-header .ensures) ∙ long in
+    let r : Ringing = record { passes = a .passes; machine = a .m .now; memory = a .memory .now; commands = a .commands .now; number = 0 } in
+    record { fits = omega (arith, called .gather-frames .ensures .0, same, gathered-length Frames (length (put .put-header .last .0) - headerBytes) r) }
+
+same-length-3 : tie.Need-same-length-3
+same-length-3 c = search needs
+
+same-length-4 : tie.Need-same-length-4
+same-length-4 c = search needs
+
+returns-2 : tie.Need-returns-2
+returns-2 c =
+    let called = c .before .before .before .before .before .before .before in
+    let put = called .before .before .before .before in
+    let rated = put .before .before in
+    let start = rated .before .before .before .before .before in
+    let a = start .args in
+    let long : length (a .out .now) ≡ waveRoom = search needs in
+    let same = headed-long (a .out .now) _ _ (put .put-header .ensures) ∙ long in
+    made-whole (getD (a .m .now) nAt 0) (a .passes) (a .m .now) (a .memory .now) (a .commands .now) (start .pre .1) _ (omega (arith, same)) (a .out .now) long (rw (rated .rate .ensures) at (put .put-header .ensures)) (called .gather-frames .ensures .0) (called .gather-frames .ensures .1 .0) (called .gather-frames .ensures .1 .1) (c .before .if1 .left)
+
+pub sound-spec : {M : Type 1} → statement M
+sound-spec =
+    tie.close
+    (tie.spec
+    slice-read-n
+    rate-requires
+    mul-put-header
+    put-header-requires
+    gather-frames-requires
+    same-length
+    same-length-2
+    returns
+    add-t23
+    same-length-3
+    same-length-4
+    returns-2)

@@ -1,0 +1,89 @@
+-- `bench_wave::wave` meets its contract: a text is refused by 9, by question 2, or rung.
+-- Assumes nothing.
+use mathlib.Core.Path.{sym, _∙_}
+use mathlib.Core.List.{[]}
+use Prim.Native.Nat.{ℕ}
+use lib.ListN.{replicate, length-replicate}
+use Rattle.layout.specs.Layout.{machineLength}
+use Rattle.bench_file.specs.BenchFile.{commandPlaces}
+use Rattle.bench_ringing.proofs.RungFile.{read-whole, read-within}
+use Rattle.bench_wave.proofs.WholeText.{few-read, told-no, told-questions, told-rung, zeros-at-first}
+use borrow.Author.Needs.{needs}
+use Rattle.bench_wave.proofs.wave.Statement.{statement}
+use Rattle.bench_wave.proofs.wave.Tie as tie
+
+read-requires : tie.Need-read-requires
+read-requires c κs = search needs
+
+returns : tie.Need-returns
+returns c =
+    let file = c .before .before in
+    told-no (file .before .before .before .before .args .text .now) (replicate machineLength 0) (replicate commandPlaces 0) (file .read .ensures) [] (c .if1 .taken)
+
+slice-aggregate-refusal : tie.Need-slice-aggregate-refusal
+slice-aggregate-refusal c =
+    let file = c .before .before .before in
+    read-whole (file .before .before .before .before .args .text .now) (replicate machineLength 0) (replicate commandPlaces 0) (length-replicate {A = ℕ} machineLength 0) (file .read .ensures)
+
+refusal-requires : tie.Need-refusal-requires
+refusal-requires c κs = search needs
+
+returns-2 : tie.Need-returns-2
+returns-2 c =
+    let asked = c .before in
+    let left = asked .before .before in
+    let file = left .before .before in
+    told-questions (file .before .before .before .before .args .text .now) (replicate machineLength 0) (replicate commandPlaces 0) (file .read .ensures) (left .if1 .left) [] (asked .refusal .ensures) (c .if2 .taken)
+
+slice-aggregate-sound : tie.Need-slice-aggregate-sound
+slice-aggregate-sound c =
+    let file = c .before .before .before .before .before .before in
+    read-whole (file .before .before .before .before .args .text .now) (replicate machineLength 0) (replicate commandPlaces 0) (length-replicate {A = ℕ} machineLength 0) (file .read .ensures)
+
+sub-sound : tie.Need-sub-sound
+sub-sound c = search needs
+
+part-sound-start : tie.Need-part-sound-start
+part-sound-start c = search needs
+
+part-sound-end : tie.Need-part-sound-end
+part-sound-end c =
+    let lent = c .before in
+    let file = lent .before .before .before .before .before .before in
+    read-within (file .before .before .before .before .args .text .now) (replicate machineLength 0) (replicate commandPlaces 0) (length-replicate {A = ℕ} commandPlaces 0) (file .read .ensures)
+
+slice-aggregate-sound-2 : tie.Need-slice-aggregate-sound-2
+slice-aggregate-sound-2 c = search needs
+
+sound-requires : tie.Need-sound-requires
+sound-requires c κs =
+    let left = c .before .before .before .before .before in
+    let asked = left .before in
+    let file = asked .before .before .before .before in
+    (sym (asked .refusal .ensures) ∙ left .if2 .left, few-read (file .before .before .before .before .args .text .now) (replicate machineLength 0) (replicate commandPlaces 0) (file .read .ensures))
+
+returns-3 : tie.Need-returns-3
+returns-3 c =
+    let sounded = c .before .before in
+    let left = sounded .before .before .before .before .before .before in
+    let asked = left .before in
+    let passed = asked .before .before in
+    let file = passed .before .before in
+    told-rung (file .before .before .before .before .args .text .now) (replicate machineLength 0) (replicate commandPlaces 0) (file .read .ensures) (passed .if1 .left) _ (length-replicate {A = ℕ} commandPlaces 0) (sym (asked .refusal .ensures) ∙ left .if2 .left) (rw zeros-at-first at (sounded .sound .ensures))
+
+pub wave-spec : {M : Type 1} → statement M
+wave-spec =
+    tie.close
+    (tie.spec
+    read-requires
+    returns
+    slice-aggregate-refusal
+    refusal-requires
+    returns-2
+    slice-aggregate-sound
+    sub-sound
+    part-sound-start
+    part-sound-end
+    slice-aggregate-sound-2
+    sound-requires
+    returns-3)

@@ -1,0 +1,115 @@
+// A bench file as sound: a RIFF/WAVE file in a buffer. A refusal anywhere leaves none.
+ghost use mathlib.Core.Path.{_≡_};
+ghost use mathlib.Core.List.{[], _∷_};
+ghost use Prim.Native.Nat.{_-_, _≤_};
+ghost use lib.ListN.{length, getD, take, drop};
+ghost use lib.Seq.{sets};
+ghost use Rattle.layout.specs.Layout.{nAt};
+ghost use Rattle.questions.specs.Questions.{asked};
+ghost use Rattle.machine.specs.Questions.{question1, question2};
+ghost use Rattle.wave_format.specs.WaveFormat.{headerBytes};
+ghost use Rattle.bench_lines.specs.Lines.{mostPasses};
+ghost use Rattle.bench_ringing.specs.Heard.{heard};
+ghost use Rattle.bench_ringing.specs.Steps.{ringingAt};
+ghost use Rattle.bench_ringing.specs.declared.Output.the-variants.{Frames};
+ghost use Rattle.bench_gathering.specs.Gathering.{gathered};
+ghost use Rattle.bench_wave.specs.Wave.{heardText, waveFile, waveOf};
+use bench_ringing::Output;
+use bench_ringing::Progress;
+
+// The room for the longest file: 44 bytes of header, 6 for each of 65,535 passes, and 64 that a step asks to be free.
+pub const WAVE_ROOM: usize = 393318;
+
+// What was made of a text: the number of its refusal or 0, and the length of its file.
+pub struct Made {
+    pub number: u32,
+    pub length: usize,
+}
+
+// The frames of a ringing, in a buffer behind the header.
+fn gather_frames(
+    at: Progress,
+    m: &mut [u32],
+    commands: &[u32],
+    memory: &mut [u32],
+    out: &mut [u8],
+) -> Progress
+    requires { ⌜ headerBytes ≤ length (now out) ⌝ }
+    ensures { λ r. ⌜ r .length ≡ length (gathered Frames (length (now (out .entry)) - headerBytes) (ringingAt at (now (m .entry)) (now (memory .entry)) (now (commands .entry))) .bytes) ⌝ }
+    ensures { λ r. ⌜ now (out .exit) ≡ sets (now (out .entry)) headerBytes (gathered Frames (length (now (out .entry)) - headerBytes) (ringingAt at (now (m .entry)) (now (memory .entry)) (now (commands .entry))) .bytes) ⌝ }
+    ensures { λ r. ⌜ r .refused ≡ gathered Frames (length (now (out .entry)) - headerBytes) (ringingAt at (now (m .entry)) (now (memory .entry)) (now (commands .entry))) .next .number ⌝ }
+{
+    bench_gathering::gather(
+        Output::Frames,
+        at,
+        m,
+        commands,
+        memory,
+        &mut out[wave_format::HEADER_BYTES..],
+    )
+}
+
+// The file of a machine that passes questions 1 and 2.
+fn sound(
+    m: &mut [u32],
+    commands: &[u32],
+    memory: &mut [u32],
+    passes: u32,
+    out: &mut [u8; WAVE_ROOM],
+) -> Made
+    requires { ⌜ asked (question1 (now m) ∷ question2 (now m) ∷ []) ≡ 0 ⌝ }
+    requires { ⌜ passes ≤ mostPasses ⌝ }
+    ensures { λ r. ⌜ r .number ≡ heard passes (now (m .entry)) (now (memory .entry)) (now (commands .entry)) .number ⌝ }
+    ensures { λ r. ⌜ r .length ≡ length (waveFile (getD (now (m .entry)) nAt 0) (heard passes (now (m .entry)) (now (memory .entry)) (now (commands .entry)))) ⌝ }
+    ensures { λ r. ⌜ take (r .length) (now (out .exit)) ≡ waveFile (getD (now (m .entry)) nAt 0) (heard passes (now (m .entry)) (now (memory .entry)) (now (commands .entry))) ⌝ }
+{
+    let n = m[layout::N_AT];
+    let rate = wave_format::rate(n);
+    wave_format::put_header(out, rate, 6 * passes);
+    let at = Progress {
+        passes,
+        taken: 0,
+        length: 0,
+        refused: 0,
+    };
+    let end = gather_frames(at, m, commands, memory, out);
+    // A refusal makes no sound.
+    let silent: usize = 0;
+    if end.refused != 0 {
+        return Made {
+            number: end.refused,
+            length: silent,
+        };
+    }
+    Made {
+        number: 0,
+        length: wave_format::HEADER_BYTES + end.length,
+    }
+}
+
+// The file of a text, rung over a delay memory of zeros: the first bytes of the buffer. A refused text has none.
+pub fn wave(text: &[u8], out: &mut [u8; WAVE_ROOM]) -> Made
+    ensures { λ r. ⌜ r .number ≡ heardText (now (text .entry)) .number ⌝ }
+    ensures { λ r. ⌜ r .length ≡ length (waveOf (now (text .entry)) .output) ⌝ }
+    ensures { λ r. ⌜ take (r .length) (now (out .exit)) ≡ waveOf (now (text .entry)) .output ⌝ }
+{
+    let mut m = [0u32; layout::MACHINE_LENGTH];
+    let mut room = [0u32; bench_file::COMMAND_PLACES];
+    let mut memory = [0u32; layout::MEMORY_WORDS];
+    let file = bench_file::read(text, &mut m, &mut room);
+    if file.number != 0 {
+        return Made {
+            number: file.number,
+            length: 0,
+        };
+    }
+    let first = machine::refusal(&m);
+    if first != 0 {
+        return Made {
+            number: first,
+            length: 0,
+        };
+    }
+    let count = file.count;
+    sound(&mut m, &room[0..count], &mut memory, file.passes, out)
+}

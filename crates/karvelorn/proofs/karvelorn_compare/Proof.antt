@@ -1,0 +1,28 @@
+-- `karvelorn::karvelorn_compare` meets its contract: the answer is compare's, and a truth value becomes 1 or 0.
+-- Assumes nothing.
+use mathlib.Core.Path.{_≡_, refl, ap, _∙_}
+use mathlib.Core.Bool.{Bool, true, false, cond}
+use Prim.Native.Nat.{ℕ}
+use mir.Val.{boolByte}
+use borrow.Author.Needs.{needs}
+use Rattle.compare.specs.Compare.{Comparison}
+use Rattle.karvelorn.proofs.karvelorn_compare.Statement.{statement}
+use Rattle.karvelorn.proofs.karvelorn_compare.Tie as tie
+
+number : (b : Bool) → boolByte b ≡ cond b 1 0
+number true = refl
+number false = refl
+
+compare-requires : tie.Need-compare-requires
+compare-requires c κs = search needs
+
+cast-equal : tie.Need-cast-equal
+cast-equal c = search needs
+
+returns : tie.Need-returns
+returns c =
+    let e = c .before .compare .ensures in
+    (ap (λ (x : Comparison). x .number) e, number (c .before .compare .result .equal) ∙ ap {B = ℕ} (λ (x : Comparison). cond (x .equal) 1 0) e)
+
+pub karvelorn-compare-spec : {M : Type 1} → statement M
+karvelorn-compare-spec = tie.close (tie.spec compare-requires cast-equal returns)

@@ -1,0 +1,10 @@
+-- A file that is the first part of a buffer lies within it.
+-- Assumes nothing.
+use mathlib.Core.Path.{_≡_, ap, _∙_}
+use mathlib.Core.List.{List}
+use Prim.Native.Nat.{ℕ, _≤_}
+use native.Mathlib.Omega.{arith}
+use lib.ListN.{length, take, length-take}
+
+pub file-within : (out file : List ℕ) {size : ℕ} → size ≡ length file → take size out ≡ file → size ≤ length out
+file-within out file {size} es et = omega (arith, es, ap length et, length-take size out)

@@ -1,0 +1,36 @@
+-- `wave_format::put_data_head` meets its contract: a text and a number.
+-- Assumes nothing.
+use Rattle.bench_bytes.proofs.Puts.{done}
+use Rattle.wave_format.proofs.Numbers as numbers
+use borrow.Author.Needs.{needs}
+use Rattle.wave_format.proofs.put_data_head.Statement.{statement}
+use Rattle.wave_format.proofs.put_data_head.Tie as tie
+
+slice-aggregate-put : tie.Need-slice-aggregate-put
+slice-aggregate-put c = search needs
+
+put-requires : tie.Need-put-requires
+put-requires c κs = search needs
+
+put-number-requires : tie.Need-put-number-requires
+put-number-requires c κs = search needs
+
+same-length : tie.Need-same-length
+same-length c = search needs
+
+returns : tie.Need-returns
+returns c =
+    let size = c .before .before in
+    let start = size .before .before .before .before in
+    let a = start .before .before .before .before .args in
+    numbers.put-data-head (a .out .now) 36 (a .bytes) (done (start .put .ensures)) (numbers.number-put 4 _ (size .put-number .ensures))
+
+pub put-data-head-spec : {M : Type 1} → statement M
+put-data-head-spec =
+    tie.close
+    (tie.spec
+    slice-aggregate-put
+    put-requires
+    put-number-requires
+    same-length
+    returns)

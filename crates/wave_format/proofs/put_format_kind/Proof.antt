@@ -1,0 +1,46 @@
+-- `wave_format::put_format_kind` meets its contract: four texts, one after another.
+-- Assumes nothing.
+use Rattle.bench_bytes.proofs.Puts.{done}
+use Rattle.wave_format.proofs.Numbers as numbers
+use borrow.Author.Needs.{needs}
+use Rattle.wave_format.proofs.put_format_kind.Statement.{statement}
+use Rattle.wave_format.proofs.put_format_kind.Tie as tie
+
+slice-aggregate-put : tie.Need-slice-aggregate-put
+slice-aggregate-put c = search needs
+
+put-requires : tie.Need-put-requires
+put-requires c κs = search needs
+
+put-number-requires : tie.Need-put-number-requires
+put-number-requires c κs = search needs
+
+put-number-requires-2 : tie.Need-put-number-requires-2
+put-number-requires-2 c κs = search needs
+
+put-number-requires-3 : tie.Need-put-number-requires-3
+put-number-requires-3 c κs = search needs
+
+same-length : tie.Need-same-length
+same-length c = search needs
+
+returns : tie.Need-returns
+returns c =
+    let fourth = c .before .before in
+    let third = fourth .before .before .before .before in
+    let second = third .before .before .before .before in
+    let first = second .before .before .before .before in
+    let a = first .before .before .before .before .args in
+    numbers.put-kind (a .out .now) 12 (done (first .put .ensures)) (numbers.number-put 4 16 (second .put-number .ensures)) (numbers.number-put 2 1 (third .put-number2 .ensures)) (numbers.number-put 2 2 (fourth .put-number3 .ensures))
+
+pub put-format-kind-spec : {M : Type 1} → statement M
+put-format-kind-spec =
+    tie.close
+    (tie.spec
+    slice-aggregate-put
+    put-requires
+    put-number-requires
+    put-number-requires-2
+    put-number-requires-3
+    same-length
+    returns)

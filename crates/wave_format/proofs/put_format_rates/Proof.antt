@@ -1,0 +1,45 @@
+-- `wave_format::put_format_rates` meets its contract: four numbers, one after another.
+-- Assumes nothing.
+use Rattle.wave_format.proofs.Numbers as numbers
+use borrow.Author.Needs.{needs}
+use Rattle.wave_format.proofs.put_format_rates.Statement.{statement}
+use Rattle.wave_format.proofs.put_format_rates.Tie as tie
+
+put-number-requires : tie.Need-put-number-requires
+put-number-requires c κs = search needs
+
+mul-put-number : tie.Need-mul-put-number
+mul-put-number c = search needs
+
+put-number-requires-2 : tie.Need-put-number-requires-2
+put-number-requires-2 c κs = search needs
+
+put-number-requires-3 : tie.Need-put-number-requires-3
+put-number-requires-3 c κs = search needs
+
+put-number-requires-4 : tie.Need-put-number-requires-4
+put-number-requires-4 c κs = search needs
+
+same-length : tie.Need-same-length
+same-length c = search needs
+
+returns : tie.Need-returns
+returns c =
+    let fourth = c .before .before in
+    let third = fourth .before .before .before .before in
+    let second = third .before .before .before .before in
+    let first = second .before .before .before .before in
+    let a = first .before .before .before .args in
+    numbers.put-rates (a .out .now) 24 (a .rate) (numbers.number-put 4 _ (first .put-number .ensures)) (numbers.number-put 4 _ (second .put-number2 .ensures)) (numbers.number-put 2 6 (third .put-number3 .ensures)) (numbers.number-put 2 24 (fourth .put-number4 .ensures))
+
+pub put-format-rates-spec : {M : Type 1} → statement M
+put-format-rates-spec =
+    tie.close
+    (tie.spec
+    put-number-requires
+    mul-put-number
+    put-number-requires-2
+    put-number-requires-3
+    put-number-requires-4
+    same-length
+    returns)

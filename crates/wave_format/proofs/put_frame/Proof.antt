@@ -1,0 +1,39 @@
+-- `wave_format::put_frame` meets its contract: two samples, one after another.
+-- Assumes nothing.
+use Rattle.wave_format.proofs.Numbers as numbers
+use borrow.Author.Needs.{needs}
+use Rattle.wave_format.proofs.put_frame.Statement.{statement}
+use Rattle.wave_format.proofs.put_frame.Tie as tie
+
+mul-put-number : tie.Need-mul-put-number
+mul-put-number c = search needs
+
+put-number-requires : tie.Need-put-number-requires
+put-number-requires c κs = search needs
+
+mul-put-number-2 : tie.Need-mul-put-number-2
+mul-put-number-2 c = search needs
+
+put-number-requires-2 : tie.Need-put-number-requires-2
+put-number-requires-2 c κs = search needs
+
+same-length : tie.Need-same-length
+same-length c = search needs
+
+returns : tie.Need-returns
+returns c =
+    let right = c .before .before in
+    let left = right .before .before .before .before in
+    let a = left .before .before .before .args in
+    numbers.put-frame (a .out .now) (a .left) (a .right) (numbers.number-put 3 _ (left .put-number .ensures)) (numbers.number-put 3 _ (right .put-number2 .ensures))
+
+pub put-frame-spec : {M : Type 1} → statement M
+put-frame-spec =
+    tie.close
+    (tie.spec
+    mul-put-number
+    put-number-requires
+    mul-put-number-2
+    put-number-requires-2
+    same-length
+    returns)

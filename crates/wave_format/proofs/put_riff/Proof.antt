@@ -1,0 +1,49 @@
+-- `wave_format::put_riff` meets its contract: three texts, one after another.
+-- Assumes nothing.
+use Rattle.bench_bytes.proofs.Puts.{done}
+use Rattle.wave_format.proofs.Numbers as numbers
+use borrow.Author.Needs.{needs}
+use Rattle.wave_format.proofs.put_riff.Statement.{statement}
+use Rattle.wave_format.proofs.put_riff.Tie as tie
+
+slice-aggregate-put : tie.Need-slice-aggregate-put
+slice-aggregate-put c = search needs
+
+put-requires : tie.Need-put-requires
+put-requires c κs = search needs
+
+add-put-number : tie.Need-add-put-number
+add-put-number c = search needs
+
+put-number-requires : tie.Need-put-number-requires
+put-number-requires c κs = search needs
+
+slice-aggregate-put-2 : tie.Need-slice-aggregate-put-2
+slice-aggregate-put-2 c = search needs
+
+put-requires-2 : tie.Need-put-requires-2
+put-requires-2 c κs = search needs
+
+same-length : tie.Need-same-length
+same-length c = search needs
+
+returns : tie.Need-returns
+returns c =
+    let end = c .before .before in
+    let size = end .before .before .before .before .before in
+    let start = size .before .before .before .before in
+    let a = start .before .before .before .before .args in
+    numbers.put-riff (a .out .now) (a .bytes) (done (start .put .ensures)) (numbers.number-put 4 _ (size .put-number .ensures)) (done (end .put2 .ensures))
+
+pub put-riff-spec : {M : Type 1} → statement M
+put-riff-spec =
+    tie.close
+    (tie.spec
+    slice-aggregate-put
+    put-requires
+    add-put-number
+    put-number-requires
+    slice-aggregate-put-2
+    put-requires-2
+    same-length
+    returns)

@@ -1,0 +1,338 @@
+#!/usr/bin/env python3
+"""From a table of partials to a bench file, with a report of what the registers make of each.
+
+    python3 tools/partials.py TABLE -o FILE [--rate HZ | --seconds S] [--passes N] [--gain DB]
+
+TABLE has a line `name,hz,db,t60` or `name,hz,db,t60,channel` and then one for each partial: its name, its frequency in
+Hz, its level in dB (0 is the most that one generator gives), the time in seconds in which it falls by 60 dB, and `left`,
+`right` or `both` (the default). One row may have `noise` as its frequency: the stroke, noise whose peak has that level.
+Lines that start with # are skipped.
+
+The rate in passes a second is 10^9 / (195 N): --rate asks for the nearest one, --seconds for the N with which the passes
+last so long (N = 265 where neither is given). --gain DB is added to all levels; without it the levels are lowered, if need
+be, until the sum of all peaks fits the 20 bits of a DAC. The report goes to standard output; an error says what is wrong
+and where, writes nothing and ends with status 1.
+"""
+
+import argparse
+import csv
+import math
+import os
+import sys
+import tempfile
+from dataclasses import dataclass, field
+
+TICK = 195e-9
+MOST_BYTES, MOST_PASSES, GENERATORS, N_LEAST, N_MOST = 65536, 65535, 256, 2, 1025
+FULL = 4095 * 4093 / 64  # the peak of a generator at its loudest
+RANGE = 2 ** 19 - 1  # the most that a DAC word holds
+HALVING = 20 * math.log10(2)  # a halving in dB; the envelope halves for each 2^20 of GQ
+CENTS, LEVEL, DECAY = 1.0, 0.5, 0.05  # what counts as reached: within so many cents, dB, and so much of the decay
+QUIET = 200  # levels are within so many dB
+QUIETEST = 16  # a peak below which rounding to whole numbers changes the decay by more than that
+MASKED = 0.035  # a quieter partial is masked where the lines of louder ones may reach so much of its peak: then its decay may be off by 5 %
+STEPS = 1024  # so many steps of the envelope make a halving: the size of the exponential's table
+
+TO_DAC, RUNNING = 0b0010, 0b1111
+LEVEL_PLUS_EXPONENTIAL, SINE, SQUARE = 0b11, 0b0000, 0b0010
+NOISE, FOUR_QUADRANT, MIXING, REPLACE = 0b00010, 0b11000, 0b10100, 1 << 6
+GENERATOR_LAST, MODIFIER_LAST, MODIFIER_THIS = 0 << 6, 1 << 6, 2 << 6
+SILENT = GENERATOR_LAST | 63  # a word that nothing adds into: no frequency modulation
+UNITY = 1 << 18  # a coefficient that with a scale of 1 multiplies by exactly 1
+T_AT, N_AT = 4113, 4114
+
+
+class Wrong(Exception):
+    """What is wrong with a table or with what is asked for."""
+
+
+@dataclass
+class Row:
+    """A row of the table, and what the registers make of it."""
+    name: str
+    hz: float  # 0 for noise
+    db: float
+    t60: float
+    channel: str
+    line: int
+    generators: list = field(default_factory=list)
+    gj: int = 0
+    gm: int = 0
+    gp: int = 0
+    gq: int = 0
+
+    @property
+    def noise(self):
+        return self.hz == 0
+
+
+def number(text, what, line, least, most=math.inf):
+    """A number of the table, above the least and below the most."""
+    try:
+        value = float(text)
+    except ValueError:
+        raise Wrong(f"line {line}: {what} is not a number: {text!r}") from None
+    if not least < value < most:
+        raise Wrong(f"line {line}: {what} must be above {least:g}{'' if most == math.inf else f' and below {most:g}'}: {text}")
+    return value
+
+
+def read_table(path):
+    """The rows of a table."""
+    try:
+        with open(path, encoding="utf-8", newline="") as file:
+            lines = [(i, row) for i, row in enumerate(csv.reader(file), 1) if row and not row[0].lstrip().startswith("#")]
+    except (OSError, UnicodeDecodeError, csv.Error) as error:
+        raise Wrong(f"{path} can't be read: {error}") from None
+    if not lines or [cell.strip() for cell in lines[0][1]] not in (["name", "hz", "db", "t60"], ["name", "hz", "db", "t60", "channel"]):
+        raise Wrong("the first line must be name,hz,db,t60 or name,hz,db,t60,channel")
+    rows, width = [], len(lines[0][1])
+    for line, cells in lines[1:]:
+        cells = [cell.strip() for cell in cells]
+        if len(cells) != width:
+            raise Wrong(f"line {line}: {len(cells)} columns where the first line has {width}")
+        name, hz, db, t60, channel = cells if width == 5 else cells + ["both"]
+        if not name or name in (row.name for row in rows):
+            raise Wrong(f"line {line}: a name that is empty or was there before: {name!r}")
+        if channel not in ("left", "right", "both"):
+            raise Wrong(f"line {line}: the channel must be left, right or both: {channel!r}")
+        rows.append(Row(name, 0.0 if hz == "noise" else number(hz, "the frequency", line, 0), number(db, "the level", line, -QUIET, QUIET), number(t60, "the decay", line, 0), channel, line))
+    if not rows:
+        raise Wrong("the table has no partial")
+    if sum(row.noise for row in rows) > 1:
+        raise Wrong("the table has more than one row of noise")
+    if any(row.noise and row.channel != "both" for row in rows):
+        raise Wrong("noise goes to both channels")
+    return rows
+
+
+def wave_peak(gm):
+    """The amplitude of the fundamental of a sine whose magnitude is shifted right by gm places."""
+    quarter = [min(4095, int(4096 * math.sin((2 * j + 1) * math.pi / 8192))) >> gm for j in range(2048)]
+    return sum(w * math.sin((2 * j + 1) * math.pi / 8192) for j, w in enumerate(quarter)) / 1024
+
+
+PEAKS = [wave_peak(gm) for gm in range(10)]
+
+
+def envelope(gq):
+    """V of envelope mode 11 with GL 0: the exponential of GQ's high bits."""
+    h = gq * STEPS >> 20
+    return int(4093 * 2 ** (-(h % STEPS) / STEPS)) >> (h // STEPS)
+
+
+def set_registers(row, rate, gain):
+    """GJ, GM, GP and GQ that come nearest to a row."""
+    peak = FULL * 10 ** ((row.db + gain) / 20)
+    row.gp = round(min(60 / HALVING * 2 ** 20 / (rate * row.t60), 2 ** 19 - 1))
+    if row.noise:
+        level = peak / 128  # peaks of noise times envelope: 4 * 32 * V
+    else:
+        row.gj = round(row.hz / rate * 2 ** 20) << 8
+        row.gm = max([gm for gm in range(len(PEAKS)) if peak * 64 / PEAKS[gm] <= 4093] or [0])
+        level = peak * 64 / PEAKS[row.gm]
+    row.gq = min(2 ** 24 - 1, max(0, round(math.log2(4093 / level) * 2 ** 20)))
+
+
+def peak_of(row):
+    """The peak of a row as its registers hold it."""
+    return 128 * envelope(row.gq) if row.noise else PEAKS[row.gm] * envelope(row.gq) / 64
+
+
+def lines_of(row, rate):
+    """The lines that a row's steps leave in the spectrum: frequency and peak. The envelope falls in steps, the wave is read at the high 13 of GK's 20 bits, and its magnitude is cut to whole numbers."""
+    j = row.gj >> 8
+    hz, peak = j / 2 ** 20 * rate, peak_of(row)
+    for k in range(1, 33):
+        yield from ((hz + side * k * row.gp * STEPS / 2 ** 20 * rate, peak * (2 ** (1 / STEPS) - 1) / (2 * math.pi * k)) for side in (1, -1))
+        yield from ((hz + side * k * j % 128 / 128 * rate, peak / (8192 * k)) for side in (1, -1))
+        yield (2 * k + 1) * hz, peak * 2 / math.pi * 2 ** row.gm / (4096 * (2 * k + 1))
+
+
+def masked(row, rows, rate, seconds):
+    """Whether the lines of louder partials may reach so much of a row's peak that its level or decay can't be told."""
+    reach = 0.0
+    for louder in rows:
+        if row.noise or louder.noise or peak_of(louder) <= peak_of(row) or {louder.channel, row.channel} == {"left", "right"}:
+            continue
+        width = 3 * math.log(10) * (1 / louder.t60 + 1 / row.t60) + 2 / seconds
+        for hz, peak in lines_of(louder, rate):
+            apart = abs(min(hz % rate, -hz % rate) - row.hz)
+            reach += peak * min(1.0, width / (2 * math.pi * apart + 1e-9))
+    return reach > MASKED * peak_of(row)
+
+
+def reached(row, rows, rate, gain, seconds):
+    """What a row becomes, of all rows: its Hz and how many cents that is off, its dB, its decay, and what isn't reached."""
+    hz = (row.gj >> 8) / 2 ** 20 * rate
+    cents = 0.0 if row.noise or hz == 0 else 1200 * math.log2(hz / row.hz)
+    peak = peak_of(row)
+    db = 20 * math.log10(peak / FULL) - gain if peak else -math.inf
+    t60 = 60 / HALVING * 2 ** 20 / (rate * row.gp) if row.gp else math.inf
+    missed = []
+    if abs(cents) > CENTS or (hz == 0 and not row.noise):
+        missed.append("frequency")
+    if abs(db - row.db) > LEVEL:
+        missed.append("level")
+    if abs(t60 / row.t60 - 1) > DECAY:
+        missed.append("decay")
+    if peak < QUIETEST:
+        missed.append("too quiet to decay evenly")
+    if masked(row, rows, rate, seconds):
+        missed.append("masked by the steps of louder ones")
+    return hz, cents, db, t60, missed
+
+
+def add_generator(words, g, run, go=0, gj=0, gm=0, gp=0, gq=0, gsum=0, gfm=SILENT, wave=SINE):
+    gmode = run << 6 | LEVEL_PLUS_EXPONENTIAL << 4 | wave
+    for j, value in enumerate((go, gj, 0, 0, gm, gp, gq, 0, gsum, gfm, gmode)):
+        words[11 * g + j] = value
+
+
+def add_modifier(words, m, function, m0=0, m1=0, l0=0, l1=0, a=0, b=0, to=0, aa=0, bb=0):
+    for j, value in enumerate((m0 << 10, m1 << 10, l0, l1, a, b, REPLACE | to, function << 4 | aa << 2 | bb)):
+        words[2816 + 8 * m + j] = value
+
+
+def lay_out(rows, n):
+    """The words of the machine. Sum word 0 is the left channel and 1 the right; where all partials are on both, 0 is both."""
+    apart = any(row.channel != "both" for row in rows)
+    words, g = {}, 0
+    noise = [row for row in rows if row.noise]
+    for row in rows:
+        for gsum in [] if row.noise else {"left": [0], "right": [1], "both": [0, 1] if apart else [0]}[row.channel]:
+            add_generator(words, g, RUNNING, gj=row.gj, gm=row.gm, gp=row.gp, gq=row.gq, gsum=gsum)
+            row.generators.append(g)
+            g += 1
+    sources = [GENERATOR_LAST | 0, GENERATOR_LAST | (1 if apart else 0)]
+    for row in noise:
+        # The envelope is a constant wave in word 2; modifiers make noise, its product with the envelope, and the mixes.
+        add_generator(words, g, RUNNING, gp=row.gp, gq=row.gq, gsum=2, wave=SQUARE)
+        row.generators.append(g)
+        g += 1
+        add_modifier(words, 0, NOISE, m0=4093, l0=12345, l1=1, to=0, aa=2)
+        add_modifier(words, 4, FOUR_QUADRANT, m1=UNITY, a=MODIFIER_THIS | 0, b=GENERATOR_LAST | 2, to=1, aa=2, bb=1)
+        for side in (0, 1):
+            add_modifier(words, 8 + side, MIXING, m0=UNITY, m1=UNITY, a=sources[side], b=MODIFIER_THIS | 1, to=2 + side, aa=1, bb=1)
+        sources = [MODIFIER_LAST | 2, MODIFIER_LAST | 3]
+    for side, source in enumerate(sources):
+        add_generator(words, g, TO_DAC, go=side, gfm=source)
+        g += 1
+    t = max(g, 20) if noise else g
+    if g > GENERATORS:
+        raise Wrong(f"{g} generators are needed, two of them for the DACs, and there are {GENERATORS}")
+    if n < t + 8:
+        raise Wrong(f"a pass of {n} ticks is too short for {t} generators: {t + 8} are needed, or a lower rate")
+    words[T_AT], words[N_AT] = t, n
+    return words
+
+
+def ticks(rate, seconds, passes):
+    """N by the wanted rate or length."""
+    if rate is not None and seconds is not None:
+        raise Wrong("ask for a rate or for a length, not for both")
+    n = 265
+    if rate is not None:
+        n = round(1 / (TICK * rate)) if rate > 0 else 0
+    if seconds is not None:
+        n = round(seconds / (TICK * passes)) if passes else 0
+    if not N_LEAST <= n <= N_MOST:
+        raise Wrong(f"that needs passes of {n} ticks, and N goes from {N_LEAST} to {N_MOST}: rates from {1 / TICK / N_MOST:.0f} to {1 / TICK / N_LEAST:.0f} Hz, at most {N_MOST * TICK * MOST_PASSES:.1f} s")
+    return n
+
+
+def sum_of_peaks(rows):
+    """The most that a channel's word can be asked to hold."""
+    return max(sum(peak_of(row) for row in rows if row.channel in (side, "both")) for side in ("left", "right"))
+
+
+def fit(rows, rate, gain):
+    """Sets the registers of all rows; answers the gain. Where none is asked for, it is lowered until the sum of all peaks fits."""
+    for row in rows:
+        if not row.noise and row.hz >= rate / 2:
+            raise Wrong(f"line {row.line}: {row.name} at {row.hz:g} Hz needs more than {2 * row.hz:.0f} passes a second, and there are {rate:.0f}")
+    loudest = max(row.db for row in rows)
+    most = min(-loudest, 0.0) if gain is None else gain
+    while True:
+        for row in rows:
+            set_registers(row, rate, most)
+        if gain is not None or sum_of_peaks(rows) <= RANGE:
+            return most
+        most -= 20 * math.log10(sum_of_peaks(rows) / RANGE) + 0.01
+
+
+def report(rows, n, passes, gain):
+    """The lines of the report."""
+    rate = 1 / (TICK * n)
+    yield f"{passes} passes of N = {n} ticks: {rate:.2f} passes a second, {passes / rate:.3f} s; gain {gain:.2f} dB"
+    width = max(len(row.name) for row in rows)
+    yield f"{'partial':{width}}  generators       Hz   cents      dB    off  T60 in s    off  not reached with the registers' steps"
+    for row in rows:
+        hz, cents, db, t60, missed = reached(row, rows, rate, gain, passes / rate)
+        pitch = f"{'noise':>9} {'':7}" if row.noise else f"{hz:9.3f} {cents:+7.3f}"
+        yield f"{row.name:{width}}  {','.join(map(str, row.generators)):>10} {pitch} {db:7.2f} {db - row.db:+6.2f}  {t60:8.3f} {100 * (t60 / row.t60 - 1):+5.1f}%  {', '.join(missed)}".rstrip()
+    over = 20 * math.log10(sum_of_peaks(rows) / RANGE)
+    for row in rows:
+        if row.gq == 0 and row.db + gain > 0.01:
+            yield f"clips: {row.name} is louder than a generator can be, by {row.db + gain:.2f} dB"
+    yield f"clips: the sum of all peaks is {over:.2f} dB above the 20 bits of a DAC" if over > 0 else f"nothing clips: the sum of all peaks is {-over:.2f} dB below the 20 bits of a DAC"
+
+
+def bench_text(words, passes):
+    """The bench file. Words that a fresh machine has anyway are left out."""
+    text = f"passes={passes}\n" + "".join(f"word={place}:{value}\n" for place, value in sorted(words.items()) if value)
+    if len(text) > MOST_BYTES:
+        raise Wrong(f"the bench file would have {len(text)} bytes, more than {MOST_BYTES}")
+    return text
+
+
+def write_whole(path, text):
+    """A file that is there whole or not at all."""
+    try:
+        handle, temporary = tempfile.mkstemp(dir=os.path.dirname(path) or ".")
+        with os.fdopen(handle, "w", encoding="ascii") as file:
+            file.write(text)
+        os.chmod(temporary, 0o644)
+        os.replace(temporary, path)
+    except OSError as error:
+        raise Wrong(f"{path} can't be written: {error.strerror}") from None
+
+
+def make(table, passes=MOST_PASSES, rate=None, seconds=None, gain=None):
+    """The bench file of a table, and the report's lines; its rows, with their registers, and N and the gain."""
+    rows = read_table(table)
+    if not 0 <= passes <= MOST_PASSES:
+        raise Wrong(f"a file has 0 to {MOST_PASSES} passes: {passes}")
+    n = ticks(rate, seconds, passes)
+    gain = fit(rows, 1 / (TICK * n), gain)
+    if sum_of_peaks(rows) == 0:
+        raise Wrong("nothing would be heard: every partial is too quiet")
+    text = bench_text(lay_out(rows, n), passes)
+    return text, list(report(rows, n, passes, gain)), rows, n, gain
+
+
+def finite(text):
+    """A number on the command line."""
+    if not abs(float(text)) < 1e9:
+        raise ValueError
+    return float(text)
+
+
+def main():
+    parser = argparse.ArgumentParser(description=__doc__.split("\n")[0])
+    parser.add_argument("table")
+    parser.add_argument("-o", dest="file", required=True)
+    parser.add_argument("--passes", type=int, default=MOST_PASSES)
+    for option in ("--rate", "--seconds", "--gain"):
+        parser.add_argument(option, type=finite)
+    asked = parser.parse_args()
+    try:
+        text, lines, _, _, _ = make(asked.table, asked.passes, asked.rate, asked.seconds, asked.gain)
+        write_whole(asked.file, text)
+    except Wrong as wrong:
+        sys.exit(f"partials: {asked.table}: {wrong}")
+    print("\n".join(lines))
+
+
+if __name__ == "__main__":
+    main()
