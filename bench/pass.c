@@ -278,7 +278,7 @@ __attribute__((noinline)) uint32_t plain_pass(uint32_t *m, size_t words, const u
     memset(m + SUMS, 0, sizeof s);
     memcpy(m + SUMS + 64, s[GENERATOR_THIS], sizeof s[0]);
     memcpy(m + SUMS + 192, s[MODIFIER_THIS], sizeof s[0]);
-    m[COUNTER] = LOW(m[COUNTER] + 1, 20);
+    m[COUNTER]++;
     return 0;
 }
 

@@ -64,7 +64,7 @@ static uint32_t update_ticks(uint32_t t, uint32_t n) { return n > t + OVERHEAD_T
 SHARED int sound_machine(const uint32_t *m) {
     uint32_t bad = bad_generators(m) | bad_modifiers(m) | bad_delays(m);
     for (int i = SUMS; i <= DX; i++) bad |= m[i] >> 20;
-    bad |= m[COUNTER] >> 20 | m[LINGER_PASS] >> 20 | m[LINGERING] >> 1 | m[OVERRUN] >> 1;
+    bad |= m[LINGER_PASS] >> 20 | m[LINGERING] >> 1 | m[OVERRUN] >> 1;
     return !bad && m[T] >= 1 && m[T] <= 256 && m[N] >= 2 && m[N] <= 1025 && m[UPDATE_TICKS] == update_ticks(m[T], m[N]);
 }
 

@@ -153,7 +153,7 @@ __attribute__((noinline)) uint32_t plain_update(uint32_t *m, size_t words, const
 #else
     (void)sound_machine;
 #endif
-    if (m[LINGERING] && m[COUNTER] != m[LINGER_PASS]) return 0;
+    if (m[LINGERING] && (m[COUNTER] & 0xFFFFF) != m[LINGER_PASS]) return 0;
     m[LINGERING] = 0;
     size_t most = m[UPDATE_TICKS];
     for (size_t i = 0; i < count && i < most; i++) {

@@ -10,8 +10,8 @@
  *     word=4113:2
  *     command=3FFC0800
  *
- * Each pass, with the update after it, prints the pass counter and what DAC 0 and DAC 1 play. A refusal prints
- * refused=N and ends: N is the question's number in karvelorn.h, or 9 for a file that is not a bench file.
+ * Each pass, with the update after it, prints the pass counter, 32 bits, and what DAC 0 and DAC 1 play. A refusal
+ * prints refused=N and ends: N is the question's number in karvelorn.h, or 9 for a file that is not a bench file.
  *
  * With the argument --clipped the line of a pass goes on with the generator-this words that left their range in it:
  *

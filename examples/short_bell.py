@@ -68,7 +68,7 @@ words[4113], words[4114] = T, N
 
 
 def timer_linger(number):
-    """TIMER with TT 10: no further commands until the pass counter is the number."""
+    """TIMER with TT 10: no further commands until the low 20 bits of the pass counter are the number."""
     return number << 12 | 0b00010 << 7 | 0b10 << 3
 
 

@@ -53,7 +53,7 @@
  *   4112           DX (20)
  *   4113           T, the processing ticks, 1 to 256
  *   4114           N, all ticks of a pass, 2 to 1025
- *   4115           the pass counter (20)
+ *   4115           the pass counter (32): every word is good
  *   4116           lingering, 0 or 1
  *   4117           the Linger pass (20)
  *   4118           overrun, 0 or 1
@@ -141,8 +141,8 @@ uint32_t karvelorn_pass(uint32_t *machine, size_t words, const uint32_t *order, 
 
 /* One update: commands change the machine between two passes. They are taken one after the other from the first on, at
  * most as many as the update ticks, N-T-8 or none if that is negative, by N and T as the update begins. While the
- * machine lingers and the counter isn't the Linger pass, none is taken and nothing changes; otherwise lingering ends,
- * and commands are taken until a Linger waits or the ticks or the commands end.
+ * machine lingers and the counter's low 20 bits aren't the Linger pass, none is taken and nothing changes; otherwise
+ * lingering ends, and commands are taken until a Linger waits or the ticks or the commands end.
  *
  *   machine, words          the machine, and its length: KARVELORN_WORDS; the update changes it in place
  *   commands, commands_len  the commands. There may be more than are taken
@@ -159,8 +159,8 @@ uint32_t karvelorn_pass(uint32_t *machine, size_t words, const uint32_t *order, 
  *   data(20)                  00000 RR xx W P S   MISC: RR 01 loads DX; W makes each run mode 1001 a 1111, P each 0001
  *   data(16) P(4)             00001 UU unit(5)    DLY: UU 00 loads X and clears Y, 01 loads Y with 65535 minus the
  *                                                 data, 10 loads Z and P
- *   data(20)                  00010 xx TT xxx     TIMER: TT 01 sets the counter, 10 is a Linger, 11 clears the counter
- *                                                 and is a Linger
+ *   data(20)                  00010 xx TT xxx     TIMER: TT 01 sets the counter, its high 12 bits to 0, 10 is a
+ *                                                 Linger, 11 clears the counter and is a Linger
  *   x(10) number(10)          00011 xx 0 Q xxx    TICKS: Q 0 sets T to number + 1, Q 1 sets N to number + 2;
  *                                                 either sets the update ticks
  *   data(20)                  001 E generator(8)  GQ, right-adjusted (E 0) or left-adjusted (E 1)
@@ -177,10 +177,10 @@ uint32_t karvelorn_pass(uint32_t *machine, size_t words, const uint32_t *order, 
  *                                                 disables MSUM; C clears L0
  *   R I C x MRM(8) MIN(8)     11111 modifier(7)   MRM and MIN: R and I disable them; C clears L1
  * A right-adjusted load extends the sign; a left-adjusted one takes its low bits from DX's left and clears DX. A Linger
- * at its pass, or 1 to 4096 passes late (modulo 2^20), doesn't wait, and a late one sets overrun; any other waits: it
- * sets lingering and the Linger pass. Not built (3): MISC with S or with RR 10 or 11, DLY with UU 11 or with UU 10 and
- * a P that is not built, TICKS with a 1 in place of its 0, and modes, functions and MIN or MRM top bits that question 2
- * refuses, unless disabled.
+ * is compared with the counter's low 20 bits: at its pass, or 1 to 4096 passes late (modulo 2^20), it doesn't wait, and
+ * a late one sets overrun; any other waits: it sets lingering and the Linger pass. Not built (3): MISC with S or with
+ * RR 10 or 11, DLY with UU 11 or with UU 10 and a P that is not built, TICKS with a 1 in place of its 0, and modes,
+ * functions and MIN or MRM top bits that question 2 refuses, unless disabled.
  */
 uint32_t karvelorn_update(uint32_t *machine, size_t words, const uint32_t *commands, size_t commands_len,
                           size_t *taken);

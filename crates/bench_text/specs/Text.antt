@@ -39,7 +39,7 @@ refusedText = ascii "refused="
 abbrev pub newline : List ℕ
 newline = ascii "\n"
 
--- The line of a pass: the counter, then the words of DAC 0 and DAC 1 as signed numbers.
+-- The line of a pass: the counter, all its 32 bits, then the words of DAC 0 and DAC 1 as signed numbers.
 unfoldable pub passLine : ℕ → ℕ → ℕ → List ℕ
 passLine counter left right = passText ++ (decimal counter ++ (leftText ++ (signedDecimal left ++ (rightText ++ (signedDecimal right ++ newline)))))
 

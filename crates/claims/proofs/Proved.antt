@@ -1,6 +1,8 @@
 -- All claims hold, each by the law that shows it.
 -- Assumes nothing.
 use mathlib.Core.Path.{_≡_, sym, _∙_}
+use lib.ListN.{length-set}
+use Rattle.layout.specs.Layout.{counterAt}
 use Rattle.layout.specs.Machine.{Machine}
 use Rattle.layout.proofs.UpdateTicks.{ticks-exact, ticks-none}
 use Rattle.sine.proofs.Quarter.{magnitude-positive}
@@ -9,6 +11,7 @@ use Rattle.exponential.proofs.Sizes.{older-entry, older-exponential}
 use Rattle.machine.proofs.FreshMachine.{fresh-length, fresh-sound}
 use Rattle.machine.proofs.SoundMachine.{reaches, sound-controls, sound-ticks}
 use Rattle.machine.proofs.Asked.{ticks-disagree}
+use Rattle.machine.proofs.OlderCounter.{older-sound, any-counter}
 use Rattle.delay.proofs.Returns.{line-returns, table-returns}
 use Rattle.pass_model.specs.Pass.{Call, passOf, passRefusal}
 use Rattle.pass_model.proofs.Asked.{refusal-leaves}
@@ -16,12 +19,13 @@ use Rattle.pass_laws.proofs.Passing.{pass-number}
 use Rattle.pass_laws.proofs.PassSound.{pass-sound}
 use Rattle.pass_laws.proofs.PassDelays.{pass-memory, pass-units}
 use Rattle.pass_laws.proofs.PassSettings.{pass-settings}
-use Rattle.pass_laws.proofs.PassCounts.{pass-counts, pass-counter}
+use Rattle.pass_laws.proofs.PassCounts.{pass-counts, pass-counter, pass-low-counter}
 use Rattle.pass_laws.proofs.PassClipped.{pass-marks, pass-mark-bits, refused-unmarked, pass-mark-tells}
 use Rattle.update.proofs.Updating.{at-most}
 use Rattle.update_laws.proofs.SoundCommands.{command-sound}
 use Rattle.update_laws.proofs.UpdateSound.{update-sound}
 use Rattle.update_laws.proofs.Lengths.{command-length, update-length}
+use Rattle.update_laws.proofs.CounterAfter.{timer-sets, timer-clears, lingers-low}
 use Rattle.equal_orders.proofs.Theorem.{demand-3, compare-says, refused-says-no}
 use Rattle.equal_orders.proofs.WorkedExamples.{worked-examples}
 use Rattle.equal_any_order.proofs.AnyOrder.{any-order-says, any-order-refused, one-order, orders-apart}
@@ -32,6 +36,7 @@ use Rattle.bench_ringing.proofs.Printing.{printed-heard}
 use Rattle.bench_ringing.proofs.RungFile.{file-ticks, rung-file}
 use Rattle.bench_gathering.proofs.Gatherings.{gathered-file}
 use Rattle.claims.specs.Claims.{Claims}
+use Rattle.claims.proofs.PrintedNumbers.{number-printed}
 
 -- A pass that answers 0 is refused by no question.
 not-refused : (m : Machine) (call : Call) → passOf m call .number ≡ 0 → passRefusal m call ≡ 0
@@ -68,6 +73,13 @@ claims =
       items-read = λ m call n. pass-counts m call (not-refused m call n) .0;
       items-written = λ m call n. pass-counts m call (not-refused m call n) .1;
       pass-counted = λ m call n. pass-counter m call (not-refused m call n);
+      counter-any = λ m good n l. record { whole = length-set m counterAt n ∙ good .whole; is-sound = any-counter m (good .is-sound) n l };
+      older-good = λ m l e. record { whole = l; is-sound = older-sound m e };
+      low-counted = λ m call n. pass-low-counter m call (not-refused m call n);
+      linger-low = λ m good n k e. lingers-low m (reaches m (good .whole)) n k e;
+      timer-sets = λ m good c e. timer-sets m (reaches m (good .whole)) c e;
+      timer-clears = λ m good c e. timer-clears m (reaches m (good .whole)) c e;
+      counter-printed = number-printed;
       refused-leaves = λ m call n. refusal-leaves m call (λ e. n (pass-number m call ∙ e));
       marks-64 = pass-marks;
       mark-bits = pass-mark-bits;

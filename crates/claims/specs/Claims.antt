@@ -9,13 +9,14 @@ use lib.IntN.{pos, _*ℤ_}
 use lib.ListN.{length, getD, set}
 use Rattle.words.specs.Words.{signed}
 use Rattle.layout.specs.Layout.{counterAt, quadrantWords, machineLength, updateTicksAt}
-use Rattle.layout.specs.Machine.{Machine, Order, Items, Commands, Memory, ticksOf, updateTicks, updateTicksOf}
-use Rattle.layout.specs.Widths.{counterBits}
+use Rattle.layout.specs.Machine.{Machine, Order, Items, Commands, Memory, ticksOf, updateTicks, updateTicksOf, lowCounter}
+use Rattle.layout.specs.Widths.{counterBits, lingerBits}
 use Rattle.questions.specs.Questions.{asked}
 use Rattle.sine.specs.Sine.{magnitude}
 use Rattle.exponential.specs.Exponential.{tableSize, olderSize, within, Largest, entry as exponentialEntry, exponential}
 use Rattle.modes.specs.Modes.{readData, writeData}
 use Rattle.machine.specs.Questions.{question1, question2, freshMachine}
+use Rattle.machine.specs.OlderCounter.{olderSound}
 use Rattle.delay.specs.declared.Delay.{Delay}
 use Rattle.built_codes.specs.BuiltCodes.{line}
 use Rattle.delay.specs.Delay.{due, slot, address}
@@ -28,8 +29,10 @@ use Rattle.pass_model.specs.Clipped.{noMarks, SumLeft}
 use Rattle.pass_model.specs.Pass.{Call, plainCall, passOf}
 use Rattle.pass_laws.specs.Good.{Good}
 use Rattle.pass_laws.specs.Settings.{SettingsKept}
+use Rattle.command_fields.specs.Fields.{dataOf}
+use Rattle.command_timer.specs.Timer.{behind, ttOf, timed}
 use Rattle.command.specs.Command.{afterCommand}
-use Rattle.update.specs.Update.{updateOf, takenCount}
+use Rattle.update.specs.Update.{stillLingering, updateOf, takenCount}
 use Rattle.order_agreement.specs.Agreement.{settingsOf, Agree}
 use Rattle.order_alike.specs.Parting.{partingOrders}
 use Rattle.compare.specs.Compare.{compareOf}
@@ -40,7 +43,9 @@ use Rattle.equal_orders.specs.WorkedExamples.{WorkedExamples, forth, back}
 use Rattle.equal_any_order.specs.EveryOrder.{Passes, EveryTwoEqual, Apart}
 use Rattle.equal_any_order.specs.MarksApart.{upAndDown}
 use Rattle.equal_parts.specs.Parting.{PartingContents}
-use Rattle.bench_text.specs.Text.{lineBytes}
+use Rattle.bench_text.specs.Text.{lineBytes, decimal}
+use Rattle.bench_numbers.specs.Numbers.{decimalIn}
+use Rattle.bench_numbers.specs.declared.Number.the-variants.{Is}
 use Rattle.bench_file.specs.BenchFile.{commandPlaces, fileOf, readOf}
 use Rattle.bench_ringing.specs.Ringing.{printed, outputOf}
 use Rattle.bench_ringing.specs.Heard.{heard, linesHeard}
@@ -100,6 +105,19 @@ pub record Claims : Type 0 where
   pub items-written : (m : Machine) (call : Call) → passOf m call .number ≡ 0 → passOf m call .written ≡ inMode m writeData
   pub pass-counted : (m : Machine) (call : Call) → passOf m call .number ≡ 0
       → getD (passOf m call .machine) counterAt 0 ≡ (getD m counterAt 0 + 1) % 2 ^ counterBits
+  -- Question 2 lets every number of 32 bits through as the counter. A machine that passed it while the counter had 20 bits passes it as it stands, its counter's number unchanged.
+  pub counter-any : (m : Machine) → Good m → (n : ℕ) → n < 2 ^ counterBits → Good (set m counterAt n)
+  pub older-good : (m : Machine) → length m ≡ machineLength → olderSound m ≡ true → Good m
+  -- The low 20 bits of the counter, with which a Linger is compared, go on from pass to pass as a counter of 20 bits does. Nothing else of the counter decides
+  -- whether a Linger waits or sets overrun, and whether lingering goes on.
+  pub low-counted : (m : Machine) (call : Call) → passOf m call .number ≡ 0 → lowCounter (passOf m call .machine) ≡ (lowCounter m + 1) % 2 ^ lingerBits
+  pub linger-low : (m : Machine) → Good m → (n k : ℕ) → n % 2 ^ lingerBits ≡ k % 2 ^ lingerBits → (stillLingering (set m counterAt n) ≡ stillLingering (set m counterAt k))
+      × ((number : ℕ) → (behind (set m counterAt n) number ≡ behind (set m counterAt k) number))
+  -- TIMER 01 sets the counter to its 20 bits of data, and TIMER 11 to 0: the high bits are cleared.
+  pub timer-sets : (m : Machine) → Good m → (c : ℕ) → ttOf c ≡ 0b01 → (getD (timed m c) counterAt 0 ≡ dataOf c) × (dataOf c < 2 ^ lingerBits)
+  pub timer-clears : (m : Machine) → Good m → (c : ℕ) → ttOf c ≡ 0b11 → getD (timed m c) counterAt 0 ≡ 0
+  -- A number of 32 bits is printed whole: its text is read as that number, without leading zeros.
+  pub counter-printed : (n : ℕ) → n < 2 ^ counterBits → decimalIn (2 ^ counterBits) (decimal n) ≡ Is n
   -- A refused pass leaves the machine, the places and delay memory as they were.
   pub refused-leaves : (m : Machine) (call : Call) → passOf m call .number ≢ 0
       → (passOf m call .machine ≡ m) × (passOf m call .places ≡ call .places) × (passOf m call .memory ≡ call .memory)

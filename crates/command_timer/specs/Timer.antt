@@ -7,17 +7,17 @@ use lib.IntN.{pos, _-ℤ_}
 use lib.ListN.{getD, set}
 use Rattle.words.specs.Words.{lowBits}
 use Rattle.layout.specs.Layout.{tAt, nAt, counterAt, lingeringAt, lingerPassAt, overrunAt}
-use Rattle.layout.specs.Machine.{Machine, withUpdateTicks}
+use Rattle.layout.specs.Machine.{Machine, withUpdateTicks, lowCounter}
 use Rattle.layout.specs.Widths.{lingerBits}
 use Rattle.command_fields.specs.Fields.{field, flag, dataOf}
 
--- The pass counter is set.
+-- The pass counter is set: none of its bits stays.
 unfoldable pub counterSet : Machine → ℕ → Machine
 counterSet m n = set m counterAt n
 
--- How many passes the number n is behind the counter, modulo 2^20.
+-- How many passes the number n is behind the counter, both of 20 bits, modulo 2^20.
 unfoldable pub behind : Machine → ℕ → ℕ
-behind m n = lowBits lingerBits (pos (getD m counterAt 0) -ℤ pos n)
+behind m n = lowBits lingerBits (pos (lowCounter m) -ℤ pos n)
 
 -- A Linger to n that isn't at the counter nor at most 4,096 passes behind it waits.
 unfoldable pub waitsFor : Machine → ℕ → Bool
@@ -29,7 +29,7 @@ lingered m n =
     cond (waitsFor m n) (set (set m lingeringAt 1) lingerPassAt n)
     (cond (eqb (behind m n) 0) m (set m overrunAt 1))
 
--- TIMER: TT 01 sets the pass counter from data, 10 is a Linger to data, 11 clears the pass counter and then is a Linger to data.
+-- TIMER: TT 01 sets the pass counter to data, whose 20 bits leave its high bits 0; 10 is a Linger to data; 11 clears the pass counter and then is a Linger to data.
 abbrev pub ttOf : ℕ → ℕ
 ttOf c = field 31 32 c
 

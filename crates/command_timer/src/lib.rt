@@ -2,6 +2,8 @@
 use command_fields::field;
 use command_fields::flag;
 ghost use mathlib.Core.Path.{_≡_};
+ghost use lib.ListN.{set};
+ghost use Rattle.layout.specs.Layout.{counterAt};
 ghost use Rattle.layout.specs.Machine.{Reaches};
 ghost use Rattle.command_timer.specs.Timer.{waitsFor, lingered, timed, timerWaits, ticksSet};
 
@@ -22,6 +24,14 @@ fn linger(m: &mut [u32], n: u32) -> bool
     false
 }
 
+// The pass counter is set, with no bit of it kept.
+fn set_counter(m: &mut [u32], n: u32)
+    requires { ⌜ Reaches (now m) ⌝ }
+    ensures { λ _. ⌜ now (m .exit) ≡ set (now (m .entry)) counterAt n ⌝ }
+{
+    m[layout::COUNTER_AT] = n;
+}
+
 // TIMER: TT 01 sets the pass counter, 10 is a Linger, 11 clears the pass counter and then is a Linger. Whether it waits.
 pub fn timer(m: &mut [u32], c: u32) -> bool
     requires { ⌜ Reaches (now m) ⌝ }
@@ -30,14 +40,14 @@ pub fn timer(m: &mut [u32], c: u32) -> bool
     let data = field(c, 4, 23);
     let tt = field(c, 31, 32);
     if tt == 0b01 {
-        m[layout::COUNTER_AT] = data;
+        set_counter(m, data);
         return false;
     }
     if tt == 0b10 {
         return linger(m, data);
     }
     if tt == 0b11 {
-        m[layout::COUNTER_AT] = 0;
+        set_counter(m, 0);
         return linger(m, data);
     }
     false

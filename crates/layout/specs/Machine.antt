@@ -3,7 +3,8 @@
 use Prim.Native.Nat.{ℕ, _+_, _-_, _/_, _%_, _^_, _≤_}
 use mathlib.Core.List.{List}
 use lib.ListN.{length, getD, set}
-use Rattle.layout.specs.Layout.{machineLength, generatorAt, modifierAt, tAt, nAt, updateTicksAt, GSUM, GFM, GMODE, MRM, MMODE}
+use Rattle.layout.specs.Layout.{machineLength, generatorAt, modifierAt, tAt, nAt, counterAt, updateTicksAt, GSUM, GFM, GMODE, MRM, MMODE}
+use Rattle.layout.specs.Widths.{lingerBits}
 
 -- The words of a machine; an order of the generators, by number; read items; places for written items; commands.
 abbrev pub Machine : Type 0
@@ -48,6 +49,10 @@ updateTicksOf m = updateTicks (ticksOf m) (getD m nAt 0)
 -- A machine with that count in its word.
 unfoldable pub withUpdateTicks : Machine → Machine
 withUpdateTicks m = set m updateTicksAt (updateTicksOf m)
+
+-- What a Linger's number is compared with: the low bits of the pass counter, as many as the number has.
+abbrev pub lowCounter : Machine → ℕ
+lowCounter m = getD m counterAt 0 % 2 ^ lingerBits
 
 -- GMODE, GSUM and GFM of generator g; its run mode, the left 4 of GMODE's 10 bits; its DAC number, the low 4 bits of GO, its first word.
 abbrev pub gmodeAt : Machine → ℕ → ℕ

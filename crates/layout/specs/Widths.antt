@@ -58,7 +58,7 @@ wordBits = 20
 
 -- The pass counter, and a pass that a Linger names.
 abbrev pub counterBits : ℕ
-counterBits = 20
+counterBits = 32
 
 abbrev pub lingerBits : ℕ
 lingerBits = 20

@@ -1,7 +1,8 @@
 // Where each word of the machine stands: the layout's numbers, each with its one name; and what stands at the places that several calls look at.
 ghost use mathlib.Core.Path.{_≡_};
-ghost use Prim.Native.Nat.{_<_};
+ghost use Prim.Native.Nat.{_+_, _%_, _^_, _<_};
 ghost use Rattle.layout.specs.Machine.{Reaches, ticksOf, updateTicks, gsumAt, gfmAt, runModeAt, dacNumberAt};
+ghost use Rattle.layout.specs.Widths.{counterBits};
 
 // The length of the machine's run of words.
 pub const MACHINE_LENGTH: usize = 4344;
@@ -115,10 +116,8 @@ pub const DACS_AT: usize = 4096;
 
 pub const DACS: usize = 16;
 
-// One more than the largest value of a word of sum memory, of a DAC and of DX, of the pass counter, and of the pass that a Linger names.
+// One more than the largest value of a word of sum memory, of a DAC and of DX, and of the pass that a Linger names. The pass counter has all bits of its word, and so no such number.
 pub const WORD_LIMIT: u32 = 1 << 20;
-
-pub const COUNTER_LIMIT: u32 = 1 << 20;
 
 pub const LINGER_LIMIT: u32 = 1 << 20;
 
@@ -193,6 +192,13 @@ pub fn update_ticks(t: u32, n: u32) -> u32
         return 0;
     }
     n - t - 8
+}
+
+// The pass counter after a pass: after the largest number comes 0.
+pub fn next_pass(counter: u32) -> u32
+    ensures { λ r. ⌜ r ≡ (counter + 1) % 2 ^ counterBits ⌝ }
+{
+    std::num::wrapping_add_u32(counter, 1)
 }
 
 // The run mode of generator g.

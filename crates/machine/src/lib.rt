@@ -166,7 +166,7 @@ fn modifiers_within(m: &[u32]) -> bool
         & machine_sweep::fields_flagged(&functions, m, at + layout::MMODE, step, n, 4)
 }
 
-// DX, T, N, the pass counter, lingering, the Linger pass and overrun within their ranges.
+// DX, T, N, the pass counter, lingering, the Linger pass and overrun within their ranges. The counter has all bits of its word: every word is within its range.
 fn controls_within(m: &[u32]) -> bool
     requires { ⌜ Reaches (now m) ⌝ }
     ensures { λ r. ⌜ r ≡ controlsWithin (now (m .entry)) ⌝ }
@@ -174,14 +174,12 @@ fn controls_within(m: &[u32]) -> bool
     let dx = m[layout::DX_AT];
     let t = m[layout::T_AT];
     let n = m[layout::N_AT];
-    let counter = m[layout::COUNTER_AT];
     let lingering = m[layout::LINGERING_AT];
     let pass = m[layout::LINGER_PASS_AT];
     let overrun = m[layout::OVERRUN_AT];
     (dx < layout::WORD_LIMIT)
         & ((1 <= t) & (t <= 256))
         & ((2 <= n) & (n <= 1025))
-        & (counter < layout::COUNTER_LIMIT)
         & (lingering <= 1)
         & (pass < layout::LINGER_LIMIT)
         & (overrun <= 1)

@@ -1,11 +1,8 @@
 -- The stages of a pass, one after the other, are the pass.
 -- Assumes nothing.
 use mathlib.Core.Path.{_≡_, refl, _∙_}
-use Prim.Native.Nat.{ℕ, _+_, _/_, _%_, _^_}
-use lib.Dec.{lit≤}
+use Prim.Native.Nat.{ℕ, _/_}
 use lib.ListN.{set}
-use Rattle.words.proofs.Residues.{wrapped}
-use Rattle.layout.specs.Widths.{counterBits}
 use Rattle.layout.specs.Machine.{Machine, Sums, ticksOf}
 use Rattle.sums.specs.Sums.{modifierThis, sumsOf, closed}
 use Rattle.pass_model.specs.Generators.{of1978, begun, Taken, takenBy}
@@ -29,7 +26,3 @@ module _ (m : Machine) (call : Call) (t : Taken) (n : ℕ) (s₀ : Sums) where
     where
       taken : t ≡ generatorsTaken m call
       taken = et ∙ rw es
-
--- The counter's code: a wrapping add at 32 bits, r, and a remainder.
-pub count-code : (n : ℕ) {r : ℕ} → r ≡ (n + 1) % 2 ^ 32 → r % 2 ^ counterBits ≡ (n + 1) % 2 ^ counterBits
-count-code n e = rw e (wrapped counterBits (n + 1) (lit≤ tt))

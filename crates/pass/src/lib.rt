@@ -24,7 +24,7 @@ fn count(m: &mut [u32])
     ensures { λ r. ⌜ now (m .exit) ≡ counted (now (m .entry)) ⌝ }
 {
     let at = layout::COUNTER_AT;
-    m[at] = std::num::wrapping_add_u32(m[at], 1) % layout::COUNTER_LIMIT;
+    m[at] = layout::next_pass(m[at]);
 }
 
 // The pass itself: generators in the order, modifiers by number with their delay units, the end of sum memory, the counter.

@@ -6,12 +6,13 @@ use mathlib.Core.Bool.{Bool, true, false, cond}
 use mathlib.Core.List.{[], _∷_}
 use Prim.Native.Nat.{ℕ, suc, _+_, _/_, _%_, _^_, _<_}
 use native.Mathlib.Omega.{arith}
-use native.Mathlib.Nat.{zero-add, add-zero}
+use native.Mathlib.Nat.{zero-add, add-zero, mod-add-mod}
 use lib.Dec.{eqb, lit<, lit≤}
 use lib.ListN.{length, getD}
+use Rattle.words.proofs.Residues.{wrapped}
 use Rattle.layout.specs.Layout.{generatorAt, counterAt}
-use Rattle.layout.specs.Widths.{counterBits}
-use Rattle.layout.specs.Machine.{Machine, Order, Items, ticksOf, runModeAt}
+use Rattle.layout.specs.Widths.{counterBits, lingerBits}
+use Rattle.layout.specs.Machine.{Machine, Order, Items, ticksOf, runModeAt, lowCounter}
 use Rattle.modes.specs.Modes.{replaces, readData, writeData}
 use Rattle.modes.proofs.RunModes.{replaces-is}
 use Rattle.machine.specs.Questions.{sound}
@@ -107,3 +108,9 @@ module _ (m : Machine) (call : Call) (e : passRefusal m call ≡ 0) where
       (completed-counter (ticksOf m) (heldThen m call) (t .sums) k (p .ticks)
       (rw (steps-length of1978 (call .items) (call .order) s, p .good .whole) (lit< tt))
       ∙ ap (λ (x : ℕ). (x + 1) % 2 ^ counterBits) (steps-beyond of1978 (call .items) (call .order) s (p .below) sixteen counterAt (lit≤ tt)))
+
+  -- And 1 to its low bits, with which a Linger is compared, as to a counter that has no others.
+  pub pass-low-counter : lowCounter (passOf m call .machine) ≡ (lowCounter m + 1) % 2 ^ lingerBits
+  pass-low-counter =
+      ap (λ (x : ℕ). x % 2 ^ lingerBits) pass-counter ∙ wrapped lingerBits (getD m counterAt 0 + 1) (lit≤ tt)
+      ∙ sym (mod-add-mod (getD m counterAt 0) (2 ^ lingerBits) 1)

@@ -5,10 +5,11 @@ use mathlib.Core.Bool.{Bool, true, false, _&&_}
 use mathlib.Core.List.{[]}
 use Prim.Native.Nat.{ℕ, _+_, _-_, _*_, _/_, _%_, _^_, _≤_, _<_}
 use native.Mathlib.Omega.{arith}
-use native.Mathlib.Nat.{mod-eq-of-lt}
+use native.Mathlib.Nat.{mod-eq-of-lt, mod-lt}
 use borrow.Author.Tests.{ltb-true, ltb-false, lt-ltb}
 use lib.Dec.{eqb, ltb, lit<, lit≤}
 use lib.ListN.{length, getD, set}
+use lib.Pow.{pow-pos}
 use lib.Seq.{getD-drop}
 use Rattle.lists.specs.Lists.{isOneOf}
 use Rattle.lists.proofs.Below.{and-second}
@@ -87,7 +88,7 @@ pub sound-counted : (m : Machine) → sound m ≡ true → sound (counted m) ≡
 unfolding counted regions
 sound-counted m e =
     sound-put m e 4 0 3 counterAt ((getD m counterAt 0 + 1) % 2 ^ counterBits) (lit< tt) (lit< tt) refl (single-above (lit< tt) (lit< tt))
-    (lt-ltb ((getD m counterAt 0 + 1) % 2 ^ counterBits) (2 ^ 20) (omega arith))
+    (lt-ltb ((getD m counterAt 0 + 1) % 2 ^ counterBits) (2 ^ counterBits) (mod-lt (getD m counterAt 0 + 1) (pow-pos counterBits)))
 
 -- A word of sum memory.
 sum-passes : (i v : ℕ) → 3840 ≤ i → i < 4096 → v < 2 ^ 20 → testAt regions i v ≡ true

@@ -5,8 +5,8 @@ use mathlib.Core.Bool.{Bool, cond, not, _&&_}
 use mathlib.Core.List.{[], _∷_}
 use lib.Dec.{eqb}
 use lib.ListN.{length, getD, set}
-use Rattle.layout.specs.Layout.{counterAt, lingeringAt, lingerPassAt}
-use Rattle.layout.specs.Machine.{Machine, Commands, updateTicksOf}
+use Rattle.layout.specs.Layout.{lingeringAt, lingerPassAt}
+use Rattle.layout.specs.Machine.{Machine, Commands, updateTicksOf, lowCounter}
 use Rattle.questions.specs.Questions.{asked}
 use Rattle.machine.specs.Questions.{question1, question2}
 use Rattle.command_built.specs.Built.{commandRefusal}
@@ -25,9 +25,9 @@ outcome number machine rest = record { number = number; machine = machine; rest 
 abbrev pub mostCommands : Machine → ℕ
 mostCommands m = updateTicksOf m
 
--- Whether it is lingering and the counter isn't the Linger pass.
+-- Whether it is lingering and the counter, by its low 20 bits, isn't the Linger pass.
 unfoldable pub stillLingering : Machine → Bool
-stillLingering m = eqb (getD m lingeringAt 0) 1 && not (eqb (getD m counterAt 0) (getD m lingerPassAt 0))
+stillLingering m = eqb (getD m lingeringAt 0) 1 && not (eqb (lowCounter m) (getD m lingerPassAt 0))
 
 -- At most k commands are taken, until one waits, the words end or one is refused; a waiting one is taken, a refused one is not.
 unfoldable pub takenBy : ℕ → Machine → Commands → Outcome

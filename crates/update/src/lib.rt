@@ -8,13 +8,13 @@ ghost use Rattle.questions.specs.Questions.{asked};
 ghost use Rattle.machine.specs.Questions.{question1, question2};
 ghost use Rattle.update.specs.Update.{outcome, stillLingering, takenBy, updateOf, takenCount, tailAt};
 
-// Whether it is lingering and the counter isn't the Linger pass.
+// Whether it is lingering and the counter's low bits aren't the Linger pass.
 fn still_lingering(m: &[u32]) -> bool
     requires { ⌜ Reaches (now m) ⌝ }
     ensures { λ r. ⌜ r ≡ stillLingering (now (m .entry)) ⌝ }
 {
     let lingering = m[layout::LINGERING_AT];
-    let counter = m[layout::COUNTER_AT];
+    let counter = m[layout::COUNTER_AT] % layout::LINGER_LIMIT;
     let pass = m[layout::LINGER_PASS_AT];
     (lingering == 1) & (counter != pass)
 }

@@ -3,3 +3,4 @@ pub mod Accepted
 pub mod SoundLoads
 pub mod SoundCommands
 pub mod UpdateSound
+pub mod CounterAfter

@@ -68,7 +68,7 @@ timed-sound : (m : List ℕ) → Sound m → (c : ℕ) → Sound (timed m c)
 unfolding timed
 timed-sound m e c =
     let low : dataOf c < 2 ^ 20 = omega arith in
-    of-cond Sound (eqb (ttOf c) 0b01) (counter-sound m e (dataOf c) low)
+    of-cond Sound (eqb (ttOf c) 0b01) (counter-sound m e (dataOf c) (omega (arith, low)))
     (of-cond Sound (eqb (ttOf c) 0b10) (lingered-sound m e (dataOf c) low)
     (of-cond Sound (eqb (ttOf c) 0b11) (lingered-sound _ (counter-sound m e 0 (lit< tt)) (dataOf c) low) e))
 

@@ -1,8 +1,6 @@
 -- `command_timer::timer` meets its contract: its arms by TT.
 -- Assumes nothing.
 use mathlib.Core.Path.{_∙_}
-use lib.ListN.{length-set}
-use Rattle.layout.specs.Layout.{counterAt}
 use Rattle.command_timer.proofs.Lingers.{timer-sets, timer-lingers, timer-clears, timer-idle}
 use borrow.Author.Needs.{needs}
 use Rattle.command_timer.proofs.timer.Statement.{statement}
@@ -14,17 +12,19 @@ field-requires c κs = search needs
 field-requires-2 : tie.Need-field-requires-2
 field-requires-2 c κs = search needs
 
-slice-write-m : tie.Need-slice-write-m
-slice-write-m c = search needs
+set-counter-requires : tie.Need-set-counter-requires
+set-counter-requires c κs = search needs
 
 same-length : tie.Need-same-length
 same-length c = search needs
 
 returns : tie.Need-returns
 returns c =
-    let tt = c .before in
+    let done = c .before .before in
+    let arm = done .before .before in
+    let tt = arm .before in
     let a = tt .before .before .before .args in
-    timer-sets (a .m .now) (a .c) (tt .before .field .ensures) (tt .field2 .ensures) (c .if1 .taken)
+    timer-sets (a .m .now) (a .c) (tt .before .field .ensures) (tt .field2 .ensures) (arm .if1 .taken) (done .set-counter .ensures)
 
 linger-requires : tie.Need-linger-requires
 linger-requires c κs = search needs
@@ -40,8 +40,8 @@ returns-2 c =
     let a = tt .before .before .before .args in
     timer-lingers (a .m .now) (a .c) (tt .before .field .ensures) (tt .field2 .ensures) (arm .if2 .taken) (done .linger .ensures)
 
-slice-write-m-2 : tie.Need-slice-write-m-2
-slice-write-m-2 c = search needs
+set-counter-requires-2 : tie.Need-set-counter-requires-2
+set-counter-requires-2 c κs = search needs
 
 linger-requires-2 : tie.Need-linger-requires-2
 linger-requires-2 c κs = search needs
@@ -49,17 +49,17 @@ linger-requires-2 c κs = search needs
 same-length-3 : tie.Need-same-length-3
 same-length-3 c =
     let done = c .before .before in
-    let tt = done .before .before .before .before .before in
-    let a = tt .before .before .before .args in
-    done .linger2 .kept .0 ∙ length-set (a .m .now) counterAt 0
+    let cleared = done .before .before .before .before in
+    done .linger2 .kept .0 ∙ cleared .set-counter2 .kept .0
 
 returns-3 : tie.Need-returns-3
 returns-3 c =
     let done = c .before .before in
-    let arm = done .before .before in
+    let cleared = done .before .before .before .before in
+    let arm = cleared .before .before in
     let tt = arm .before .before .before in
     let a = tt .before .before .before .args in
-    timer-clears (a .m .now) (a .c) (tt .before .field .ensures) (tt .field2 .ensures) (arm .if3 .taken) (done .linger2 .ensures)
+    timer-clears (a .m .now) (a .c) (tt .before .field .ensures) (tt .field2 .ensures) (arm .if3 .taken) (cleared .set-counter2 .ensures) (done .linger2 .ensures)
 
 returns-4 : tie.Need-returns-4
 returns-4 c =
@@ -73,13 +73,13 @@ timer-spec =
     (tie.spec
     field-requires
     field-requires-2
-    slice-write-m
+    set-counter-requires
     same-length
     returns
     linger-requires
     same-length-2
     returns-2
-    slice-write-m-2
+    set-counter-requires-2
     linger-requires-2
     same-length-3
     returns-3

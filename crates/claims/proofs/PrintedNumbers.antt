@@ -1,0 +1,104 @@
+-- A number that is printed with digits enough is read as that number: each digit that printing puts, reading takes back.
+-- Assumes nothing.
+use mathlib.Core.Path.{_≡_, refl, sym, ap, _∙_}
+use mathlib.Core.Logic.{_≢_}
+use mathlib.Core.Bool.{Bool, true, false, cond, _&&_}
+use mathlib.Core.List.{List, [], _∷_, _++_}
+use Prim.Native.Nat.{ℕ, zero, suc, _+_, _*_, _/_, _%_, _^_, _<_, _≤_}
+use Prim.Native.Char.{code}
+use native.Mathlib.Omega.{arith}
+use native.Mathlib.Nat.{pow-suc}
+use borrow.Author.Tests.{ltb-true, ltb-false, lt-ltb, le-leb, eqb-true, eqb-false, ne-eqb, le-ltb}
+use lib.Dec.{eqb, ltb, lit<}
+use lib.ListN.{length, getD, length-append}
+use Rattle.layout.specs.Widths.{counterBits}
+use Rattle.bench_text.specs.Text.{digits, decimal}
+use Rattle.bench_numbers.specs.Numbers.{digitValue, allDigits, writtenAfter, numberIn, leadingZero, decimalIn}
+use Rattle.bench_numbers.specs.declared.Number.the-variants.{Is}
+
+-- A text of digits that writes n, and begins with 0 only if it is that digit alone.
+record Writes (n : ℕ) (text : List ℕ) : Type 0 where
+  all : allDigits 10 text ≡ true
+  number : writtenAfter 10 0 text ≡ n
+  some : 0 < length text
+  alone : n ≡ 0 → length text ≡ 1
+  first : n ≢ 0 → getD text 0 0 ≢ code "0"
+
+digit-value : (d : ℕ) → d < 10 → digitValue (code "0" + d) ≡ d
+unfolding digitValue
+digit-value d h = rw (le-leb 48 (48 + d) (omega arith), le-leb (48 + d) 57 (omega arith)) (omega arith)
+
+digit-all : (d : ℕ) → d < 10 → allDigits 10 ((code "0" + d) ∷ []) ≡ true
+unfolding allDigits
+digit-all d h = rw (digit-value d h, lt-ltb d 10 h)
+
+digit-number : (d n : ℕ) → d < 10 → writtenAfter 10 n ((code "0" + d) ∷ []) ≡ n * 10 + d
+unfolding writtenAfter
+digit-number d n h = rw (digit-value d h)
+
+one-digit : (n : ℕ) → n < 10 → Writes n ((code "0" + n) ∷ [])
+one-digit n h =
+    record {
+      all = digit-all n h;
+      number = digit-number n 0 h ∙ omega arith;
+      some = lit< tt;
+      alone = λ e. refl;
+      first = λ p q. p (omega arith);
+    }
+
+-- A text with one more after it.
+all-more : (more text : List ℕ) → allDigits 10 text ≡ true → allDigits 10 more ≡ true → allDigits 10 (text ++ more) ≡ true
+unfolding allDigits
+all-more more [] p q = q
+all-more more (x ∷ text) p q = go (ltb (digitValue x) 10) p where
+  go : (b : Bool) → (b && allDigits 10 text) ≡ true → (b && allDigits 10 (text ++ more)) ≡ true
+  go true p = all-more more text p q
+  go false p = p
+
+number-more : (more text : List ℕ) (n : ℕ) → writtenAfter 10 n (text ++ more) ≡ writtenAfter 10 (writtenAfter 10 n text) more
+unfolding writtenAfter
+number-more more [] n = refl
+number-more more (x ∷ text) n = number-more more text (n * 10 + digitValue x)
+
+first-more : (more text : List ℕ) → 0 < length text → getD (text ++ more) 0 0 ≡ getD text 0 0
+first-more more [] h = absurd (omega arith)
+first-more more (x ∷ text) h = refl
+
+more-digits : (n : ℕ) (text : List ℕ) → 10 ≤ n → Writes (n / 10) text → Writes n (text ++ ((code "0" + n % 10) ∷ []))
+more-digits n text h w =
+    let last = (code "0" + n % 10) ∷ [] in
+    record {
+      all = all-more last text (w .all) (digit-all (n % 10) (omega arith));
+      number =
+          number-more last text 0 ∙ digit-number (n % 10) (writtenAfter 10 0 text) (omega arith)
+          ∙ ap (λ (k : ℕ). k * 10 + n % 10) (w .number) ∙ omega arith;
+      some = omega (arith, length-append text last, w .some);
+      alone = λ e. absurd (omega arith);
+      first = λ p q. w .first (λ z. omega arith) (sym (first-more last text (w .some)) ∙ q);
+    }
+
+digits-write : (k n : ℕ) → n < 10 ^ suc k → Writes n (digits (suc k) n)
+unfolding digits
+digits-write zero n h = let l : n < 10 = omega arith in rw (lt-ltb n 10 l) (one-digit n l)
+digits-write (suc k) n h = go (ltb n 10) refl where
+  go : (b : Bool) → ltb n 10 ≡ b → Writes n (cond b ((code "0" + n) ∷ []) (digits (suc k) (n / 10) ++ ((code "0" + n % 10) ∷ [])))
+  go true e = one-digit n (ltb-true n 10 e)
+  go false e = more-digits n (digits (suc k) (n / 10)) (ltb-false n 10 e) (digits-write k (n / 10) (omega (arith, h, pow-suc 10 (suc k))))
+
+no-leading-zero : (n : ℕ) (text : List ℕ) → Writes n text → leadingZero text ≡ false
+unfolding leadingZero
+no-leading-zero n text w = go (eqb n 0) refl where
+  go : (b : Bool) → eqb n 0 ≡ b → (eqb (getD text 0 0) (code "0") && ltb 1 (length text)) ≡ false
+  go true e = rw (w .alone (eqb-true n 0 e)) (short (eqb (getD text 0 0) (code "0")))
+    where
+      short : (b : Bool) → (b && false) ≡ false
+      short true = refl
+      short false = refl
+  go false e = rw (ne-eqb (getD text 0 0) (code "0") (w .first (eqb-false n 0 e)))
+
+-- Ten digits are enough for 32 bits.
+pub number-printed : (n : ℕ) → n < 2 ^ counterBits → decimalIn (2 ^ counterBits) (decimal n) ≡ Is n
+unfolding decimalIn numberIn
+number-printed n h =
+    let w = digits-write 9 n (omega arith) in
+    rw (ne-eqb (length (digits 10 n)) 0 (λ e. omega (arith, w .some)), no-leading-zero n (digits 10 n) w, w .all, w .number, lt-ltb n (2 ^ counterBits) h)
