@@ -70,6 +70,16 @@ class Faults:
         self.equal_orders_lend = False
         self.lent_asked_if_unequal = False
         self.short_list_taken = False
+        # The counter of 32 bits.
+        self.counts_in_20_bits = False
+        self.counter_stays = False
+        self.counter_asked_by_20_bits = False
+        self.linger_by_32_bits = False
+        self.behind_by_32_bits = False
+        self.lingering_by_32_bits = False
+        self.timer_keeps_high_bits = False
+        self.clear_keeps_high_bits = False
+        self.prints_20_bits = False
 
 
 faults = Faults()

@@ -33,6 +33,10 @@ SUM_WIDTH = 20
 DACS_AT = 4096
 DACS = 16
 
+# The pass counter has 32 bits; a Linger names a pass by its low 20.
+COUNTER_WIDTH = 32
+LINGER_WIDTH = 20
+
 DX = 4112
 T = 4113
 N = 4114

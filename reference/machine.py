@@ -96,7 +96,7 @@ def word_ranges():
     ranges += [wide(layout.SUM_WIDTH)] * (4 * layout.QUADRANT_WORDS)
     ranges += [wide(20)] * layout.DACS
     ranges += [wide(20), (layout.T_LEAST, layout.T_MOST), (layout.N_LEAST, layout.N_MOST)]
-    ranges += [wide(20), wide(1), wide(20), wide(1)]
+    ranges += [wide(layout.COUNTER_WIDTH), wide(1), wide(layout.LINGER_WIDTH), wide(1)]
     ranges += [wide(w) for w in layout.DELAY_UNIT_WIDTHS] * layout.DELAY_UNITS
     # The count is T's and N's: count_agrees asks about it.
     ranges += [wide(32)]
@@ -149,6 +149,8 @@ def refusal(run):
     if len(run) != layout.MACHINE_WORDS:
         return 1
     in_range = all(map(le, LEAST, run)) and all(map(le, run, MOST))
+    if faults.counter_asked_by_20_bits and run[layout.COUNTER] >> 20:
+        return 2
     return 0 if in_range and modes_built(run) and count_agrees(run) else 2
 
 
@@ -268,6 +270,13 @@ def take_modifiers(machine, memory):
         take_modifier(machine, m, early, views[m], memory)
 
 
+def next_number(counter):
+    """The counter with 1 added."""
+    if faults.counter_stays and counter == (1 << layout.COUNTER_WIDTH) - 1:
+        return counter
+    return low(counter + 1, 20 if faults.counts_in_20_bits else layout.COUNTER_WIDTH)
+
+
 def close(machine):
     """Copies both this-pass quadrants to last, clears them and counts the pass, in place."""
     size = layout.QUADRANT_WORDS
@@ -275,7 +284,7 @@ def close(machine):
                        (layout.MODIFIER_THIS, layout.MODIFIER_LAST)):
         machine[last:last + size] = machine[this:this + size]
         machine[this:this + size] = [0] * size
-    machine[layout.COUNTER] = low(machine[layout.COUNTER] + 1, 20)
+    machine[layout.COUNTER] = next_number(machine[layout.COUNTER])
 
 
 def run_pass(machine, order, items, places, memory):

@@ -9,7 +9,7 @@ from reference import layout
 from reference.faults import faults
 from reference.machine import fresh_machine, put_update_ticks, run_pass, zero_memory
 from reference.update import run_update
-from reference.words import signed
+from reference.words import low, signed
 
 FILE_MOST = 65536
 PASSES_MOST = 65535
@@ -71,7 +71,9 @@ def bench_file(file):
 def pass_line(machine):
     """The line of a pass: the counter, DAC 0 and DAC 1."""
     left, right = (signed(machine[layout.DACS_AT + dac], 20) for dac in (0, 1))
-    return f"pass={machine[layout.COUNTER]} left={left} right={right}\n"
+    counter = machine[layout.COUNTER]
+    number = low(counter, 20) if faults.prints_20_bits else counter
+    return f"pass={number} left={left} right={right}\n"
 
 
 def pass_lines(machine, passes, commands, seen):

@@ -76,12 +76,19 @@ def misc(machine, command):
         change_all(machine, layout.PAUSE, layout.RUNNING_A)
 
 
+def low_20(counter):
+    """What a Linger is compared with."""
+    return low(counter, layout.LINGER_WIDTH)
+
+
 def linger(machine, number):
-    """A Linger to a pass number; says whether it waits."""
-    behind = low(machine[layout.COUNTER] - number, 20)
-    if behind == 0:
+    """A Linger to a pass number, by the counter's low 20 bits; says whether it waits."""
+    counter = machine[layout.COUNTER]
+    behind = low(counter - number, 32 if faults.behind_by_32_bits else layout.LINGER_WIDTH)
+    here = counter == number if faults.linger_by_32_bits else low_20(counter) == number
+    if here:
         return False
-    if behind <= BEHIND_MOST:
+    if 0 < behind <= BEHIND_MOST:
         machine[layout.OVERRUN] = 1
         return False
     machine[layout.LINGERING] = 1
@@ -90,12 +97,13 @@ def linger(machine, number):
 
 
 def timer(machine, command):
-    """TT 01 sets the counter, 10 is a Linger, 11 clears the counter and is a Linger."""
+    """TT 01 sets the counter and clears its high bits, 10 is a Linger, 11 clears it and is one."""
     kind = field(command, 31, 32)
+    high = machine[layout.COUNTER] - low_20(machine[layout.COUNTER])
     if kind == 0b01:
-        machine[layout.COUNTER] = data(command)
+        machine[layout.COUNTER] = data(command) + (high if faults.timer_keeps_high_bits else 0)
     if kind == 0b11:
-        machine[layout.COUNTER] = 0
+        machine[layout.COUNTER] = high if faults.clear_keeps_high_bits else 0
     if kind in (0b10, 0b11):
         return linger(machine, data(command))
     return False
@@ -306,8 +314,9 @@ def limit(machine):
 
 def still_lingering(machine):
     """Whether the machine waits for a pass that is not this one."""
-    return (machine[layout.LINGERING] == 1
-            and machine[layout.COUNTER] != machine[layout.LINGER_PASS])
+    counter = machine[layout.COUNTER]
+    number = counter if faults.lingering_by_32_bits else low_20(counter)
+    return machine[layout.LINGERING] == 1 and number != machine[layout.LINGER_PASS]
 
 
 def run_update(machine, commands):

@@ -93,7 +93,7 @@ static void draw_contents(uint32_t *m, const uint32_t *settings) {
     uint32_t edge = draw(2);
     for (int g = 0; g < GENERATORS; g++) draw_generator(m + GENERATOR_WORDS * g, settings + GENERATOR_WORDS * g, edge);
     for (int k = 0; k < MODIFIERS; k++) draw_modifier(m + MODIFIERS_AT + MODIFIER_WORDS * k);
-    for (int i = SUMS_AT; i <= OVERRUN; i++) m[i] = draw(20);
+    for (int i = SUMS_AT; i <= OVERRUN; i++) m[i] = draw(i == COUNTER ? 32 : 20);
     for (int u = 0; u < UNITS; u++) draw_unit(m + UNITS_AT + UNIT_WORDS * u);
     m[T] = settings[T];
     m[N] = 2 + draw(10);

@@ -26,7 +26,7 @@ def extremes(width):
     return sorted(value for value in near if value < 1 << width)
 
 
-EXTREMES = {width: extremes(width) for width in (4, 6, 7, 8, 11, 12, 16, 20, 24, 28, 30)}
+EXTREMES = {width: extremes(width) for width in (4, 6, 7, 8, 11, 12, 16, 20, 24, 28, 30, 32)}
 
 
 def biased(chance, width):

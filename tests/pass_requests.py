@@ -115,13 +115,18 @@ def put_modifiers(chance, machine, count):
             machine[quadrant + layout.sum_address(address)] = word
 
 
+def drawn_counter(chance):
+    """A counter: often about to leave 20 bits, or 32; also a stored one of 20 bits."""
+    near = chance.choice((1 << 20, 1 << 32, chance.randint(1, 1 << 12) << 20))
+    return chance.choice((0, near - chance.randint(1, 4), biased(chance, 20), biased(chance, 32)))
+
+
 def put_controls(chance, machine, t):
     """T, the other words from DX on, within range, and the count; the counter often wraps soon."""
     machine[layout.DX] = biased(chance, 20)
     machine[layout.T] = t
     machine[layout.N] = chance.choice((2, 3, 265, 1024, 1025, chance.randint(2, 1025)))
-    near_wrap = (1 << 20) - chance.randint(1, 4)
-    machine[layout.COUNTER] = chance.choice((0, near_wrap, biased(chance, 20)))
+    machine[layout.COUNTER] = drawn_counter(chance)
     machine[layout.LINGERING] = chance.randrange(2)
     machine[layout.LINGER_PASS] = biased(chance, 20)
     machine[layout.OVERRUN] = chance.randrange(2)
@@ -272,7 +277,7 @@ def other_damages():
     ends = [quadrant + i for quadrant in layout.MODIFIER_SOURCES.values() for i in (0, 31, 63)]
     ends += [layout.GENERATOR_THIS, layout.GENERATOR_THIS + 63]
     ends += [layout.DACS_AT, layout.DACS_AT + 7, layout.DACS_AT + 15]
-    for place in ends + [layout.DX, layout.COUNTER, layout.LINGER_PASS]:
+    for place in ends + [layout.DX, layout.LINGER_PASS]:
         for bit in (20, 31):
             yield f"word {place}, bit {bit}", place, WORD, 1 << bit
     for place, values in ((layout.T, (0, 257, 258, 512, 1 << 31, WORD)),

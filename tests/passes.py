@@ -34,6 +34,7 @@ CHANGED = layout.DELAY_UNITS
 PROMISED = {
     "passes": 20000, "passes done": 12000, "values of T": 200, "delay memory changed": 5000,
     "turns in 0100 that are heard": 20000,
+    "counter above 20 bits": 4000, "counter leaves 20 bits": 100, "counter from 2^32-1 to 0": 100,
     # Sum words that clipped over: in a third of the passes with large partials.
     "large partials": 6000, "large partials, marked": 2500, "passes marked": 4500,
     "several words marked": 1000, "a word with a 0111 marked": 800,
@@ -156,6 +157,16 @@ def cosines_heard(machine):
                and layout.RUN_MODES[layout.run_mode(gmode)].envelope for gmode in gmodes)
 
 
+def counter_events(counter):
+    """What is counted of the pass counter."""
+    if counter >> 20:
+        yield "counter above 20 bits"
+    if counter == (1 << 20) - 1:
+        yield "counter leaves 20 bits"
+    if counter == (1 << 32) - 1:
+        yield "counter from 2^32-1 to 0"
+
+
 def clip_events(request, answer):
     """What is counted of the marks of a pass that was done."""
     marked = sum(answer.clipped)
@@ -194,6 +205,7 @@ class Met:
         self.kinds["passes done"] += 1
         self.kinds["delay memory changed"] += bool(answer.changed)
         self.kinds["turns in 0100 that are heard"] += cosines_heard(machine)
+        self.kinds.update(counter_events(machine[layout.COUNTER]))
         self.ticks[machine[layout.T]] += 1
         self.kinds.update(delay_events(machine, after))
         self.kinds.update(clip_events(request, answer))

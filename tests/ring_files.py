@@ -55,7 +55,7 @@ def known(name, text, printed):
 
 def silence(passes, first=0):
     """The lines of passes in which nothing is heard."""
-    return "".join(f"pass={(first + i) % (1 << 20)} left=0 right=0\n"
+    return "".join(f"pass={(first + i) % (1 << 32)} left=0 right=0\n"
                    for i in range(1, passes + 1)).encode()
 
 
@@ -105,9 +105,10 @@ def written_out():
 
 # Files that fit, made by hand
 
-# Commands: the counter set to 16, Lingers at passes 3 and 4, one that is not built (DLY with UU
-# 11), TICKS of 257, 256 and 2 processing ticks, GMODE of generator 0 to read and to write data.
-COUNTER_16, LINGER_3, LINGER_4 = 0x00010108, 0x00003110, 0x00004110
+# Commands: the counter set to 16, Lingers at passes 3 and 4 and, with the counter cleared, at 2; one
+# that is not built (DLY with UU 11), TICKS of 257, 256 and 2 processing ticks, GMODE of generator 0
+# to read and to write data.
+COUNTER_16, LINGER_3, LINGER_4, LINGER_CLEARED = 0x00010108, 0x00003110, 0x00004110, 0x00002118
 NOT_BUILT, TICKS_257, TICKS_256, TICKS_2 = 0x000000E0, 0x00100180, 0x000FF180, 0x00001180
 TO_READ, TO_WRITE = 0x0E000A00, 0x06000A00
 READ, WRITE = (10, 448), (10, 192)
@@ -123,7 +124,15 @@ def ringing():
     yield "both DACs at -1", bench(1, ((4096, 1048575), (4097, 1048575)))
     yield "the later word holds", bench(1, ((4113, 4294967295), (4113, 1), (4096, 5), (4096, 6)))
     yield "the later word is wide", bench(1, ((4113, 1), (4113, 4294967295)))
-    yield "the counter wraps", bench(3, ((4115, 1048574),))
+    for counter in (1048574, 1048575, 1048576, 2097151, 1 << 31, 4294967294, 4294967295):
+        yield f"counter {counter}", bench(3, ((4115, counter),))
+        yield f"counter {counter}, set", bench(3, ((4115, counter),), (COUNTER_16,))
+        for number in (counter, counter + 1, counter + 2, counter + 3, counter - 4096):
+            linger = number % (1 << 20) << 12 | 0x110
+            yield f"counter {counter}, Linger {number}", bench(
+                6, ((4115, counter),), (linger, LINGER_CLEARED, COUNTER_16))
+            yield f"counter {counter}, lingering to {number}", bench(
+                6, ((4115, counter), (4116, 1), (4117, number % (1 << 20))), (COUNTER_16,))
     yield "T of the moment", bench(3, ((7, 4095), (10, 962), (21, 128)), (TICKS_2,))
     yield "T grows to 256", bench(3, ((255 * 11 + 9, 1),), (TICKS_256,))
     yield "T 256", bench(2, ((4113, 256), (4114, 1025)))
@@ -158,9 +167,10 @@ def ringing():
 
 def long_ringing():
     """As many passes as may be, and one sound for long: printed lines of every length."""
-    wrap = bench(PASSES_MOST, ((4115, 1000000),))
     yield File("65535 passes", bench(PASSES_MOST), silence(PASSES_MOST), Counter())
-    yield File("65535 passes and a wrap", wrap, silence(PASSES_MOST, 1000000), Counter())
+    for name, first in (("past 2^20", 1000000), ("past 2^32", (1 << 32) - 30000)):
+        text = bench(PASSES_MOST, ((4115, first),))
+        yield File(f"65535 passes {name}", text, silence(PASSES_MOST, first), Counter())
     yield file("a tone that turns", b"passes=400\nword=1:987654\nword=11:1\n" + TONE)
 
 
@@ -449,7 +459,7 @@ def drawn_dly(chance, machine):
 def drawn_commands(chance, machine):
     """Commands about the counter; now and then one among them is refused."""
     count = chance.choice((0, 1, 3, chance.randrange(12), chance.randrange(60)))
-    counter = (machine[layout.COUNTER] + 1) % (1 << 20)
+    counter = (machine[layout.COUNTER] + 1) % (1 << 32)
     commands = commands_of(chance, count, counter, not chance.randrange(3))
     for command in drawn_dly(chance, machine):
         commands.insert(chance.randint(0, len(commands)), command)

@@ -70,8 +70,10 @@ PROMISED = {
     "refused=11": 1, "refused=11 later": 1, "refused=12": 1,
     "DLY": 70, "line": 15, "table": 10, "rounded table": 10, "inactive unit": 10,
     "unit out of range": 35, "unit that no modifier names": 8, "line, a word came back": 5,
+    "a number above 20 bits": 30,
 }
 COMMAND = re.compile(rb"^command=([0-9A-F]{8})$", re.M)
+NUMBER = re.compile(rb"^pass=([0-9]+) ", re.M)
 
 
 def is_dly(command):
@@ -86,6 +88,8 @@ def met_by(files):
         met[ending(tried)] += 1
         met.update(kind for kind, times in tried.met.items() if times)
         met["DLY"] += any(map(is_dly, COMMAND.findall(tried.text)))
+        met["a number above 20 bits"] += any(int(number) >> 20 for number in
+                                             NUMBER.findall(tried.printed))
     return met
 
 

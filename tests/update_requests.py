@@ -210,15 +210,21 @@ LOADS = (good_delay, good_delay, whole("001"), whole("010"), whole("0110"), gn_g
 BEHIND = (0, 0, 1, 2, 4095, 4096, 4097, 4098, -1, -2, 1 << 19)
 
 
-def set_counter(chance):
-    """TT 01: the counter close to its wrap, or anywhere."""
+def pass_number(chance):
+    """20 bits that a counter is set to: close to their wrap, or anywhere."""
     return low(chance.choice((chance.randint(-4098, 4098), chance.getrandbits(20))), 20)
+
+
+def drawn_counter(chance):
+    """A counter: its low 20 bits about their wrap or anywhere, its high 12 few, all or any."""
+    high = chance.choice((0, 0, 1, 4095, chance.getrandbits(12)))
+    return high << 20 | pass_number(chance)
 
 
 def timer(chance, counter):
     """A TIMER, and the counter after it: mostly a Linger close to where waiting begins."""
     kind = chance.choice((0b00, 0b01, 0b10, 0b10, 0b11))
-    left = {0b01: set_counter(chance), 0b11: 0}.get(kind, counter)
+    left = {0b01: pass_number(chance), 0b11: 0}.get(kind, counter)
     number = left if kind == 0b01 else left - chance.choice(BEHIND + (chance.getrandbits(20),))
     rest = noise(chance, 29, 30, 33, 34, 35)
     return code("00010") | data(number) | put(31, 32, kind) | rest, left
@@ -339,7 +345,7 @@ def put_ticks(chance, machine):
 
 def put_lingering(chance, machine):
     """The counter about its wrap or anywhere; one of four lingers, at its pass or off it."""
-    counter = set_counter(chance)
+    counter = drawn_counter(chance)
     machine[layout.COUNTER] = counter
     machine[layout.LINGERING] = int(not chance.randrange(4))
     off = chance.choice((0, 0, 0, 1, -1, 4096, -4096, chance.getrandbits(20)))

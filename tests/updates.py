@@ -20,12 +20,12 @@ from library import (Test, compared, counts, machine_differences, met_seldom, pa
 from count_requests import OTHER_COUNT
 from reference import layout
 from reference.delay import units_refusal
-from reference.update import field, limit, still_lingering
+from reference.update import field, limit, low_20, still_lingering
 from update_requests import Answer, all_requests, answered
 
 COUNT, SEED = 20000, 1978
 HEAD, COUNTS = struct.Struct("<2I"), struct.Struct("<IQ")
-DLY, TICKS, GMODE, MMODE = 0b00001, 0b00011, (0b10100, 0b10101), 0b11110
+DLY, TIMER, TICKS, GMODE, MMODE = 0b00001, 0b00010, 0b00011, (0b10100, 0b10101), 0b11110
 
 # How often each kind is met at least, in COUNT requests.
 PROMISED = {
@@ -34,6 +34,10 @@ PROMISED = {
     "refused by 2 for the count": 200,
     **{f"TICKS leaves {count} update ticks": least for count, least in
        ((0, 300), (1, 100), (2, 100))},
+    **{f"{event}, counter above 20 bits": least for event, least in
+       (("lingering", 1000), ("a Linger waits", 100), ("Linger ended", 300), ("overrun set", 150),
+        ("a Linger at the counter", 80))},
+    "high bits of the counter cleared": 300,
     "lingering": 2000, "a Linger waits": 300, "the words end": 2500, "the ticks end": 1000,
     "no ticks": 1500, "Linger ended": 700, "overrun set": 500,
     **{f"code {code:05b} taken": 800 for code in range(32)},
@@ -119,6 +123,31 @@ def count_events(request, answer):
         yield f"TICKS leaves {left if left < 3 else 'more'} update ticks"
 
 
+def linger_events(before, after):
+    """What is counted of a Linger that ended or came too late."""
+    if before[layout.LINGERING] > after[layout.LINGERING]:
+        yield "Linger ended"
+    if before[layout.OVERRUN] < after[layout.OVERRUN]:
+        yield "overrun set"
+
+
+def counter_events(request, answer):
+    """What is counted of an update with a counter above 20 bits, and that a command sets or not."""
+    before, after = request.machine, answer.machine
+    counter = before[layout.COUNTER]
+    if not counter >> 20:
+        return
+    if after[layout.COUNTER] != counter:
+        yield "high bits of the counter cleared"
+        return
+    found = [ending(request, answer), *linger_events(before, after)]
+    lingers = [field(command, 4, 23) for command in request.commands[:answer.taken]
+               if field(command, 24, 28) == TIMER and field(command, 31, 32) == 0b10]
+    if low_20(counter) in lingers:
+        found.append("a Linger at the counter")
+    yield from (f"{event}, counter above 20 bits" for event in found)
+
+
 def events(request, answer):
     """All that is counted of a request."""
     yield ending(request, answer)
@@ -141,10 +170,8 @@ def events(request, answer):
         if field(refused, 24, 28) == DLY:
             yield refused_delay_event(refused)
     if answer.number in (0, 3, 4):
-        if before[layout.LINGERING] > after[layout.LINGERING]:
-            yield "Linger ended"
-        if before[layout.OVERRUN] < after[layout.OVERRUN]:
-            yield "overrun set"
+        yield from linger_events(before, after)
+        yield from counter_events(request, answer)
         if units_refusal(before):
             yield "a pass would be refused by 11 or 12"
 

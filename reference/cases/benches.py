@@ -33,6 +33,15 @@ def good():
     # The counter is set to 9 after pass 1; the line is printed after the update.
     yield ("counter set", ring(b"passes=2\ncommand=00009108\n"),
            b"pass=9 left=0 right=0\npass=10 left=0 right=0\n")
+    # The counter goes on past 2^20, and past 2^32 - 1 from 0.
+    yield ("counter of 20 bits", ring(b"passes=2\nword=4115:1048574\n"),
+           b"pass=1048575 left=0 right=0\npass=1048576 left=0 right=0\n")
+    yield ("counter of 32 bits", ring(b"passes=2\nword=4115:4294967294\n"),
+           b"pass=4294967295 left=0 right=0\npass=0 left=0 right=0\n")
+    # A Linger to pass 0, taken at 1048575, ends at 1048576; the counter goes to 16 then.
+    yield ("linger around 2^20", ring(b"passes=2\nword=4115:1048574\ncommand=00000110\n"
+                                      b"command=00010108\n"),
+           b"pass=1048575 left=0 right=0\npass=16 left=0 right=0\n")
     # GL of generator 0 is loaded (0xFFF * 2^18 = 0x3FFC0000) after pass 1, so it sounds in 2
     # and is heard in 3.
     quiet = b"word=10:962\nword=21:128\nword=4113:2\ncommand=3FFC0800\n"

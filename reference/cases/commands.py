@@ -127,6 +127,10 @@ OTHERS = (
     ("TT 00", 0xFFFFF100, {"w4115": 5}, 0, {}),
     ("TT 01", 0x12345108, {"w4115": 5}, 0, {4115: 0x12345}),
     ("x bits of TIMER", 0x1234516F, {"w4115": 5}, 0, {4115: 0x12345}),
+    # Setting the counter clears its high 12 bits.
+    ("TT 01, high bits", 0x12345108, {"w4115": 0x98700005}, 0, {4115: 0x12345}),
+    ("TT 01, all bits", 0xFFFFF108, {"w4115": 0xFFFFFFFF}, 0, {4115: 0xFFFFF}),
+    ("TT 00, high bits", 0xFFFFF100, {"w4115": 0x98700005}, 0, {}),
     # TICKS: T = data+1, N = data+2, ten bits of data in 14-23; 4343 gets N-T-8, here of N 265 or
     # T 1 where nothing else is said.
     ("T", 0x000FF180, {}, 0, {4113: 256, 4343: 1}),
@@ -189,6 +193,20 @@ LINGERS = (
     ("cleared, here", 0x00000118, {"w4115": 5}, 0, {4115: 0}),
     ("cleared, ahead", 0x00003118, {"w4115": 5}, 0, {4115: 0, 4116: 1, 4117: 3}),
     ("cleared, behind", 0xFFFFF118, {"w4115": 5}, 0, {4115: 0, 4118: 1}),
+    # A Linger is compared with the counter's low 20 bits: 0x98700005 is at 5.
+    ("ahead, high bits", 0x00007110, {"w4115": 0x98700005}, 0, {4116: 1, 4117: 7}),
+    ("here, high bits", 0x00005110, {"w4115": 0x98700005, "w4117": 9}, 0, {}),
+    ("1 behind, high bits", 0x00004110, {"w4115": 0x98700005}, 0, {4118: 1}),
+    ("4096 behind, high bits", 0x00000110, {"w4115": 0x00101000}, 0, {4118: 1}),
+    ("4097 behind, high bits", 0x00001110, {"w4115": 0x00101002}, 0, {4116: 1, 4117: 1}),
+    ("behind around 2^20", 0xFFFFF110, {"w4115": 0x00100000}, 0, {4118: 1}),
+    ("ahead around 2^20", 0x00001110, {"w4115": 0x000FFFFF}, 0, {4116: 1, 4117: 1}),
+    ("here at 2^20", 0x00000110, {"w4115": 0x00100000}, 0, {}),
+    ("ahead around 2^32", 0x00001110, {"w4115": 0xFFFFFFFF}, 0, {4116: 1, 4117: 1}),
+    ("here at 2^32 - 1", 0xFFFFF110, {"w4115": 0xFFFFFFFF}, 0, {}),
+    ("cleared, here, high bits", 0x00000118, {"w4115": 0x98700005}, 0, {4115: 0}),
+    ("cleared, ahead, high bits", 0x00005118, {"w4115": 0x98700005}, 0,
+     {4115: 0, 4116: 1, 4117: 5}),
 )
 
 
@@ -254,6 +272,12 @@ def lingering():
     yield "goes on, nothing asked", update([0xE0], w4115=6, w4116=1, w4117=7), (0, 0, {})
     yield "goes on, pass behind", update(two, w4115=8, w4116=1, w4117=7), (0, 0, {})
     yield "ends", update(two, w4115=7, w4116=1, w4117=7), (0, 2, {0: 2, 4116: 0})
+    # By the counter's low 20 bits: 0x00100007 and 0xFFF00007 are at 7.
+    for counter in (0x00100007, 0xFFF00007):
+        ended = update(two, w4115=counter, w4116=1, w4117=7)
+        yield f"ends at {counter}", ended, (0, 2, {0: 2, 4116: 0})
+    for counter in (0x00100006, 0x00100008, 0x70000000):
+        yield f"goes on at {counter}", update(two, w4115=counter, w4116=1, w4117=7), (0, 0, {})
     yield "ends without commands", update([], w4115=7, w4116=1, w4117=7), (0, 0, {4116: 0})
     yield "ends without ticks", update(two, w4115=7, w4116=1, w4117=7, w4114=2), (0, 0, {4116: 0})
     yield "a Linger pass alone", update(two, w4115=6, w4117=7), (0, 2, {0: 2})

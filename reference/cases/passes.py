@@ -37,7 +37,12 @@ def sums():
     quiet = machine(words={3840: 1, 3904: 2, 3968 + 63: 3, 4032 + 63: 4, 4115: 1048575})
     left = after(quiet)
     yield "copied and cleared", places_changed(quiet, left), {
-        3840: 0, 3904: 1, 3968 + 63: 0, 4032 + 63: 3, 4115: 0}
+        3840: 0, 3904: 1, 3968 + 63: 0, 4032 + 63: 3, 4115: 1048576}
+    # The counter has 32 bits; one of 20 bits goes on from its number.
+    for counter, counted in ((5, 6), (1048574, 1048575), (1048575, 1048576), (2097151, 2097152),
+                             (2147483647, 2147483648), (4294967294, 4294967295), (4294967295, 0)):
+        quiet[4115] = counter
+        yield f"pass {counter}", run_pass(quiet, [0], [], [], memory()).machine[4115], counted
     yield "fresh", places_changed(fresh_machine(), after(fresh_machine())), {4115: 1}
     # Only generators below T are taken.
     yield "above T", after(machine([generator("0000 00 0000")] + five))[3904 + 9], 0

@@ -10,7 +10,7 @@ HIGHEST = (
     (0, 1048575), (1, 268435455), (2816, 1073741823), (2822, 127),
     (3840, 1048575), (3904, 1048575), (3968, 1048575), (4095, 1048575),
     (4096, 1048575), (4111, 1048575), (4112, 1048575), (4113, 256), (4114, 1025),
-    (4115, 1048575), (4116, 1), (4117, 1048575), (4118, 1),
+    (4115, 4294967295), (4116, 1), (4117, 1048575), (4118, 1),
     # Delay unit 0 starts at 4,119, unit 31 at 4,336: X, Y, Z, P (1011), three words.
     (4119, 65535), (4120, 65535), (4121, 65535), (4122, 11), (4123, 1048575), (4124, 1048575),
     (4125, 1048575), (4336, 65535), (4337, 65535), (4338, 65535), (4339, 11), (4340, 1048575),
@@ -41,6 +41,9 @@ def number_with(place, value):
 
 def widths():
     """Each width and range, from both sides."""
+    # The counter has all 32 bits, so the first refused one is no word: 2^32. Smaller ones are good.
+    counters = (0, 1048575, 1048576, 16777216, 2147483648, 4294967294)
+    yield "counters", [number_with(4115, counter) for counter in counters], [0] * len(counters)
     for place, most in HIGHEST:
         yield f"word {place}", (number_with(place, most), number_with(place, most + 1)), (0, 2)
     yield "T 0", number_with(4113, 0), 2
