@@ -4,6 +4,7 @@ Run from the repository root as: python3 -m reference.selftest
 """
 
 import sys
+from time import process_time
 
 from reference.cases import (any_orders, benches, clipped, commands, comparisons, delays,
                              examples, generators, modifiers, parts, passes, questions)
@@ -12,6 +13,8 @@ from reference.faults import NAMES, switched_on
 MODULES = (examples, generators, modifiers, passes, clipped, questions, commands, comparisons,
            any_orders, parts, delays, benches)
 GROUPS = [group for module in MODULES for group in module.GROUPS]
+# How long each group took.
+SECONDS = {}
 
 
 def failures(checks):
@@ -28,7 +31,9 @@ def report(groups):
     """Prints a line for each group and the failures; gives both counts."""
     total, bad = 0, 0
     for title, checks in groups:
+        started = process_time()
         count, failed = failures(checks)
+        SECONDS[title] = process_time() - started
         print(f"{title}: {count} checks" + (f", {len(failed)} failed" if failed else ""))
         for name, got, expected in failed:
             print(f"  {name}: got {got}, expected {expected}")
@@ -36,11 +41,19 @@ def report(groups):
     return total, bad
 
 
+def failing(checks):
+    """The names of a group's cases that fail; what they are made by may fail too."""
+    try:
+        return [name for name, _, _ in failures(checks)[1]]
+    except AssertionError:
+        return ["an assertion"]
+
+
 def caught(fault):
-    """The first group that fails while a fault is on, and the names of its cases that do."""
+    """The first group that fails while a fault is on, quick ones first, and its cases that do."""
     with switched_on(fault):
-        for title, checks in GROUPS:
-            if names := [name for name, _, _ in failures(checks)[1]]:
+        for title, checks in sorted(GROUPS, key=lambda group: SECONDS[group[0]]):
+            if names := failing(checks):
                 return title, names
     return None, []
 
