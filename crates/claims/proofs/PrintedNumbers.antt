@@ -8,9 +8,10 @@ use Prim.Native.Nat.{ℕ, zero, suc, _+_, _*_, _/_, _%_, _^_, _<_, _≤_}
 use Prim.Native.Char.{code}
 use native.Mathlib.Omega.{arith}
 use native.Mathlib.Nat.{pow-suc}
-use borrow.Author.Tests.{ltb-true, ltb-false, lt-ltb, le-leb, eqb-true, eqb-false, ne-eqb, le-ltb}
+use borrow.Author.Tests.{ltb-true, ltb-false, lt-ltb, le-leb, eqb-true, eqb-false, ne-eqb}
 use lib.Dec.{eqb, ltb, lit<}
 use lib.ListN.{length, getD, length-append}
+use Rattle.lists.proofs.Below.{and-first, and-second, and-both}
 use Rattle.layout.specs.Widths.{counterBits}
 use Rattle.bench_text.specs.Text.{digits, decimal}
 use Rattle.bench_numbers.specs.Numbers.{digitValue, allDigits, writtenAfter, numberIn, leadingZero, decimalIn}
@@ -50,10 +51,9 @@ one-digit n h =
 all-more : (more text : List ℕ) → allDigits 10 text ≡ true → allDigits 10 more ≡ true → allDigits 10 (text ++ more) ≡ true
 unfolding allDigits
 all-more more [] p q = q
-all-more more (x ∷ text) p q = go (ltb (digitValue x) 10) p where
-  go : (b : Bool) → (b && allDigits 10 text) ≡ true → (b && allDigits 10 (text ++ more)) ≡ true
-  go true p = all-more more text p q
-  go false p = p
+all-more more (x ∷ text) p q =
+    let digit = ltb (digitValue x) 10 in
+    and-both digit (allDigits 10 (text ++ more)) (and-first digit (allDigits 10 text) p) (all-more more text (and-second digit (allDigits 10 text) p) q)
 
 number-more : (more text : List ℕ) (n : ℕ) → writtenAfter 10 n (text ++ more) ≡ writtenAfter 10 (writtenAfter 10 n text) more
 unfolding writtenAfter
@@ -80,10 +80,11 @@ more-digits n text h w =
 digits-write : (k n : ℕ) → n < 10 ^ suc k → Writes n (digits (suc k) n)
 unfolding digits
 digits-write zero n h = let l : n < 10 = omega arith in rw (lt-ltb n 10 l) (one-digit n l)
-digits-write (suc k) n h = go (ltb n 10) refl where
-  go : (b : Bool) → ltb n 10 ≡ b → Writes n (cond b ((code "0" + n) ∷ []) (digits (suc k) (n / 10) ++ ((code "0" + n % 10) ∷ [])))
-  go true e = one-digit n (ltb-true n 10 e)
-  go false e = more-digits n (digits (suc k) (n / 10)) (ltb-false n 10 e) (digits-write k (n / 10) (omega (arith, h, pow-suc 10 (suc k))))
+digits-write (suc k) n h = go (ltb n 10) refl (digits-write k (n / 10) (omega (arith, h, pow-suc 10 (suc k)))) where
+  go : (b : Bool) → ltb n 10 ≡ b → Writes (n / 10) (digits (suc k) (n / 10))
+      → Writes n (cond b ((code "0" + n) ∷ []) (digits (suc k) (n / 10) ++ ((code "0" + n % 10) ∷ [])))
+  go true e w = one-digit n (ltb-true n 10 e)
+  go false e w = more-digits n (digits (suc k) (n / 10)) (ltb-false n 10 e) w
 
 no-leading-zero : (n : ℕ) (text : List ℕ) → Writes n text → leadingZero text ≡ false
 unfolding leadingZero
