@@ -1,4 +1,4 @@
-// Words of a lent run, read and written with a guard.
+// Words of a run that the caller holds, read and written with a guard.
 ghost use mathlib.Core.Path.{_≡_};
 ghost use lib.ListN.{getD, set};
 
