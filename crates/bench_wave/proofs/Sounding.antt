@@ -37,7 +37,7 @@ unfolding rateOf
 rate-below n h = div-lt-iff-lt-mul {k = 390 * n} (omega arith) .1 (omega arith)
 
 -- A ringing that no question ends has a frame for each pass.
-pub frames-count : (k : ℕ) (m : Machine) (memory : Memory) (commands : Commands) → heard k m memory commands .number ≡ 0
+frames-count : (k : ℕ) (m : Machine) (memory : Memory) (commands : Commands) → heard k m memory commands .number ≡ 0
     → length (framesOf (heard k m memory commands .machines)) ≡ frameBytes * k
 unfolding heard framesOf
 frames-count zero m memory commands z = refl

@@ -26,7 +26,7 @@ use Rattle.sums.specs.Sums.{generatorLast, sumsOf}
 use Rattle.sums.proofs.Blocks.{outside-before, outside-after}
 use Rattle.sums.proofs.Memory.{Quadrants, sums-quadrants}
 use Rattle.pass_model.specs.Generators.{Generators, of1978, Taken, begun, takenBy}
-use Rattle.pass_model.specs.Pass.{Call, by, generatorsTaken, finished, ran, refused, passRefusal, passOf}
+use Rattle.pass_model.specs.Pass.{Call, by, writtenData, generatorsTaken, finished, ran, refused, passRefusal, passOf}
 use Rattle.pass_model.specs.Modifiers.{Held}
 use Rattle.pass_model.proofs.Asked.{past-memory}
 use Rattle.pass_model.proofs.Delays.{off-below}
@@ -36,7 +36,7 @@ use Rattle.pass_laws.proofs.Frames.{steps-length, steps-quadrants}
 use Rattle.pass_laws.proofs.Passing.{good-passes, begun-words, begun-sums, let-through}
 use Rattle.equal_endings.specs.Ends.{takenIn, SameTaken}
 use Rattle.equal_witnesses.specs.Contents.{SameHeard}
-use Rattle.equal_orders.specs.Equal.{SameEnd, writtenData}
+use Rattle.equal_orders.specs.Equal.{SameEnd}
 
 -- An order passes questions 5 and 6.
 abbrev pub OrderPasses : ℕ → Order → Type 0

@@ -3,11 +3,11 @@
 use Prim.Native.Nat.{ℕ, _^_, _≤_, _<_}
 use mathlib.Core.List.{List}
 use mathlib.Core.Path.{_≡_}
-use lib.ListN.{length, getD, take}
+use lib.ListN.{length, getD}
 use Rattle.modes.specs.Modes.{readData, writeData, writeDAC}
 use Rattle.order.specs.Order.{inMode}
 use Rattle.layout.specs.Machine.{Machine, Order, ticksOf, runModeAt, gmodeAt, gsumAt, gfmAt, dacNumberAt}
-use Rattle.pass_model.specs.Pass.{Call, by, Outcome, passOf}
+use Rattle.pass_model.specs.Pass.{Call, by, Outcome, writtenData, passOf}
 use Rattle.pass_laws.specs.Good.{Good}
 
 -- Two machines have the same settings: T, every GMODE, GSUM and GFM, and the DAC number of each 0010.
@@ -28,10 +28,6 @@ pub record Enough (m : Machine) (call : Call) : Type 0 where
   pub places : Words (call .places)
   pub reads : inMode m readData ≤ length (call .items)
   pub writes : inMode m writeData ≤ length (call .places)
-
--- The written data: the items that a pass wrote, in their sequence.
-abbrev pub writtenData : Outcome → List ℕ
-writtenData r = take (r .written) (r .places)
 
 -- Two passes leave the same value in each word of the machine and of delay memory, and write the same items in the same sequence.
 pub record SameEnd (r s : Outcome) : Type 0 where

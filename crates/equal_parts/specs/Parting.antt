@@ -8,9 +8,9 @@ use Rattle.layout.specs.Machine.{Machine, Order, Items, Places, Memory}
 use Rattle.modes.specs.Modes.{readData, writeData}
 use Rattle.order.specs.Order.{inMode}
 use Rattle.delay_questions.specs.Questions.{memoryGood}
-use Rattle.pass_model.specs.Pass.{Outcome, passOf}
+use Rattle.pass_model.specs.Pass.{Outcome, writtenData, passOf}
 use Rattle.pass_laws.specs.Good.{Good}
-use Rattle.equal_orders.specs.Equal.{SameSettings, writtenData}
+use Rattle.equal_orders.specs.Equal.{SameSettings}
 
 -- Two passes both run, and leave another machine or other written data. What they leave in delay memory doesn't count.
 pub record Parted (r s : Outcome) : Type 0 where

@@ -69,7 +69,7 @@ module _ (of : Generators) (items : Items) where
         go false = p
 
     -- A mark that is set stays, whatever is taken afterwards.
-    pub mark-stays : (order : Order) (s : State) (marks : Marks) → w < length marks → getD marks w 0 ≡ 1 → getD (markedBy of items s marks order) w 0 ≡ 1
+    mark-stays : (order : Order) (s : State) (marks : Marks) → w < length marks → getD marks w 0 ≡ 1 → getD (markedBy of items s marks order) w 0 ≡ 1
     mark-stays = marks-by (λ n. n ≡ 1) refl
 
     pub mark-bit : (order : Order) (s : State) (marks : Marks) → w < length marks → getD marks w 0 ≤ 1 → getD (markedBy of items s marks order) w 0 ≤ 1
@@ -84,11 +84,11 @@ module _ (of : Generators) (items : Items) where
     sets-mark (k ∷ earlier) g later s marks h e =
         sets-mark earlier g later (step of items s k) (marked of items s marks k) (rw (marked-length s marks k) h) e
 
-    pub left-sets : (order : Order) (s : State) (marks : Marks) → w < length marks → SumLeft of items s order w → getD (markedBy of items s marks order) w 0 ≡ 1
+    left-sets : (order : Order) (s : State) (marks : Marks) → w < length marks → SumLeft of items s order w → getD (markedBy of items s marks order) w 0 ≡ 1
     left-sets order s marks h l = rw (l .taken) (sets-mark (l .earlier) (l .generator) (l .later) s marks h (l .left))
 
     -- A mark that is set was set before, or some generator left the range.
-    pub set-left : (order : Order) (s : State) (marks : Marks) → w < length marks → getD (markedBy of items s marks order) w 0 ≡ 1
+    set-left : (order : Order) (s : State) (marks : Marks) → w < length marks → getD (markedBy of items s marks order) w 0 ≡ 1
         → (getD marks w 0 ≡ 1) ⊎ SumLeft of items s order w
     unfolding markedBy steps
     set-left [] s marks h e = inl e

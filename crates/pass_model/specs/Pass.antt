@@ -2,9 +2,9 @@
 -- Assumes nothing.
 use Prim.Native.Nat.{ℕ, _+_, _/_, _%_, _^_}
 use mathlib.Core.Bool.{cond}
-use mathlib.Core.List.{[], _∷_}
+use mathlib.Core.List.{List, [], _∷_}
 use lib.Dec.{eqb}
-use lib.ListN.{getD, set}
+use lib.ListN.{getD, set, take}
 use Rattle.lists.specs.Lists.{zeros}
 use Rattle.layout.specs.Layout.{counterAt, memoryWords}
 use Rattle.layout.specs.Widths.{counterBits}
@@ -43,6 +43,10 @@ pub record Outcome : Type 0 where
   pub machine : Machine
   pub places : Places
   pub memory : Memory
+
+-- The written data: the items that a pass wrote, in their sequence.
+abbrev pub writtenData : Outcome → List ℕ
+writtenData r = take (r .written) (r .places)
 
 -- 1 is added to the counter.
 unfoldable pub counted : Machine → Machine
