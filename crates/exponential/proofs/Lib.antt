@@ -1,3 +1,4 @@
 pub mod Largest
 pub mod Entries
 pub mod Sizes
+pub mod OlderTable
