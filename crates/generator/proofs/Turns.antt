@@ -5,9 +5,10 @@ use mathlib.Core.Bool.{Bool, true, false, cond, _&&_, and-true, and-false}
 use Prim.Native.Nat.{ℕ, _/_, _^_, _<_, _≤_}
 use native.Mathlib.Omega.{arith}
 use lib.Dec.{eqb}
+use lib.IntN.{ℤ}
 use borrow.Author.Tests.{ne-eqb}
 use Rattle.words.specs.declared.SignMagnitude.{SignMagnitude}
-use Rattle.words.specs.Words.{lowBits, sum, sumInto, valueOf}
+use Rattle.words.specs.Words.{lowBits, sum, sumInto, leaves, valueOf}
 use Rattle.modes.specs.declared.Switches.{Switches}
 use Rattle.modes.specs.Modes.{oscillatorOn, envelopeOn, free, wait, runningC, switchesOf, withRunMode}
 use Rattle.modes.proofs.RunModes.{oscillator-tells, free-tells}
@@ -17,34 +18,42 @@ use Rattle.envelope.specs.Envelope.{overflows, decayed, enveloped}
 use Rattle.lists.specs.Lists.{isOneOf}
 use Rattle.generator.specs.declared.Generator.{Generator}
 use Rattle.generator.specs.Generator.{updated, Ranged, runMode, oscillatorMode, jOf, kOf, leftRange, wOf, vOf, pOf, gjAfter, gkAfter, gqAfter, gmodeAfter, triggers, after, soundedOf}
-use Rattle.generator.specs.Steps.{oscillated, kBy, leftBy, outputBy, endedOf}
+use Rattle.generator.specs.Steps.{phaseOf, oscillated, kBy, leftBy, outputBy, endedOf}
 
--- P, of J and the oscillator's switch.
-pub output-is : (g : Generator) (f : ℕ) → outputBy (oscillatorOn (runMode g)) g f (jOf g f) ≡ pOf g f
-unfolding outputBy kBy leftBy pOf wOf kOf leftRange
+-- J, of the exact sum of step 1.
+pub phase-low : (g : Generator) (f : ℕ) → lowBits 20 (phaseOf g f) ≡ jOf g f
+unfolding phaseOf jOf sum
+phase-low g f = refl
+
+pub low-is-j : (g : Generator) (f : ℕ) {z : ℤ} {j : ℕ} → z ≡ phaseOf g f → j ≡ lowBits 20 z → j ≡ jOf g f
+low-is-j g f h l = l ∙ ap (lowBits 20) h ∙ phase-low g f
+
+-- P, of the exact sum of step 1, J and the oscillator's switch.
+pub output-is : (g : Generator) (f : ℕ) → outputBy (oscillatorOn (runMode g)) g (phaseOf g f) (jOf g f) ≡ pOf g f
+unfolding outputBy kBy leftBy pOf wOf kOf leftRange phaseOf leaves
 output-is g f = refl
 
 -- P by the oscillator mode, of V.
-module _ (on : Bool) (g : Generator) (f j v : ℕ) {p : ℕ} (is-v : v ≡ vOf g) where
-  pub output-of-j : p ≡ lowBits 20 (enveloped (sineWave (j / 2 ^ 7) (g .gm)) v) → oscillatorMode g ≡ 8 → p ≡ outputBy on g f j
+module _ (on : Bool) (g : Generator) (z : ℤ) (j v : ℕ) {p : ℕ} (is-v : v ≡ vOf g) where
+  pub output-of-j : p ≡ lowBits 20 (enveloped (sineWave (j / 2 ^ 7) (g .gm)) v) → oscillatorMode g ≡ 8 → p ≡ outputBy on g z j
   unfolding outputBy kBy waveOf
   output-of-j h e = rw (e, h, is-v)
 
-  pub output-of-gk : p ≡ lowBits 20 (enveloped (sineWave (g .gk / 2 ^ 7) (g .gm)) v) → oscillatorMode g ≡ 0 → p ≡ outputBy on g f j
+  pub output-of-gk : p ≡ lowBits 20 (enveloped (sineWave (g .gk / 2 ^ 7) (g .gm)) v) → oscillatorMode g ≡ 0 → p ≡ outputBy on g z j
   unfolding outputBy kBy waveOf
   output-of-gk h e = rw (e, h, is-v)
 
   pub output-shaped : {w : SignMagnitude} → p ≡ lowBits 20 (enveloped (valueOf w) v)
-      → Wave (waveOf (oscillatorMode g) (g .gk / 2 ^ 7) (g .gn) (g .gm) (leftBy on g f j)) w → oscillatorMode g < 4 → p ≡ outputBy on g f j
+      → Wave (waveOf (oscillatorMode g) (g .gk / 2 ^ 7) (g .gn) (g .gm) (leftBy on g z j)) w → oscillatorMode g < 4 → p ≡ outputBy on g z j
   unfolding outputBy kBy
   output-shaped h k l = rw (ne-eqb (oscillatorMode g) 8 (λ e. omega arith), ← (k .is), ← is-v) h
 
-  pub output-cosines : p ≡ lowBits 20 (enveloped (sumOfCosines (g .gk / 2 ^ 7) (g .gn) (g .gm)) v) → oscillatorMode g ≡ 4 → p ≡ outputBy on g f j
+  pub output-cosines : p ≡ lowBits 20 (enveloped (sumOfCosines (g .gk / 2 ^ 7) (g .gn) (g .gm)) v) → oscillatorMode g ≡ 4 → p ≡ outputBy on g z j
   unfolding outputBy kBy waveOf
   output-cosines h e = rw (e, h, is-v)
 
   -- A mode that isn't built.
-  pub output-rest : p ≡ lowBits 20 (enveloped (sineWave (g .gk / 2 ^ 7) (g .gm)) v) → ¬ (oscillatorMode g ≡ 8) → ¬ (oscillatorMode g ≡ 4) → 4 ≤ oscillatorMode g → p ≡ outputBy on g f j
+  pub output-rest : p ≡ lowBits 20 (enveloped (sineWave (g .gk / 2 ^ 7) (g .gm)) v) → ¬ (oscillatorMode g ≡ 8) → ¬ (oscillatorMode g ≡ 4) → 4 ≤ oscillatorMode g → p ≡ outputBy on g z j
   unfolding outputBy kBy waveOf
   output-rest h n c l = simp (ne-eqb (oscillatorMode g) 8 n, ne-eqb (oscillatorMode g) 1 (λ e. omega arith), ne-eqb (oscillatorMode g) 2 (λ e. omega arith), ne-eqb (oscillatorMode g) 3 (λ e. omega arith), ne-eqb (oscillatorMode g) 4 c) (rw (← is-v) h)
 
@@ -90,11 +99,14 @@ module _ (g : Generator) (f : ℕ) (told : Bool) (sounds : envelopeOn (runMode g
       decays-by g (free (runMode g)) (oscillatorOn (runMode g)) _ _
       ∙ rw (sounds, t, and-false, sounds-not-waits (runMode g) sounds)
 
--- The turn by the code's values: J, P, the registers u after the oscillator's steps and v after the envelope's, and whether the envelope overflows.
+-- The turn by the code's values: the exact sum z of step 1, J, P, the registers u after the oscillator's steps and v after the envelope's, and whether the envelope overflows.
 module _ (g : Generator) (f : ℕ) (on : Switches) (same : on ≡ switchesOf (runMode g)) (sounds : envelopeOn (runMode g) ≡ true)
-    (j p : ℕ) (u v : Generator) (over : Bool) (is-j : j ≡ jOf g f) (is-p : p ≡ outputBy (eqb (on .oscillator) 1) g f j)
+    (z : ℤ) (j p : ℕ) (u v : Generator) (over : Bool) (is-z : z ≡ phaseOf g f) (is-low : j ≡ lowBits 20 z) (is-p : p ≡ outputBy (eqb (on .oscillator) 1) g z j)
     (is-u : u ≡ oscillated (eqb (on .oscillator) 1) g j) (is-v : v ≡ decays (eqb (on .free) 1) u)
     (is-over : over ≡ overflows (g .gq) (g .gp)) where
+  is-j : j ≡ jOf g f
+  is-j = low-is-j g f is-z is-low
+
   oscillator-same : eqb (on .oscillator) 1 ≡ oscillatorOn (runMode g)
   oscillator-same = rw same (oscillator-tells (runMode g))
 
@@ -102,7 +114,7 @@ module _ (g : Generator) (f : ℕ) (on : Switches) (same : on ≡ switchesOf (ru
   free-same = rw same (free-tells (runMode g))
 
   p-same : p ≡ pOf g f
-  p-same = rw (is-p, is-j, oscillator-same) (output-is g f)
+  p-same = rw (is-p, is-z, is-j, oscillator-same) (output-is g f)
 
   triggers-same : (eqb (on .free) 1 && over) ≡ triggers g
   unfolding triggers

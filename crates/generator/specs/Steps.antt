@@ -1,14 +1,20 @@
--- The steps of a generator's turn as the code takes them, of values that it has at hand: J, and whether the oscillator is on. Laws in proofs/ join them to the definitions of Generator.antt, which alone say what is right.
+-- The steps of a generator's turn as the code takes them, of values that it has at hand: the exact sum of step 1, J, and whether the oscillator is on. Laws in proofs/ join them to the definitions of Generator.antt, which alone say what is right.
 -- Assumes nothing.
 use Prim.Native.Nat.{ℕ, _/_, _^_}
 use mathlib.Core.Bool.{Bool, cond, _&&_, _||_}
-use lib.Dec.{eqb}
-use Rattle.words.specs.Words.{lowBits, sum, sumInto, leaves}
+use lib.Dec.{eqb, leb}
+use lib.IntN.{ℤ, _+ℤ_}
+use lib.Signed.{mag}
+use Rattle.words.specs.Words.{lowBits, signed, sum, sumInto, leaves}
 use Rattle.modes.specs.Modes.{wait, runningC, withRunMode}
 use Rattle.oscillator.specs.Oscillator.{waveOf}
 use Rattle.envelope.specs.Envelope.{enveloped}
 use Rattle.generator.specs.declared.Generator.{Generator}
 use Rattle.generator.specs.Generator.{updated, runMode, oscillatorMode, vOf}
+
+-- Step 1: the high 20 bits of GJ plus F, before J is made of it.
+unfoldable pub phaseOf : Generator → ℕ → ℤ
+phaseOf g f = signed 20 (g .gj / 2 ^ 8) +ℤ signed 20 f
 
 -- Steps 2 and 4.
 unfoldable pub oscillated : Bool → Generator → ℕ → Generator
@@ -19,13 +25,13 @@ oscillated on g j =
 unfoldable pub kBy : Generator → ℕ → ℕ
 kBy g j = cond (eqb (oscillatorMode g) 8) j (g .gk) / 2 ^ 7
 
--- Whether a sum of step 1 or 4 left its range.
-unfoldable pub leftBy : Bool → Generator → ℕ → ℕ → Bool
-leftBy on g f j = leaves 20 (g .gj / 2 ^ 8) f || (on && leaves 20 (g .gk) j)
+-- Whether a sum of step 1, exactly z, or of step 4 left its range.
+unfoldable pub leftBy : Bool → Generator → ℤ → ℕ → Bool
+leftBy on g z j = leb (2 ^ 19) (mag z) || (on && leaves 20 (g .gk) j)
 
 -- Steps 6 to 9.
-unfoldable pub outputBy : Bool → Generator → ℕ → ℕ → ℕ
-outputBy on g f j = lowBits 20 (enveloped (waveOf (oscillatorMode g) (kBy g j) (g .gn) (g .gm) (leftBy on g f j)) (vOf g))
+unfoldable pub outputBy : Bool → Generator → ℤ → ℕ → ℕ
+outputBy on g z j = lowBits 20 (enveloped (waveOf (oscillatorMode g) (kBy g j) (g .gn) (g .gm) (leftBy on g z j)) (vOf g))
 
 -- 1101 goes to 1001.
 unfoldable pub endedOf : Generator → Generator

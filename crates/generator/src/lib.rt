@@ -4,14 +4,14 @@ ghost use mathlib.Core.Path.{_≡_};
 ghost use mathlib.Core.Bool.{true};
 ghost use lib.Dec.{eqb};
 ghost use lib.ListN.{length};
-ghost use Rattle.words.specs.Words.{lowBits, sum, sumInto};
+ghost use Rattle.words.specs.Words.{lowBits, signed, sum, sumInto};
 ghost use Rattle.sine.specs.Sine.{quarter};
 ghost use Rattle.exponential.specs.Exponential.{tableSize, entries};
 ghost use Rattle.modes.specs.Modes.{switchesOf, envelopeOn, wait, withRunMode};
 ghost use Rattle.oscillator.specs.Oscillator.{Wave, waveOf, sineWave, sumOfCosines};
 ghost use Rattle.envelope.specs.Envelope.{overflows, decayed, enveloped};
-ghost use Rattle.generator.specs.Generator.{loaded, stored, updated, Ranged, runMode, oscillatorMode, jOf, after, soundedOf};
-ghost use Rattle.generator.specs.Steps.{oscillated, leftBy, outputBy, endedOf};
+ghost use Rattle.generator.specs.Generator.{loaded, stored, updated, Ranged, runMode, oscillatorMode, after, soundedOf};
+ghost use Rattle.generator.specs.Steps.{phaseOf, oscillated, leftBy, outputBy, endedOf};
 use exponential::Entries;
 use modes::Switches;
 use sine::Quarter;
@@ -81,13 +81,13 @@ impl Generator {
         m[layout::GMODE] = self.gmode;
     }
 
-    // Step 1: J, the high 20 bits of GJ plus F.
+    // Step 1: the high 20 bits of GJ plus F, exactly; J is its low 20 bits. One number tells J and whether the sum left its range.
     fn phase(self, f: u32) -> u32
         requires { ⌜ Ranged self ⌝ }
         requires { ⌜ f < 2 ^ 20 ⌝ }
-        ensures { λ r. ⌜ (r ≡ jOf self f) × (r < 2 ^ 20) ⌝ }
+        ensures { λ r. ⌜ signed 32 r ≡ phaseOf self f ⌝ }
     {
-        words::add20(self.gj / 256, f)
+        words::exact20(self.gj / 256, f)
     }
 
     // Step 2: GO is added into GJ.
@@ -147,13 +147,13 @@ impl Generator {
         self
     }
 
-    // Whether the sum of step 1, or of step 4 where it is done, leaves its range.
-    fn left_range(self, on: u8, f: u32, j: u32) -> bool
+    // Whether the exact sum of step 1, or the sum of step 4 where it is done, leaves its range.
+    fn left_range(self, on: u8, exact: u32, j: u32) -> bool
         requires { ⌜ Ranged self ⌝ }
-        requires { ⌜ (f < 2 ^ 20) × (j < 2 ^ 20) ⌝ }
-        ensures { λ r. ⌜ r ≡ leftBy (eqb on 1) self f j ⌝ }
+        requires { ⌜ j < 2 ^ 20 ⌝ }
+        ensures { λ r. ⌜ r ≡ leftBy (eqb on 1) self (signed 32 exact) j ⌝ }
     {
-        if words::leaves20(self.gj / 256, f) {
+        if words::beyond20(exact) {
             return true;
         }
         if on == 1 {
@@ -163,11 +163,11 @@ impl Generator {
     }
 
     // Step 6 in the oscillator modes 0001, 0010 and 0011.
-    fn shaped(self, on: u8, f: u32, j: u32, k: u32) -> SignMagnitude
+    fn shaped(self, on: u8, exact: u32, j: u32, k: u32) -> SignMagnitude
         requires { ⌜ Ranged self ⌝ }
-        requires { ⌜ (f < 2 ^ 20) × (j < 2 ^ 20) × (k < 2 ^ 13) ⌝ }
+        requires { ⌜ (j < 2 ^ 20) × (k < 2 ^ 13) ⌝ }
         requires { ⌜ (0 < oscillatorMode self) × (oscillatorMode self < 4) ⌝ }
-        ensures { λ r. ⌜ Wave (waveOf (oscillatorMode self) k (self .gn) (self .gm) (leftBy (eqb on 1) self f j)) r ⌝ }
+        ensures { λ r. ⌜ Wave (waveOf (oscillatorMode self) k (self .gn) (self .gm) (leftBy (eqb on 1) self (signed 32 exact) j)) r ⌝ }
     {
         let mode = self.gmode % 16;
         if mode == 1 {
@@ -176,7 +176,7 @@ impl Generator {
         if mode == 2 {
             return oscillator::square(k);
         }
-        oscillator::pulse(self.left_range(on, f, j))
+        oscillator::pulse(self.left_range(on, exact, j))
     }
 
     // Steps 6 and 9 in the oscillator modes 0000 and 1000: P, of K and V.
@@ -197,12 +197,12 @@ impl Generator {
         envelope::enveloped(oscillator::sum_of_cosines(sine, k, self.gn, self.gm), v)
     }
 
-    // Steps 3 and 6 to 9: P, of J and whether the oscillator is on. K is the high 13 bits of J or of GK.
-    fn output(self, sine: &Quarter, decay: &Entries, on: u8, f: u32, j: u32) -> u32
+    // Steps 3 and 6 to 9: P, of the exact sum of step 1, J and whether the oscillator is on. K is the high 13 bits of J or of GK.
+    fn output(self, sine: &Quarter, decay: &Entries, on: u8, exact: u32, j: u32) -> u32
         requires { ⌜ Ranged self ⌝ }
         requires { ⌜ (now sine ≡ quarter) × (now decay ≡ entries tableSize) ⌝ }
-        requires { ⌜ (f < 2 ^ 20) × (j < 2 ^ 20) ⌝ }
-        ensures { λ r. ⌜ r ≡ outputBy (eqb on 1) self f j ⌝ }
+        requires { ⌜ j < 2 ^ 20 ⌝ }
+        ensures { λ r. ⌜ r ≡ outputBy (eqb on 1) self (signed 32 exact) j ⌝ }
     {
         let v = envelope::level(decay, self.gmode / 16 % 4, self.gl, self.gq);
         if self.gmode % 16 == 8 {
@@ -211,11 +211,11 @@ impl Generator {
         if self.gmode % 16 == 0 {
             return self.sine_under(sine, self.gk / 128, v);
         }
-        if self.gmode % 16 < 4 {
-            return envelope::enveloped(self.shaped(on, f, j, self.gk / 128), v);
-        }
         if self.gmode % 16 == 4 {
             return self.cosines_under(sine, self.gk / 128, v);
+        }
+        if self.gmode % 16 < 4 {
+            return envelope::enveloped(self.shaped(on, exact, j, self.gk / 128), v);
         }
         self.sine_under(sine, self.gk / 128, v)
     }
@@ -238,9 +238,10 @@ impl Generator {
         requires { ⌜ f < 2 ^ 20 ⌝ }
         ensures { λ r. ⌜ r ≡ soundedOf self f ⌝ }
     {
-        let j = self.phase(f);
-        let p = self.output(sine, decay, on.oscillator, f, j);
+        let exact = self.phase(f);
+        let j = words::low20(exact);
         let turned = self.oscillate(on.oscillator, j);
+        let p = self.output(sine, decay, on.oscillator, exact, j);
         if self.overflows() {
             let decayed = turned.decay(on.free);
             if on.free == 1 {
@@ -271,7 +272,7 @@ impl Generator {
         requires { ⌜ (runMode self ≡ wait) × (f < 2 ^ 20) ⌝ }
         ensures { λ r. ⌜ r ≡ after self f told ⌝ }
     {
-        let j = self.phase(f);
+        let j = words::low20(self.phase(f));
         let turned = self.oscillate(1, j);
         if told {
             return turned.with_run_mode(modes::RUNNING_C);

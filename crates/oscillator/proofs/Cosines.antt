@@ -3,12 +3,13 @@
 use mathlib.Core.Path.{_≡_, refl, sym, ap, _∙_}
 use mathlib.Core.Bool.{Bool, true, false, cond}
 use Prim.Native.Nat.{ℕ, zero, suc, _+_, _*_, _/_, _%_, _^_, _<_, _≤_, min}
-use native.Mathlib.Nat.{mul-le-mul, mod-eq-of-lt, le-mul-of-pos-right, pow-le-pow-right, min-le-left}
+use native.Mathlib.Nat.{mul-le-mul, mod-eq-of-lt, le-mul-of-pos-right, pow-le-pow-right, min-le-left, min-eq-left, min-eq-right, le-div-iff-mul-le, div-le-of-le-mul, mul-div-cancel}
 use native.Mathlib.Omega.{arith}
-use lib.Dec.{eqb, lit≤}
+use lib.Dec.{eqb, ltb, lit≤}
 use lib.IntN.{ℤ, pos, negsuc, negℤ, natAbs, _*ℤ_}
 use lib.Pow.{pow-pos}
 use lib.Signed.{nonNeg}
+use borrow.Author.Tests.{ltb-true, ltb-false}
 use Rattle.words.specs.Words.{signed, lowBits, valueOf}
 use Rattle.words.proofs.Residues.{low-lt, low-times}
 use Rattle.sine.specs.Sine.{magnitude, negative, signOf}
@@ -38,6 +39,29 @@ shifted-exact k gm h = mod-eq-of-lt (omega (arith, shifted-fits k gm h))
 
 pub shifted-positive : (k gm : ℕ) → 0 < magnitude k * 2 ^ gm
 shifted-positive k gm = omega (arith, magnitude-positive k, le-mul-of-pos-right (magnitude k) (pow-pos gm))
+
+-- The quotient of the smaller of s and b by b is the quotient of s, capped: where b is the smaller it is the most, 4,095.
+cap-small : (s b : ℕ) → 0 < b → s < b → 4095 * min s b / b ≡ min 4095 (4095 * s / b)
+cap-small s b p l = rw (min-eq-left {n = s} {m = b} (omega arith)) (sym (min-eq-right {n = 4095 * s / b} {m = 4095} (div-le-of-le-mul b fits)))
+  where
+    fits : 4095 * s ≤ b * 4095
+    fits = omega arith
+
+cap-large : (s b : ℕ) → 0 < b → b ≤ s → 4095 * min s b / b ≡ min 4095 (4095 * s / b)
+cap-large s b p l =
+    rw (min-eq-right {n = b} {m = s} l, mul-div-cancel 4095 {n = b} p)
+    (sym (min-eq-left {n = 4095} {m = 4095 * s / b} (le-div-iff-mul-le {k = b} {x = 4095} {y = 4095 * s} p .1 (omega arith))))
+
+-- A sine or a smaller number is at most 4,095.
+pub smaller-low : (i b : ℕ) {s n : ℕ} → n ≡ min s b → s ≡ magnitude i → n ≤ 4095
+smaller-low i b {s} h k = omega (arith, h, k, min-le-left s b, magnitude-low i)
+
+pub cap-first : (s b : ℕ) → 0 < b → 4095 * min s b / b ≡ min 4095 (4095 * s / b)
+cap-first s b p = go (ltb s b) refl
+  where
+    go : (c : Bool) → ltb s b ≡ c → 4095 * min s b / b ≡ min 4095 (4095 * s / b)
+    go true e = cap-small s b p (ltb-true s b e)
+    go false e = cap-large s b p (ltb-false s b e)
 
 -- A number with a sign, its magnitude, and whether a product of two such is negative.
 abbrev signedBy : Bool → ℕ → ℤ

@@ -73,26 +73,28 @@ fn multiple_index(k: u32, gn: u32) -> u32
     2 * (k * gn % 4096)
 }
 
-// A magnitude of at most 4,095.
-fn capped(x: u32) -> u32
-    ensures { λ r. ⌜ r ≡ min 4095 x ⌝ }
+// The smaller of two numbers.
+fn smaller(x: u32, y: u32) -> u32
+    ensures { λ r. ⌜ r ≡ min x y ⌝ }
 {
-    if x < 4095 {
+    if x < y {
         return x;
     }
-    4095
+    y
 }
 
-// The sum of cosines: the sine at twice p over the sine at K shifted left GM places, p the low 12 bits of K times GN.
+// The sum of cosines: the sine s at twice p over the sine d at K shifted left GM places, p the low 12 bits of K times GN.
+// Where s is the larger, the quotient is the most, 4,095; so the cap is on s, before the division, where no test waits for a quotient.
 pub fn sum_of_cosines(table: &Quarter, k: u32, gn: u32, gm: u32) -> SignMagnitude
     requires { ⌜ now table ≡ quarter ⌝ }
     requires { ⌜ (k < 2 ^ 13) × (gn < 2 ^ 11) × (gm < 2 ^ 4) ⌝ }
     ensures { λ r. ⌜ Wave (sumOfCosines k gn gm) r ⌝ }
 {
     let index = multiple_index(k, gn);
-    let above = 4095 * sine::magnitude(table, index);
-    let below = sine::magnitude(table, k) << gm;
-    let magnitude = capped(above / below);
+    let s = sine::magnitude(table, index);
+    let d = sine::magnitude(table, k);
+    let below = d << gm;
+    let magnitude = 4095 * smaller(s, below) / below;
     let sign = (sine::sign(index) + sine::sign(k)) % 2;
     SignMagnitude { sign, magnitude }
 }

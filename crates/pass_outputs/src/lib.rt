@@ -40,14 +40,16 @@ pub fn mark(triggered: &mut Triggered, g: usize, triggers: bool)
     }
 }
 
-// The mark of a word after a sum in it: set where the sum left its range, else as it was.
-fn mark_after(mark: u8, left: bool) -> u8
-    ensures { λ r. ⌜ r ≡ cond left 1 mark ⌝ }
+// The mark of word gsum is set where a sum in it left its range, else it stays.
+fn mark_left(clipped: &mut Clipped, gsum: u32, left: bool)
+    requires { ⌜ gsum < 2 ^ 6 ⌝ }
+    ensures { λ r. ⌜ now (clipped .exit) ≡ markedAt (now (clipped .entry)) gsum left ⌝ }
 {
+    let i = (gsum % 64) as usize;
     if left {
-        return 1;
+        clipped[i] = 1;
+        return;
     }
-    mark
 }
 
 // P goes into sum memory: where the output is 1 it is added, else it replaces a word together with the next read item. The word is marked where the signed sum left its range.
@@ -63,17 +65,15 @@ pub fn hear(
     requires { ⌜ (gsum < 2 ^ 6) × (p < 2 ^ 20) × (reads < 256) ⌝ }
     ensures { λ r. ⌜ (now (s .exit) ≡ heard (now (s .entry)) (eqb output 1) gsum p (getD (now (items .entry)) reads 0)) × (now (clipped .exit) ≡ markedAt (now (clipped .entry)) gsum (heardLeaves (now (s .entry)) (eqb output 1) gsum p (getD (now (items .entry)) reads 0))) × (r ≡ cond (eqb output 1) reads (reads + 1)) ⌝ }
 {
-    let i = (gsum % 64) as usize;
-    let mark = clipped[i];
     if output == 1 {
         let added = sums::add(s, gsum, p);
-        clipped[i] = mark_after(mark, added);
+        mark_left(clipped, gsum, added);
         return reads;
     }
     let item = guarded::word_at(items, reads) % layout::WORD_LIMIT;
     sums::replace(s, gsum, words::add20(p, item));
     let replaced = words::leaves20(p, item);
-    clipped[i] = mark_after(mark, replaced);
+    mark_left(clipped, gsum, replaced);
     reads + 1
 }
 

@@ -94,10 +94,10 @@ fn turn_at(
 {
     let unit = generator_at(m, n);
     let on = modes::switches_of(modes, unit.gmode / 64);
-    if on.envelope == 1 {
-        return sound_at(m, n, unit, on, sums, sine, decay);
+    if on.envelope == 0 {
+        return 0;
     }
-    0
+    sound_at(m, n, unit, on, sums, sine, decay)
 }
 
 // One turn of each generator: how many triggered, and those before.
@@ -122,16 +122,21 @@ fn round(
 }
 
 // Rounds of the generators: how many triggered.
-fn rounds(m: &mut [u32], sums: &mut [u32; 64], count: u32) -> u32
+fn rounds(
+    m: &mut [u32],
+    sums: &mut [u32; 64],
+    count: u32,
+    sine: &Quarter,
+    decay: &Entries,
+    modes: &Rows,
+) -> u32
     requires { ⌜ length (now m) ≡ 2816 ⌝ }
+    requires { ⌜ (now sine ≡ quarter) × (now decay ≡ entries tableSize) × (now modes ≡ rows) ⌝ }
 {
-    let sine = sine::table();
-    let decay = exponential::table();
-    let modes = modes::table();
     let mut fired: u32 = 0;
     let mut r: u32 = 0;
     while r < count {
-        fired = round(m, sums, fired, &sine, &decay, &modes);
+        fired = round(m, sums, fired, sine, decay, modes);
         r += 1;
     }
     fired
@@ -158,11 +163,12 @@ fn mixed_sums(sums: &[u32; 64]) -> u32 {
     mixed_all(0, sums)
 }
 
-fn generators(m: &mut [u32], count: u32) -> u32
+fn generators(m: &mut [u32], count: u32, sine: &Quarter, decay: &Entries, modes: &Rows) -> u32
     requires { ⌜ length (now m) ≡ 2816 ⌝ }
+    requires { ⌜ (now sine ≡ quarter) × (now decay ≡ entries tableSize) × (now modes ≡ rows) ⌝ }
 {
     let mut sums = [0u32; 64];
-    let fired = rounds(m, &mut sums, count);
+    let fired = rounds(m, &mut sums, count, sine, decay, modes);
     mixed(mixed_all(mixed_sums(&sums), m), fired)
 }
 
@@ -186,16 +192,24 @@ fn products(x: u32, count: u32) -> u32 {
     x
 }
 
-fn checksum(job: u32, count: u32, m: &mut [u32]) -> u32
+fn checksum(
+    job: u32,
+    count: u32,
+    m: &mut [u32],
+    sine: &Quarter,
+    decay: &Entries,
+    modes: &Rows,
+) -> u32
     requires { ⌜ length (now m) ≡ 2816 ⌝ }
+    requires { ⌜ (now sine ≡ quarter) × (now decay ≡ entries tableSize) × (now modes ≡ rows) ⌝ }
 {
     if job == 0 {
-        return generators(m, count);
+        return generators(m, count, sine, decay, modes);
     }
     products(m[0], count)
 }
 
-// The input is two words, job and count, and the eleven words of 256 generators.
+// The input is two words, job and count, and the eleven words of 256 generators. The tables are copied once, as the plain C reads its own.
 fn main() {
     let mut input = [0u8; 11272];
     let n = io::read_full(0, &mut input);
@@ -204,10 +218,16 @@ fn main() {
     }
     let mut m = [0u32; 2816];
     words_of(&input, &mut m);
+    let sine = sine::table();
+    let decay = exponential::table();
+    let modes = modes::table();
     let sum = checksum(
         octets::word_at(&input, 0),
         octets::word_at(&input, 1),
         &mut m,
+        &sine,
+        &decay,
+        &modes,
     );
     io::print_decimal(1, sum as u64);
     io::write_all(1, b"\n");

@@ -9,10 +9,10 @@ use lib.Dec.{T, leb, ltb, ltb→lt, nltb→le, lit≤}
 use lib.Pow.{pow-pos}
 use lib.IntN.{ℤ, pos, negsuc, _+ℤ_, _-ℤ_}
 use lib.Signed.{mag}
-use borrow.Author.Tests.{le-leb, lt-leb, leb-true, leb-false}
-use Rattle.words.specs.Words.{lowBits, signed, leaves, extended, exactSum, outside}
+use borrow.Author.Tests.{le-leb, lt-leb, leb-true, leb-false, lt-ltb, le-ltb, ltb-true, ltb-false}
+use Rattle.words.specs.Words.{lowBits, signed, extended, exactSum, outside}
 use Rattle.words.proofs.Differences.{add-law, Difference, is-difference, sum-difference, is-minus}
-use Rattle.words.proofs.Residues.{into-code}
+use Rattle.words.proofs.Residues.{into-code, low-add}
 
 -- A word of m numbers, where a test against t tells its halves, of h numbers, apart.
 halves : (t m h n : ℕ) → m ≡ h + h → n < m → (n < t → n < h) → (t ≤ n → h ≤ n)
@@ -33,30 +33,6 @@ bias w n e k = is-minus (halves _ (2 ^ w) (2 ^ (w - 1)) n e k (λ l. omega arith
 pub alike : (c d : Bool) → (c ≡ true → d ≡ true) → (c ≡ false → d ≡ false) → c ≡ d
 alike true d f g = sym (f refl)
 alike false d f g = sym (g refl)
-
--- An integer n - k beside the range from -h to h - 1.
-mag-below : (h : ℕ) {z : ℤ} {n k : ℕ} → Difference z n k → n + h < k → leb h (mag z) ≡ true
-mag-below h {z = pos a} d l = le-leb h a (omega arith)
-mag-below h {z = negsuc a} d l = le-leb h a (omega arith)
-
-mag-above : (h : ℕ) {z : ℤ} {n k : ℕ} → Difference z n k → k ≤ n + h → leb h (mag z) ≡ leb (k + h) n
-mag-above h {z = pos a} {n} {k} d l =
-    alike _ _ (λ e. le-leb (k + h) n (omega (arith, leb-true))) (λ e. lt-leb (k + h) n (omega (arith, leb-false)))
-mag-above h {z = negsuc a} {n} {k} d l =
-    alike _ _ (λ e. le-leb (k + h) n (omega (arith, leb-true))) (λ e. lt-leb (k + h) n (omega (arith, leb-false)))
-
--- Whether the sum of two signed words leaves its range, by the sum of the two as numbers with their bias.
-module _ (w a b m n : ℕ) (p : signed w a ≡ pos m -ℤ pos (2 ^ (w - 1))) (q : signed w b ≡ pos n -ℤ pos (2 ^ (w - 1))) where
-  both : Difference (signed w a +ℤ signed w b) (m + n) (2 ^ (w - 1) + 2 ^ (w - 1))
-  both = sum-difference (is-difference m (2 ^ (w - 1)) p) (is-difference n (2 ^ (w - 1)) q)
-
-  pub leaves-below : m + n < 2 ^ (w - 1) → leaves w a b ≡ true
-  unfolding leaves
-  leaves-below h = mag-below (2 ^ (w - 1)) both (omega arith)
-
-  pub leaves-above : 2 ^ (w - 1) ≤ m + n → leaves w a b ≡ leb (2 ^ (w - 1) + 2 ^ (w - 1) + 2 ^ (w - 1)) (m + n)
-  unfolding leaves
-  leaves-above h = mag-above (2 ^ (w - 1)) both (omega arith)
 
 -- An integer n - k, where n is below m + 2k.
 mag-small : (m : ℕ) {z : ℤ} {n k : ℕ} → Difference z n k → n < m + (k + k) → 0 < k → mag z < m + k
@@ -83,3 +59,38 @@ module _ (u w a b : ℕ) (e : 2 ^ w ≡ 2 ^ (w - 1) + 2 ^ (w - 1)) (f : 2 ^ u + 
     where
       whole : r ≡ lowBits 32 (exactSum w a b)
       whole = sym (mod-eq-of-lt (omega (arith, q))) ∙ into-code 32 w a b (lit≤ tt) p q
+
+-- A signed word of v bits whose low bits are those of an integer within its range is that integer.
+signed-low : (v : ℕ) (z : ℤ) → 2 ^ v ≡ 2 ^ (v - 1) + 2 ^ (v - 1) → mag z < 2 ^ (v - 1) → signed v (lowBits v z) ≡ z
+unfolding signed lowBits
+signed-low v (pos n) e h = rw (mod-eq-of-lt {n = n} {m = 2 ^ v} (omega (arith, e, h)), lt-ltb n (2 ^ (v - 1)) h)
+signed-low v (negsuc n) e h = rw (mod-eq-of-lt {n = n} {m = 2 ^ v} (omega (arith, e, h)), le-ltb _ (2 ^ (v - 1)) top) (ap negsuc back)
+  where
+    top : 2 ^ (v - 1) ≤ 2 ^ v - 1 - n
+    top = omega (arith, e, h)
+
+    back : 2 ^ v - suc (2 ^ v - 1 - n) ≡ n
+    back = omega (arith, e, h)
+
+-- The code: the exact sum of two signed words of w bits, each as one of 32 bits.
+module _ (w a b : ℕ) (e : 2 ^ w ≡ 2 ^ (w - 1) + 2 ^ (w - 1)) (f : 2 ^ w < 2 ^ 31) (ha : a < 2 ^ w) (hb : b < 2 ^ w) where
+  both : Difference (signed w a +ℤ signed w b) ((a + 2 ^ (w - 1)) % 2 ^ w + (b + 2 ^ (w - 1)) % 2 ^ w) (2 ^ (w - 1) + 2 ^ (w - 1))
+  both = sum-difference (is-difference _ (2 ^ (w - 1)) (bias w a e ha)) (is-difference _ (2 ^ (w - 1)) (bias w b e hb))
+
+  both-small : mag (signed w a +ℤ signed w b) < 2 ^ 31
+  both-small =
+      omega
+      (arith, e, f, mag-small 0 both (omega (arith, e, mod-lt (a + 2 ^ (w - 1)) (pow-pos w), mod-lt (b + 2 ^ (w - 1)) (pow-pos w))) (omega (arith, pow-pos (w - 1))))
+
+  pub exact-code : {x y r : ℕ} → x ≡ extended w 32 a → y ≡ extended w 32 b → r ≡ (x + y) % 2 ^ 32 → signed 32 r ≡ signed w a +ℤ signed w b
+  unfolding extended
+  exact-code p q h = rw (h, p, q, ← (low-add 32 (signed w a) (signed w b))) (signed-low 32 (signed w a +ℤ signed w b) refl both-small)
+
+-- Whether a signed word of 32 bits leaves the range of one of 20 bits, told from what is 2^19 above it.
+pub beyond-code : (s : ℕ) {r : ℕ} → s < 2 ^ 32 → r ≡ (s + 2 ^ 19) % 2 ^ 32 → leb (2 ^ 20) r ≡ leb (2 ^ 19) (mag (signed 32 s))
+unfolding signed
+beyond-code s {r} h e = by (ltb s (2 ^ 31)) refl
+  where
+    by : (c : Bool) → ltb s (2 ^ 31) ≡ c → leb (2 ^ 20) r ≡ leb (2 ^ 19) (mag (cond c (pos s) (negsuc (2 ^ 32 - suc s))))
+    by true k = alike _ _ (λ l. le-leb (2 ^ 19) s (omega (arith, e, ltb-true s (2 ^ 31) k, leb-true (2 ^ 20) r l))) (λ l. lt-leb (2 ^ 19) s (omega (arith, e, ltb-true s (2 ^ 31) k, leb-false (2 ^ 20) r l)))
+    by false k = alike _ _ (λ l. le-leb (2 ^ 19) (2 ^ 32 - suc s) (omega (arith, e, h, ltb-false s (2 ^ 31) k, leb-true (2 ^ 20) r l))) (λ l. lt-leb (2 ^ 19) (2 ^ 32 - suc s) (omega (arith, e, h, ltb-false s (2 ^ 31) k, leb-false (2 ^ 20) r l)))

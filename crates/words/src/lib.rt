@@ -1,7 +1,9 @@
 // Words of 12, 20, 24, 28 and 30 bits: their sums, reduced to their low bits, and whether an exact sum leaves its range.
 ghost use mathlib.Core.Path.{_≡_};
 ghost use Prim.Native.Nat.{_<_, _^_};
+ghost use lib.Dec.{leb};
 ghost use lib.IntN.{pos, _+ℤ_, _-ℤ_};
+ghost use lib.Signed.{mag};
 ghost use Rattle.words.specs.Words.{lowBits, signed, sum, leaves, extended, sumInto, exactSum, outside, valueOf};
 
 // A number by its sign, 0 or 1 where it is negative, and its magnitude.
@@ -42,24 +44,43 @@ pub fn biased20(b: u32) -> u32
     (b + 524288) % 1048576
 }
 
-// Whether the signed sum of two words of 20 bits leaves its range.
-pub fn leaves20(a: u32, b: u32) -> bool
-    requires { ⌜ (a < 2 ^ 20) × (b < 2 ^ 20) ⌝ }
-    ensures { λ r. ⌜ r ≡ leaves 20 a b ⌝ }
-{
-    let sum = biased20(a) + biased20(b);
-    if sum < 524288 {
-        return true;
-    }
-    1572864 <= sum
-}
-
 // A signed word of 20 bits as one of 32 bits.
 pub fn extend20(b: u32) -> u32
     requires { ⌜ b < 2 ^ 20 ⌝ }
     ensures { λ r. ⌜ r ≡ extended 20 32 b ⌝ }
 {
     std::num::wrapping_sub_u32(biased20(b), 524288)
+}
+
+// The exact sum of two signed words of 20 bits, as a signed word of 32 bits.
+pub fn exact20(a: u32, b: u32) -> u32
+    requires { ⌜ (a < 2 ^ 20) × (b < 2 ^ 20) ⌝ }
+    ensures { λ r. ⌜ signed 32 r ≡ signed 20 a +ℤ signed 20 b ⌝ }
+{
+    std::num::wrapping_add_u32(extend20(a), extend20(b))
+}
+
+// The low 20 bits of an exact sum.
+pub fn low20(exact: u32) -> u32
+    ensures { λ r. ⌜ (r ≡ lowBits 20 (signed 32 exact)) × (r < 2 ^ 20) ⌝ }
+{
+    exact % 1048576
+}
+
+// Whether an exact sum leaves the range of a signed word of 20 bits. One below it wraps to a number far above.
+pub fn beyond20(exact: u32) -> bool
+    ensures { λ r. ⌜ r ≡ leb (2 ^ 19) (mag (signed 32 exact)) ⌝ }
+{
+    let raised = std::num::wrapping_add_u32(exact, 524288);
+    1048576 <= raised
+}
+
+// Whether the signed sum of two words of 20 bits leaves its range.
+pub fn leaves20(a: u32, b: u32) -> bool
+    requires { ⌜ (a < 2 ^ 20) × (b < 2 ^ 20) ⌝ }
+    ensures { λ r. ⌜ r ≡ leaves 20 a b ⌝ }
+{
+    beyond20(exact20(a, b))
 }
 
 // A signed word of 20 bits added into an unsigned register of 24 bits, reduced to 24 bits.

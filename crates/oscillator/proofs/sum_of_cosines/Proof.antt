@@ -1,11 +1,9 @@
 -- `oscillator::sum_of_cosines` meets its contract: index, quotient and sign are the definition's, by the laws of the sum of cosines.
 -- Assumes nothing.
-use mathlib.Core.Path.{_∙_}
 use native.Mathlib.Omega.{arith}
 use borrow.Author.Needs.{needs}
-use Rattle.sine.proofs.Quarter.{magnitude-low}
 use Rattle.oscillator.proofs.Waves.{sign-bit}
-use Rattle.oscillator.proofs.Cosines.{index-low, shifted-exact, shifted-positive, cosines-are}
+use Rattle.oscillator.proofs.Cosines.{index-low, shifted-exact, shifted-positive, smaller-low, cap-first, cosines-are}
 use Rattle.oscillator.proofs.sum_of_cosines.Statement.{statement}
 use Rattle.oscillator.proofs.sum_of_cosines.Tie as tie
 
@@ -15,22 +13,25 @@ multiple-index-requires c κs = search needs
 magnitude-requires : tie.Need-magnitude-requires
 magnitude-requires c κs = (c .before .pre .0, rw (c .multiple-index .ensures) (index-low _ _))
 
-mul-above : tie.Need-mul-above
-mul-above c = rw (c .magnitude .ensures) (omega (arith, magnitude-low (c .before .multiple-index .result)))
-
 magnitude-requires-2 : tie.Need-magnitude-requires-2
 magnitude-requires-2 c κs = search needs
 
 shl-below : tie.Need-shl-below
 shl-below c = search needs
 
-div-capped : tie.Need-div-capped
-div-capped c =
-    let start = c .before .before .before in
-    rw (c .magnitude2 .ensures, shifted-exact (start .args .k) (start .args .gm) (start .pre .1 .2)) (shifted-positive _ _)
+smaller-requires : tie.Need-smaller-requires
+smaller-requires c κs = search needs
 
-capped-requires : tie.Need-capped-requires
-capped-requires c κs = search needs
+mul-magnitude : tie.Need-mul-magnitude
+mul-magnitude c =
+    let s = c .before .before in
+    omega (arith, smaller-low (s .before .multiple-index .result) _ (c .smaller .ensures) (s .magnitude .ensures))
+
+div-magnitude : tie.Need-div-magnitude
+div-magnitude c =
+    let d = c .before in
+    let start = d .before .before .before in
+    rw (d .magnitude2 .ensures, shifted-exact (start .args .k) (start .args .gm) (start .pre .1 .2)) (shifted-positive _ _)
 
 sign-requires : tie.Need-sign-requires
 sign-requires c κs = rw (c .before .before .before .multiple-index .ensures) (index-low _ _)
@@ -45,14 +46,15 @@ add-sign c =
 
 returns : tie.Need-returns
 returns c =
-    let capped = c .before .before in
-    let below = capped .before in
-    let above = below .before in
-    let indexed = above .before in
+    let smaller = c .before .before in
+    let d = smaller .before in
+    let s = d .before in
+    let indexed = s .before in
     let start = indexed .before in
+    let exact = shifted-exact (start .args .k) (start .args .gm) (start .pre .1 .2) in
     cosines-are (start .args .k) (start .args .gn) (start .args .gm) _ _ _
     (indexed .multiple-index .ensures)
-    (capped .capped .ensures ∙ rw (above .magnitude .ensures, below .magnitude2 .ensures, shifted-exact (start .args .k) (start .args .gm) (start .pre .1 .2)))
+    (rw (smaller .smaller .ensures, s .magnitude .ensures, d .magnitude2 .ensures, exact) (cap-first _ _ (shifted-positive (start .args .k) (start .args .gm))))
     (rw (c .before .sign .ensures, c .sign2 .ensures))
 
 pub sum-of-cosines-spec : {M : Type 1} → statement M
@@ -61,11 +63,11 @@ sum-of-cosines-spec =
     (tie.spec
     multiple-index-requires
     magnitude-requires
-    mul-above
     magnitude-requires-2
     shl-below
-    div-capped
-    capped-requires
+    smaller-requires
+    mul-magnitude
+    div-magnitude
     sign-requires
     sign-requires-2
     add-sign

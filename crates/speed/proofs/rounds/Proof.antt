@@ -13,15 +13,6 @@ Inv-loop m₀ sums₀ count sine decay modes fired₀ r₀ m sums fired r = (len
 abbrev μ-loop : tie.MeasureT-loop
 μ-loop m₀ sums₀ count sine decay modes fired₀ r₀ m sums fired r = count - r
 
-table-requires : tie.Need-table-requires Inv-loop μ-loop
-table-requires c κs = search needs
-
-table-requires-2 : tie.Need-table-requires-2 Inv-loop μ-loop
-table-requires-2 c κs = search needs
-
-table-requires-3 : tie.Need-table-requires-3 Inv-loop μ-loop
-table-requires-3 c κs = search needs
-
 loop-holds : tie.Need-loop-holds Inv-loop μ-loop
 loop-holds c = search needs
 
@@ -49,9 +40,6 @@ rounds-spec =
     (tie.spec
     Inv-loop
     μ-loop
-    table-requires
-    table-requires-2
-    table-requires-3
     loop-holds
     round-requires
     add-r

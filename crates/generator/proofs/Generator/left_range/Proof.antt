@@ -6,24 +6,24 @@ use borrow.Author.Needs.{needs}
 use Rattle.generator.proofs.Generator.left_range.Statement.{statement}
 use Rattle.generator.proofs.Generator.left_range.Tie as tie
 
-leaves20-requires : tie.Need-leaves20-requires
-leaves20-requires c κs = search needs
+beyond20-requires : tie.Need-beyond20-requires
+beyond20-requires c κs = search needs
 
 returns : tie.Need-returns
 unfolding leftBy
-returns c = rw (← (c .before .leaves20 .ensures), c .if1 .taken)
+returns c = rw (← (c .before .beyond20 .ensures), c .if1 .taken)
 
-leaves20-requires-2 : tie.Need-leaves20-requires-2
-leaves20-requires-2 c κs = search needs
+leaves20-requires : tie.Need-leaves20-requires
+leaves20-requires c κs = search needs
 
 returns-2 : tie.Need-returns-2
 unfolding leftBy
-returns-2 c = rw (← (c .before .before .before .leaves20 .ensures), c .before .before .if1 .left, eq-eqb _ 1 (c .before .if2 .taken)) (c .leaves202 .ensures)
+returns-2 c = rw (← (c .before .before .before .beyond20 .ensures), c .before .before .if1 .left, eq-eqb _ 1 (c .before .if2 .taken)) (c .leaves20 .ensures)
 
 returns-3 : tie.Need-returns-3
 unfolding leftBy
-returns-3 c = rw (← (c .before .before .leaves20 .ensures), c .before .if1 .left, ne-eqb _ 1 (c .if2 .left))
+returns-3 c = rw (← (c .before .before .beyond20 .ensures), c .before .if1 .left, ne-eqb _ 1 (c .if2 .left))
 
 pub left-range-spec : {M : Type 1} → statement M
 left-range-spec =
-    tie.close (tie.spec leaves20-requires returns leaves20-requires-2 returns-2 returns-3)
+    tie.close (tie.spec beyond20-requires returns leaves20-requires returns-2 returns-3)

@@ -15,7 +15,7 @@ sine-under-requires : tie.Need-sine-under-requires
 sine-under-requires c κs =
     let leveled = c .before .before in
     let start = leveled .before .before in
-    (start .pre .1 .0 .0, (start .pre .0 .gm-low, omega (arith, start .pre .1 .1 .1), rw (leveled .level .ensures) (level-low _ _ _)))
+    (start .pre .1 .0 .0, (start .pre .0 .gm-low, omega (arith, start .pre .1 .1), rw (leveled .level .ensures) (level-low _ _ _)))
 
 returns : tie.Need-returns
 unfolding vOf
@@ -36,36 +36,36 @@ returns-2 c =
     let leveled = tested .before .before .before .before in
     output-of-gk _ (leveled .before .before .args .self) _ _ _ (leveled .level .ensures) (c .sine-under2 .ensures) (tested .if2 .taken)
 
+cosines-under-requires : tie.Need-cosines-under-requires
+cosines-under-requires c κs =
+    let tested = c .before in
+    let leveled = tested .before .before .before .before .before .before in
+    let start = leveled .before .before in
+    (start .pre .1 .0 .0, (start .pre .0 .gn-low, start .pre .0 .gm-low, omega (arith, start .pre .0 .gk-low), rw (leveled .level .ensures) (level-low _ _ _)))
+
+returns-3 : tie.Need-returns-3
+unfolding vOf
+returns-3 c =
+    let tested = c .before .before in
+    let leveled = tested .before .before .before .before .before .before in
+    output-cosines _ (leveled .before .before .args .self) _ _ _ (leveled .level .ensures) (c .cosines-under .ensures) (tested .if3 .taken)
+
 shaped-requires : tie.Need-shaped-requires
 shaped-requires c κs = search needs
 
 enveloped-requires : tie.Need-enveloped-requires
 enveloped-requires c κs =
     let tested = c .before .before .before .before in
-    let leveled = tested .before .before .before .before in
+    let leveled = tested .before .before .before .before .before .before in
     (c .shaped .ensures .bit, c .shaped .ensures .low, rw (leveled .level .ensures) (level-low _ _ _))
-
-returns-3 : tie.Need-returns-3
-unfolding vOf
-returns-3 c =
-    let tested = c .before .before .before in
-    let leveled = tested .before .before .before .before .before .before in
-    output-shaped _ (leveled .before .before .args .self) _ _ _ (leveled .level .ensures) (c .enveloped .ensures) (c .before .shaped .ensures) (tested .if3 .taken)
-
-cosines-under-requires : tie.Need-cosines-under-requires
-cosines-under-requires c κs =
-    let tested = c .before .before .before in
-    let leveled = tested .before .before .before .before .before .before in
-    let start = leveled .before .before in
-    (start .pre .1 .0 .0, (start .pre .0 .gn-low, start .pre .0 .gm-low, omega (arith, start .pre .0 .gk-low), rw (leveled .level .ensures) (level-low _ _ _)))
 
 returns-4 : tie.Need-returns-4
 unfolding vOf
 returns-4 c =
-    let tested = c .before .before in
-    let shaped = tested .before .before in
-    let leveled = shaped .before .before .before .before .before .before in
-    output-cosines _ (leveled .before .before .args .self) _ _ _ (leveled .level .ensures) (c .cosines-under .ensures) (tested .if4 .taken)
+    let tested = c .before .before .before in
+    let cosines = tested .before .before in
+    let leveled = cosines .before .before .before .before .before .before in
+    output-shaped _ (leveled .before .before .args .self) _ _ _ (leveled .level .ensures) (c .enveloped .ensures) (c .before .shaped .ensures) (tested .if4 .taken)
 
 sine-under-requires-3 : tie.Need-sine-under-requires-3
 sine-under-requires-3 c κs =
@@ -77,12 +77,12 @@ sine-under-requires-3 c κs =
 returns-5 : tie.Need-returns-5
 unfolding vOf
 returns-5 c =
-    let cosines = c .before .before in
-    let shaped = cosines .before .before in
-    let gk = shaped .before .before in
+    let shaped = c .before .before in
+    let cosines = shaped .before .before in
+    let gk = cosines .before .before in
     let j = gk .before .before in
     let leveled = j .before .before in
-    output-rest _ (leveled .before .before .args .self) _ _ _ (leveled .level .ensures) (c .sine-under3 .ensures) (j .if1 .left) (cosines .if4 .left) (shaped .if3 .left)
+    output-rest _ (leveled .before .before .args .self) _ _ _ (leveled .level .ensures) (c .sine-under3 .ensures) (j .if1 .left) (cosines .if3 .left) (shaped .if4 .left)
 
 pub output-spec : {M : Type 1} → statement M
 output-spec =
@@ -93,10 +93,10 @@ output-spec =
     returns
     sine-under-requires-2
     returns-2
+    cosines-under-requires
+    returns-3
     shaped-requires
     enveloped-requires
-    returns-3
-    cosines-under-requires
     returns-4
     sine-under-requires-3
     returns-5)

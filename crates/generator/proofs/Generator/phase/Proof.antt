@@ -1,17 +1,16 @@
--- `generator::Generator::phase` meets its contract: the sum's promise is J.
+-- `generator::Generator::phase` meets its contract: the exact sum's promise is the definition.
 -- Assumes nothing.
-use Rattle.generator.specs.Generator.{jOf}
-use Rattle.words.proofs.Residues.{sum-low}
+use Rattle.generator.specs.Steps.{phaseOf}
 use borrow.Author.Needs.{needs}
 use Rattle.generator.proofs.Generator.phase.Statement.{statement}
 use Rattle.generator.proofs.Generator.phase.Tie as tie
 
-add20-requires : tie.Need-add20-requires
-add20-requires c κs = search needs
+exact20-requires : tie.Need-exact20-requires
+exact20-requires c κs = search needs
 
 returns : tie.Need-returns
-unfolding jOf
-returns c = (c .add20 .ensures, rw (c .add20 .ensures) (sum-low 20 _ _))
+unfolding phaseOf
+returns c = c .exact20 .ensures
 
 pub phase-spec : {M : Type 1} → statement M
-phase-spec = tie.close (tie.spec add20-requires returns)
+phase-spec = tie.close (tie.spec exact20-requires returns)

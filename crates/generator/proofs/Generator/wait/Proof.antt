@@ -2,13 +2,16 @@
 -- Assumes nothing.
 use mathlib.Core.Path.{_∙_}
 use Rattle.generator.specs.Steps.{oscillated}
-use Rattle.generator.proofs.Turns.{turn-waits}
+use Rattle.generator.proofs.Turns.{turn-waits, low-is-j}
 use borrow.Author.Needs.{needs}
 use Rattle.generator.proofs.Generator.wait.Statement.{statement}
 use Rattle.generator.proofs.Generator.wait.Tie as tie
 
 phase-requires : tie.Need-phase-requires
 phase-requires c κs = search needs
+
+low20-requires : tie.Need-low20-requires
+low20-requires c κs = search needs
 
 oscillate-requires : tie.Need-oscillate-requires
 oscillate-requires c κs = search needs
@@ -18,14 +21,20 @@ with-run-mode-requires c κs = search needs
 
 returns : tie.Need-returns
 unfolding oscillated
-returns c = let b = c .before .before .before .before in
-    rw (turn-waits (b .args .self) (b .args .f) (b .args .told) (b .pre .1 .0), c .before .if1 .taken, ← (c .before .before .before .phase .ensures .0)) (c .with-run-mode .ensures ∙ rw (c .before .before .oscillate .ensures))
+returns c =
+    let turned = c .before .before in
+    let low = turned .before in
+    let b = low .before .before in
+    rw (turn-waits (b .args .self) (b .args .f) (b .args .told) (b .pre .1 .0), c .before .if1 .taken, ← (low-is-j _ _ (low .before .phase .ensures) (low .low20 .ensures .0))) (c .with-run-mode .ensures ∙ rw (turned .oscillate .ensures))
 
 returns-2 : tie.Need-returns-2
 unfolding oscillated
-returns-2 c = let b = c .before .before .before in
-    rw (turn-waits (b .args .self) (b .args .f) (b .args .told) (b .pre .1 .0), c .if1 .left, ← (c .before .before .phase .ensures .0)) (c .before .oscillate .ensures)
+returns-2 c =
+    let turned = c .before in
+    let low = turned .before in
+    let b = low .before .before in
+    rw (turn-waits (b .args .self) (b .args .f) (b .args .told) (b .pre .1 .0), c .if1 .left, ← (low-is-j _ _ (low .before .phase .ensures) (low .low20 .ensures .0))) (turned .oscillate .ensures)
 
 pub wait-spec : {M : Type 1} → statement M
 wait-spec =
-    tie.close (tie.spec phase-requires oscillate-requires with-run-mode-requires returns returns-2)
+    tie.close (tie.spec phase-requires low20-requires oscillate-requires with-run-mode-requires returns returns-2)
