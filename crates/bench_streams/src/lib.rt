@@ -1,8 +1,7 @@
-// The streams of the bench programs: standard input is read whole, and a refusal is written as a line.
+// The streams of the bench programs: one is read whole, and a refusal is written to one as a line.
 ghost use mathlib.Core.Path.{_≡_};
 ghost use Prim.Native.Nat.{ℕ, _≤_};
 ghost use lib.ListN.{length};
-use libc::STDIN_FILENO;
 
 // What was read: so many bytes, or a read failed.
 pub enum Input {
@@ -17,24 +16,24 @@ pub fn refuse(stream: i32, n: u32) -> bool {
     io::write_all(stream, &line[0..size])
 }
 
-// Reads from standard input once.
-fn read_some(buffer: &mut [u8]) -> Input
+// Reads from a stream once.
+fn read_some(stream: i32, buffer: &mut [u8]) -> Input
     ensures { λ r. ⌜ ((n : ℕ) → r ≡ Input.Bytes n → n ≤ length (now (buffer .exit))) ⌝ }
 {
-    let got = libc::read(STDIN_FILENO, buffer);
+    let got = libc::read(stream, buffer);
     if got < 0 {
         return Input::Failed;
     }
     Input::Bytes(io::count(got, buffer))
 }
 
-// Reads until the buffer is full or the input ends. A read that fails is not the end.
-pub fn read_all(buffer: &mut [u8]) -> Input
+// Reads a stream until the buffer is full or the stream ends. A read that fails is not the end.
+pub fn read_all(stream: i32, buffer: &mut [u8]) -> Input
     ensures { λ r. ⌜ ((n : ℕ) → r ≡ Input.Bytes n → n ≤ length (now (buffer .exit))) ⌝ }
 {
     let mut n = 0;
     while n < buffer.len() {
-        let got = read_some(&mut buffer[n..]);
+        let got = read_some(stream, &mut buffer[n..]);
         let Input::Bytes(more) = got else {
             return Input::Failed;
         };

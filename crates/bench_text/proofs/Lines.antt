@@ -12,7 +12,7 @@ use lib.ListN.{length, set, length-append}
 use lib.Seq.{sets}
 use Rattle.lists.proofs.Choices.{of-cond}
 use Rattle.bench_bytes.proofs.Puts.{Put, done, then}
-use Rattle.bench_text.specs.Text.{digits, decimal, minus, signedDecimal, passText, leftText, rightText, refusedText, newline, passLine, refusalLine}
+use Rattle.bench_text.specs.Text.{digits, decimal, named, minus, signedDecimal, passText, leftText, rightText, refusedText, newline, passLine, refusalLine}
 
 pub digits-none : (k n : ℕ) → k ≡ 0 → digits k n ≡ []
 unfolding digits
@@ -38,6 +38,10 @@ digits-length (suc k) n =
     of-cond (λ l. length l ≤ suc k) (ltb n 10) {x = (code "0" + n) ∷ []} {y = digits k (n / 10) ++ ((code "0" + n % 10) ∷ [])} (omega arith)
     (let h = digits-length k (n / 10) in omega (arith, length-append (digits k (n / 10)) ((code "0" + n % 10) ∷ [])))
 
+pub named-length : (name : List ℕ) (n : ℕ) → length (named name n) ≤ length name + 10
+unfolding named
+named-length name n = omega (arith, length-append name (digits 10 n), digits-length 10 n)
+
 pub signed-length : (n : ℕ) → length (signedDecimal n) ≤ 11
 unfolding signedDecimal
 signed-length n =
@@ -48,6 +52,9 @@ signed-length n =
 pub digits-end : (at k n : ℕ) {i : ℕ} → i ≡ at + length (digits k n) → i ≤ at + k
 digits-end at k n e = omega (arith, e, digits-length k n)
 
+pub named-end : (at : ℕ) (name : List ℕ) (n : ℕ) {i : ℕ} → i ≡ at + length (named name n) → i ≤ at + length name + 10
+named-end at name n e = omega (arith, e, named-length name n)
+
 pub signed-end : (at n : ℕ) {i : ℕ} → i ≡ at + length (signedDecimal n) → i ≤ at + 11
 signed-end at n e = omega (arith, e, signed-length n)
 
@@ -55,11 +62,11 @@ signed-end at n e = omega (arith, e, signed-length n)
 pub pass-line-length : (counter left right : ℕ) → length (passLine counter left right) ≤ 51
 unfolding passLine
 pass-line-length counter left right =
-    simp length-append (omega (arith, digits-length 10 counter, signed-length left, signed-length right))
+    simp length-append (omega (arith, named-length passText counter, signed-length left, signed-length right))
 
 pub refusal-line-length : (n : ℕ) → length (refusalLine n) ≤ 19
 unfolding refusalLine
-refusal-line-length n = simp length-append (omega (arith, digits-length 10 n))
+refusal-line-length n = simp length-append (omega (arith, named-length refusedText n))
 
 -- The digits of n as the code puts them: none, one, or those of n / 10 and one more.
 module _ (d : List ℕ) (at k n : ℕ) where
@@ -76,6 +83,12 @@ module _ (d : List ℕ) (at k n : ℕ) where
         let q = then d at (digits (k - 1) (n / 10)) ((code "0" + n % 10) ∷ []) (done p) (record { ends = refl; leaves = refl }) in
         rw (digits-large k n h l) (q .ends, q .leaves)
 
+-- A name and a number as the code puts them: one after the other.
+pub put-named : (d : List ℕ) (at : ℕ) (name : List ℕ) (n : ℕ) {i j : ℕ} {e f : List ℕ} → Put d at name i e → Put e i (decimal n) j f
+    → (j ≡ at + length (named name n)) × (f ≡ sets d at (named name n))
+unfolding named
+put-named d at name n p q = let r = then d at name (decimal n) p q in (r .ends, r .leaves)
+
 -- A signed number as the code puts it: its digits, or a minus sign and the digits of its magnitude.
 module _ (d : List ℕ) (at n : ℕ) where
   pub put-positive : n < 524288 → {i : ℕ} {e : List ℕ} → (i ≡ at + length (digits 10 n)) × (e ≡ sets d at (digits 10 n))
@@ -90,30 +103,25 @@ module _ (d : List ℕ) (at n : ℕ) where
       let r = then d at minus (digits 10 (1048576 - n)) p q in
       rw (le-ltb n 524288 l) (r .ends, r .leaves)
 
--- The seven texts of a pass's line, and the three of a refusal's.
-pub put-pass : (d : List ℕ) (counter left right : ℕ) {i₁ i₂ i₃ i₄ i₅ i₆ i₇ : ℕ} {d₁ d₂ d₃ d₄ d₅ d₆ d₇ : List ℕ}
-    → Put d 0 passText i₁ d₁
-    → Put d₁ i₁ (decimal counter) i₂ d₂
-    → Put d₂ i₂ leftText i₃ d₃
-    → Put d₃ i₃ (signedDecimal left) i₄ d₄
-    → Put d₄ i₄ rightText i₅ d₅
-    → Put d₅ i₅ (signedDecimal right) i₆ d₆
-    → Put d₆ i₆ newline i₇ d₇
-    → (i₇ ≡ length (passLine counter left right)) × (d₇ ≡ sets d 0 (passLine counter left right))
+-- The six texts of a pass's line, and the two of a refusal's.
+pub put-pass : (d : List ℕ) (counter left right : ℕ) {i₁ i₂ i₃ i₄ i₅ i₆ : ℕ} {d₁ d₂ d₃ d₄ d₅ d₆ : List ℕ}
+    → Put d 0 (named passText counter) i₁ d₁
+    → Put d₁ i₁ leftText i₂ d₂
+    → Put d₂ i₂ (signedDecimal left) i₃ d₃
+    → Put d₃ i₃ rightText i₄ d₄
+    → Put d₄ i₄ (signedDecimal right) i₅ d₅
+    → Put d₅ i₅ newline i₆ d₆
+    → (i₆ ≡ length (passLine counter left right)) × (d₆ ≡ sets d 0 (passLine counter left right))
 unfolding passLine
-put-pass d counter left right p₁ p₂ p₃ p₄ p₅ p₆ p₇ =
-    let q₆ = then _ _ (signedDecimal right) newline p₆ p₇ in
-    let q₅ = then _ _ rightText (signedDecimal right ++ newline) p₅ q₆ in
-    let q₄ = then _ _ (signedDecimal left) (rightText ++ (signedDecimal right ++ newline)) p₄ q₅ in
-    let q₃ = then _ _ leftText (signedDecimal left ++ (rightText ++ (signedDecimal right ++ newline))) p₃ q₄ in
-    let q₂ = then _ _ (decimal counter) (leftText ++ (signedDecimal left ++ (rightText ++ (signedDecimal right ++ newline)))) p₂ q₃ in
-    let q₁ = then d 0 passText (decimal counter ++ (leftText ++ (signedDecimal left ++ (rightText ++ (signedDecimal right ++ newline))))) p₁ q₂ in
+put-pass d counter left right p₁ p₂ p₃ p₄ p₅ p₆ =
+    let q₅ = then _ _ (signedDecimal right) newline p₅ p₆ in
+    let q₄ = then _ _ rightText (signedDecimal right ++ newline) p₄ q₅ in
+    let q₃ = then _ _ (signedDecimal left) (rightText ++ (signedDecimal right ++ newline)) p₃ q₄ in
+    let q₂ = then _ _ leftText (signedDecimal left ++ (rightText ++ (signedDecimal right ++ newline))) p₂ q₃ in
+    let q₁ = then d 0 (named passText counter) (leftText ++ (signedDecimal left ++ (rightText ++ (signedDecimal right ++ newline)))) p₁ q₂ in
     (q₁ .ends ∙ zero-add _, q₁ .leaves)
 
-pub put-refusal : (d : List ℕ) (n : ℕ) {i₁ i₂ i₃ : ℕ} {d₁ d₂ d₃ : List ℕ} → Put d 0 refusedText i₁ d₁ → Put d₁ i₁ (decimal n) i₂ d₂ → Put d₂ i₂ newline i₃ d₃
-    → (i₃ ≡ length (refusalLine n)) × (d₃ ≡ sets d 0 (refusalLine n))
+pub put-refusal : (d : List ℕ) (n : ℕ) {i₁ i₂ : ℕ} {d₁ d₂ : List ℕ} → Put d 0 (named refusedText n) i₁ d₁ → Put d₁ i₁ newline i₂ d₂
+    → (i₂ ≡ length (refusalLine n)) × (d₂ ≡ sets d 0 (refusalLine n))
 unfolding refusalLine
-put-refusal d n p₁ p₂ p₃ =
-    let q₂ = then _ _ (decimal n) newline p₂ p₃ in
-    let q₁ = then d 0 refusedText (decimal n ++ newline) p₁ q₂ in
-    (q₁ .ends ∙ zero-add _, q₁ .leaves)
+put-refusal d n p₁ p₂ = let q₁ = then d 0 (named refusedText n) newline p₁ p₂ in (q₁ .ends ∙ zero-add _, q₁ .leaves)

@@ -16,6 +16,10 @@ digits (suc k) n = cond (ltb n 10) ((code "0" + n) ∷ []) (digits k (n / 10) ++
 abbrev pub decimal : ℕ → List ℕ
 decimal n = digits 10 n
 
+-- A name and a number in decimal.
+unfoldable pub named : List ℕ → ℕ → List ℕ
+named name n = name ++ decimal n
+
 abbrev pub minus : List ℕ
 minus = ascii "-"
 
@@ -41,11 +45,11 @@ newline = ascii "\n"
 
 -- The line of a pass: the counter, all its 32 bits, then the words of DAC 0 and DAC 1 as signed numbers.
 unfoldable pub passLine : ℕ → ℕ → ℕ → List ℕ
-passLine counter left right = passText ++ (decimal counter ++ (leftText ++ (signedDecimal left ++ (rightText ++ (signedDecimal right ++ newline)))))
+passLine counter left right = named passText counter ++ (leftText ++ (signedDecimal left ++ (rightText ++ (signedDecimal right ++ newline))))
 
 -- The line of a refusal.
 unfoldable pub refusalLine : ℕ → List ℕ
-refusalLine n = refusedText ++ (decimal n ++ newline)
+refusalLine n = named refusedText n ++ newline
 
 -- The length of a buffer for one line, which has at most 51 bytes.
 abbrev pub lineBytes : ℕ

@@ -3,7 +3,7 @@ ghost use mathlib.Core.Path.{_≡_};
 ghost use Prim.Native.Nat.{_+_, _≤_, _<_, _^_};
 ghost use lib.ListN.{length};
 ghost use lib.Seq.{sets};
-ghost use Rattle.bench_text.specs.Text.{lineBytes, digits, signedDecimal, passLine, refusalLine};
+ghost use Rattle.bench_text.specs.Text.{lineBytes, digits, named, signedDecimal, passLine, refusalLine};
 
 // The length of a buffer for one line.
 pub const LINE_BYTES: usize = 64;
@@ -26,6 +26,16 @@ fn put_digits(line: &mut [u8; LINE_BYTES], at: usize, n: u32, k: u32) -> usize
     next + 1
 }
 
+// A name and a number in decimal.
+pub fn put_named(line: &mut [u8; LINE_BYTES], at: usize, name: &[u8], n: u32) -> usize
+    requires { ⌜ at + length (now name) + 10 ≤ lineBytes ⌝ }
+    ensures { λ r. ⌜ r ≡ at + length (named (now (name .entry)) n) ⌝ }
+    ensures { λ _. ⌜ now (line .exit) ≡ sets (now (line .entry)) at (named (now (name .entry)) n) ⌝ }
+{
+    let next = bench_bytes::put(line, at, name);
+    put_digits(line, next, n, 10)
+}
+
 // A word of 20 bits in two's complement as a signed number.
 fn put_signed(line: &mut [u8; LINE_BYTES], at: usize, n: u32) -> usize
     requires { ⌜ (at + 11 ≤ lineBytes) × (n < 2 ^ 20) ⌝ }
@@ -45,13 +55,12 @@ pub fn pass_line(line: &mut [u8; LINE_BYTES], counter: u32, left: u32, right: u3
     ensures { λ r. ⌜ r ≡ length (passLine counter left right) ⌝ }
     ensures { λ _. ⌜ now (line .exit) ≡ sets (now (line .entry)) 0 (passLine counter left right) ⌝ }
 {
-    let a = bench_bytes::put(line, 0, b"pass=");
-    let b = put_digits(line, a, counter, 10);
-    let c = bench_bytes::put(line, b, b" left=");
-    let d = put_signed(line, c, left);
-    let e = bench_bytes::put(line, d, b" right=");
-    let f = put_signed(line, e, right);
-    bench_bytes::put(line, f, b"\n")
+    let a = put_named(line, 0, b"pass=", counter);
+    let b = bench_bytes::put(line, a, b" left=");
+    let c = put_signed(line, b, left);
+    let d = bench_bytes::put(line, c, b" right=");
+    let e = put_signed(line, d, right);
+    bench_bytes::put(line, e, b"\n")
 }
 
 // The line of a refusal. Answers its length.
@@ -59,7 +68,6 @@ pub fn refusal_line(line: &mut [u8; LINE_BYTES], n: u32) -> usize
     ensures { λ r. ⌜ r ≡ length (refusalLine n) ⌝ }
     ensures { λ _. ⌜ now (line .exit) ≡ sets (now (line .entry)) 0 (refusalLine n) ⌝ }
 {
-    let a = bench_bytes::put(line, 0, b"refused=");
-    let b = put_digits(line, a, n, 10);
-    bench_bytes::put(line, b, b"\n")
+    let a = put_named(line, 0, b"refused=", n);
+    bench_bytes::put(line, a, b"\n")
 }

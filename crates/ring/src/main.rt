@@ -8,6 +8,7 @@ use bench_ringing::Output;
 use bench_ringing::Progress;
 use bench_streams::Input;
 use libc::STDERR_FILENO;
+use libc::STDIN_FILENO;
 use libc::STDOUT_FILENO;
 
 // The buffer for lines that are printed together.
@@ -65,7 +66,7 @@ fn ring(text: &[u8]) -> bool {
 // One byte more than a file may have is read, so that a longer one is told apart.
 fn main() {
     let mut text = [0u8; bench_lines::FILE_BYTES + 1];
-    let input = bench_streams::read_all(&mut text);
+    let input = bench_streams::read_all(STDIN_FILENO, &mut text);
     let Input::Bytes(n) = input else {
         io::write_all(STDERR_FILENO, b"ring: cannot read\n");
         return;

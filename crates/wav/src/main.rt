@@ -2,6 +2,7 @@
 // A read or a write that fails ends it with a line on standard error.
 use bench_streams::Input;
 use libc::STDERR_FILENO;
+use libc::STDIN_FILENO;
 use libc::STDOUT_FILENO;
 
 // Writes the file of a text, or its refusal; says whether all was written.
@@ -18,7 +19,7 @@ fn sound(text: &[u8]) -> bool {
 // One byte more than a file may have is read, so that a longer one is told apart.
 fn main() {
     let mut text = [0u8; bench_lines::FILE_BYTES + 1];
-    let input = bench_streams::read_all(&mut text);
+    let input = bench_streams::read_all(STDIN_FILENO, &mut text);
     let Input::Bytes(n) = input else {
         io::write_all(STDERR_FILENO, b"wav: cannot read\n");
         return;

@@ -10,10 +10,10 @@ use Rattle.bench_streams.proofs.read_all.Statement.{statement}
 use Rattle.bench_streams.proofs.read_all.Tie as tie
 
 abbrev Inv-loop : tie.InvT-loop
-Inv-loop buffer₀ n₀ buffer n = (length buffer ≡ length buffer₀) × (n ≤ length buffer)
+Inv-loop stream buffer₀ n₀ buffer n = (length buffer ≡ length buffer₀) × (n ≤ length buffer)
 
 abbrev μ-loop : tie.MeasureT-loop
-μ-loop buffer₀ n₀ buffer n = length buffer - n
+μ-loop stream buffer₀ n₀ buffer n = length buffer - n
 
 loop-holds : tie.Need-loop-holds Inv-loop μ-loop
 loop-holds c = search needs
@@ -58,7 +58,7 @@ add-n c =
     let read = part .read-some in
     let back = c .before .before .before .before .before .buffer .given in
     let got = c .before .before .got .given in
-    let more = more-within (loop .buffer) (read .last .0) (loop .n) (got .0 .0) (loop .inv .1) (back .0) (read .ensures (got .0 .0) (got .1)) in
+    let more = more-within (loop .buffer) (read .last .1 .0) (loop .n) (got .0 .0) (loop .inv .1) (back .0) (read .ensures (got .0 .0) (got .1)) in
     record { fits = omega arith }
 
 loop-less : tie.Need-loop-less Inv-loop μ-loop
@@ -71,7 +71,7 @@ loop-again c =
     let read = part .read-some in
     let back = c .before .before .before .before .before .buffer .given in
     let got = c .before .before .got .given in
-    let more = more-within (loop .buffer) (read .last .0) (loop .n) (got .0 .0) (loop .inv .1) (back .0) (read .ensures (got .0 .0) (got .1)) in
+    let more = more-within (loop .buffer) (read .last .1 .0) (loop .n) (got .0 .0) (loop .inv .1) (back .0) (read .ensures (got .0 .0) (got .1)) in
     (back .1 ∙ loop .inv .0, omega (arith, back .1))
 
 same-length-3 : tie.Need-same-length-3 Inv-loop μ-loop

@@ -1,4 +1,4 @@
--- `bench_text::pass_line` meets its contract: seven texts, one after another.
+-- `bench_text::pass_line` meets its contract: six texts, one after another.
 -- Assumes nothing.
 use Prim.Native.Nat.{_≤_}
 use native.Mathlib.Omega.{arith}
@@ -9,59 +9,55 @@ use Rattle.bench_text.proofs.pass_line.Statement.{statement}
 use Rattle.bench_text.proofs.pass_line.Tie as tie
 
 -- Where the texts end.
-counter-ends : (c : tie.After-put-digits) → c .put-digits .result ≤ 15
-counter-ends c = omega (arith, lines.digits-end _ _ _ (c .put-digits .ensures .0), c .before .before .put .ensures .0)
+counter-ends : (c : tie.After-put-named) → c .put-named .result ≤ 15
+counter-ends c = omega (arith, lines.named-end _ _ _ (c .put-named .ensures .0))
 
-left-starts : (c : tie.After-put2) → c .put2 .result ≤ 21
-left-starts c = omega (arith, c .put2 .ensures .0, counter-ends (c .before .before .before))
+left-starts : (c : tie.After-put) → c .put .result ≤ 21
+left-starts c = omega (arith, c .put .ensures .0, counter-ends (c .before .before .before))
 
 left-ends : (c : tie.After-put-signed) → c .put-signed .result ≤ 32
 left-ends c = omega (arith, lines.signed-end _ _ (c .put-signed .ensures .0), left-starts (c .before .before))
 
-right-starts : (c : tie.After-put3) → c .put3 .result ≤ 39
-right-starts c = omega (arith, c .put3 .ensures .0, left-ends (c .before .before .before))
+right-starts : (c : tie.After-put2) → c .put2 .result ≤ 39
+right-starts c = omega (arith, c .put2 .ensures .0, left-ends (c .before .before .before))
 
 right-ends : (c : tie.After-put-signed2) → c .put-signed2 .result ≤ 50
 right-ends c = omega (arith, lines.signed-end _ _ (c .put-signed2 .ensures .0), right-starts (c .before .before))
+
+slice-aggregate-put-named : tie.Need-slice-aggregate-put-named
+slice-aggregate-put-named c = search needs
+
+put-named-requires : tie.Need-put-named-requires
+put-named-requires c κs = search needs
 
 slice-aggregate-put : tie.Need-slice-aggregate-put
 slice-aggregate-put c = search needs
 
 put-requires : tie.Need-put-requires
-put-requires c κs = search needs
+put-requires c κs = omega (arith, counter-ends (c .before .before))
 
-put-digits-requires : tie.Need-put-digits-requires
-put-digits-requires c κs = search needs
+put-signed-requires : tie.Need-put-signed-requires
+put-signed-requires c κs =
+    let counter = c .before .before .before .before in
+    omega (arith, left-starts (c .before), counter .before .before .before .pre)
 
 slice-aggregate-put-2 : tie.Need-slice-aggregate-put-2
 slice-aggregate-put-2 c = search needs
 
 put-requires-2 : tie.Need-put-requires-2
-put-requires-2 c κs = omega (arith, counter-ends (c .before .before))
-
-put-signed-requires : tie.Need-put-signed-requires
-put-signed-requires c κs =
-    let counter = c .before .before .before .before in
-    let start = counter .before .before in
-    omega (arith, left-starts (c .before), start .before .before .before .pre)
-
-slice-aggregate-put-3 : tie.Need-slice-aggregate-put-3
-slice-aggregate-put-3 c = search needs
-
-put-requires-3 : tie.Need-put-requires-3
-put-requires-3 c κs = omega (arith, left-ends (c .before .before))
+put-requires-2 c κs = omega (arith, left-ends (c .before .before))
 
 put-signed-requires-2 : tie.Need-put-signed-requires-2
 put-signed-requires-2 c κs =
     let left = c .before .before .before .before in
     let counter = left .before .before .before .before .before in
-    omega (arith, right-starts (c .before), counter .before .before .before .before .before .pre)
+    omega (arith, right-starts (c .before), counter .before .before .before .pre)
 
-slice-aggregate-put-4 : tie.Need-slice-aggregate-put-4
-slice-aggregate-put-4 c = search needs
+slice-aggregate-put-3 : tie.Need-slice-aggregate-put-3
+slice-aggregate-put-3 c = search needs
 
-put-requires-4 : tie.Need-put-requires-4
-put-requires-4 c κs = omega (arith, right-ends (c .before .before))
+put-requires-3 : tie.Need-put-requires-3
+put-requires-3 c κs = omega (arith, right-ends (c .before .before))
 
 returns : tie.Need-returns
 returns c =
@@ -70,34 +66,31 @@ returns c =
     let left = right-text .before .before .before in
     let left-text = left .before .before in
     let counter = left-text .before .before .before in
-    let start = counter .before .before in
-    let a = start .before .before .before .args in
+    let a = counter .before .before .before .args in
     lines.put-pass
     (a .line .now)
     (a .counter)
     (a .left)
     (a .right)
-    (done (start .put .ensures))
-    (done (counter .put-digits .ensures))
-    (done (left-text .put2 .ensures))
+    (done (counter .put-named .ensures))
+    (done (left-text .put .ensures))
     (done (left .put-signed .ensures))
-    (done (right-text .put3 .ensures))
+    (done (right-text .put2 .ensures))
     (done (right .put-signed2 .ensures))
-    (done (c .put4 .ensures))
+    (done (c .put3 .ensures))
 
 pub pass-line-spec : {M : Type 1} → statement M
 pass-line-spec =
     tie.close
     (tie.spec
+    slice-aggregate-put-named
+    put-named-requires
     slice-aggregate-put
     put-requires
-    put-digits-requires
+    put-signed-requires
     slice-aggregate-put-2
     put-requires-2
-    put-signed-requires
+    put-signed-requires-2
     slice-aggregate-put-3
     put-requires-3
-    put-signed-requires-2
-    slice-aggregate-put-4
-    put-requires-4
     returns)

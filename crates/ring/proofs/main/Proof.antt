@@ -36,7 +36,7 @@ slice-aggregate-ring : tie.Need-slice-aggregate-ring
 slice-aggregate-ring c =
     let input = c .before .before .input .given in
     let read = c .before .before .before .before .before .read-all in
-    sym (length-take-le (input .0 .0) (read .last .0) (read .ensures (input .0 .0) (input .1)))
+    sym (length-take-le (input .0 .0) (read .last .1 .0) (read .ensures (input .0 .0) (input .1)))
 
 ring-requires : tie.Need-ring-requires
 ring-requires c κs = search needs

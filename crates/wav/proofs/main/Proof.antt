@@ -36,7 +36,7 @@ slice-aggregate-sound : tie.Need-slice-aggregate-sound
 slice-aggregate-sound c =
     let input = c .before .before .input .given in
     let read = c .before .before .before .before .before .read-all in
-    sym (length-take-le (input .0 .0) (read .last .0) (read .ensures (input .0 .0) (input .1)))
+    sym (length-take-le (input .0 .0) (read .last .1 .0) (read .ensures (input .0 .0) (input .1)))
 
 sound-requires : tie.Need-sound-requires
 sound-requires c κs = search needs

@@ -1,0 +1,22 @@
+-- `bench_text::put_named` meets its contract: the name, then the digits.
+-- Assumes nothing.
+use Rattle.bench_bytes.proofs.Puts.{done}
+use Rattle.bench_text.proofs.Lines as lines
+use borrow.Author.Needs.{needs}
+use Rattle.bench_text.proofs.put_named.Statement.{statement}
+use Rattle.bench_text.proofs.put_named.Tie as tie
+
+put-requires : tie.Need-put-requires
+put-requires c κs = search needs
+
+put-digits-requires : tie.Need-put-digits-requires
+put-digits-requires c κs = search needs
+
+returns : tie.Need-returns
+returns c =
+    let name = c .before .before in
+    let a = name .before .before .before .args in
+    lines.put-named (a .line .now) (a .at) (a .name .now) (a .n) (done (name .put .ensures)) (done (c .put-digits .ensures))
+
+pub put-named-spec : {M : Type 1} → statement M
+put-named-spec = tie.close (tie.spec put-requires put-digits-requires returns)
