@@ -1,5 +1,5 @@
 """Checks the sources for what the gate's proofs cannot tell: no call that users reach has a
-`requires`, each has its equation with its definition, none that the C host or the programs `ring` and `wav`
+`requires`, each has its equation with its definition, none that the C host or the programs `ring`, `wav` and `sorted`
 call is missing from the list, every other pub function has a promise with an equation, the named
 forms stand, and the claims are those of tests/claims.txt, field by field.
 
@@ -24,6 +24,7 @@ REACHABLE = {
     ("bench_file", "read"): "readOf",
     ("bench_gathering", "gather"): "gathered",
     ("bench_wave", "wave"): "waveOf",
+    ("sorted_findings", "findings"): "findingsOf",
     ("bench_text", "refusal_line"): "refusalLine",
     ("karvelorn", "karvelorn_fresh"): "freshRun",
     ("karvelorn", "karvelorn_pass"): "passOf",
@@ -79,9 +80,9 @@ def ensured(head):
 
 
 def reached():
-    """The calls that the C host exports and that the programs `ring` and `wav` make."""
+    """The calls that the C host exports and that the programs `ring`, `wav` and `sorted` make."""
     exported = re.findall(r'pub extern "C" fn (\w+)', library_of("karvelorn"))
-    programs = "".join((CRATES / name / "src" / "main.rt").read_text() for name in ("ring", "wav"))
+    programs = "".join((CRATES / name / "src" / "main.rt").read_text() for name in ("ring", "wav", "sorted"))
     called = re.findall(r"\b(\w+)::([a-z]\w*)\(", programs)
     return {("karvelorn", name) for name in exported} | {(crate, name) for crate, name in called if (CRATES / crate).is_dir()} - STREAMS
 

@@ -98,8 +98,15 @@ no-leading-zero n text w = go (eqb n 0) refl where
   go false e = rw (ne-eqb (getD text 0 0) (code "0") (w .first (eqb-false n 0 e)))
 
 -- Ten digits are enough for 32 bits.
-pub number-printed : (n : ℕ) → n < 2 ^ counterBits → decimalIn (2 ^ counterBits) (decimal n) ≡ Is n
-unfolding decimalIn numberIn
-number-printed n h =
-    let w = digits-write 9 n (omega arith) in
-    rw (ne-eqb (length (digits 10 n)) 0 (λ e. omega (arith, w .some)), no-leading-zero n (digits 10 n) w, w .all, w .number, lt-ltb n (2 ^ counterBits) h)
+module _ (n : ℕ) (h : n < 2 ^ counterBits) where
+  pub decimal-digits : allDigits 10 (decimal n) ≡ true
+  decimal-digits = digits-write 9 n (omega arith) .all
+
+  pub printed-below : (limit : ℕ) → n < limit → decimalIn limit (decimal n) ≡ Is n
+  unfolding decimalIn numberIn
+  printed-below limit l =
+      let w = digits-write 9 n (omega arith) in
+      rw (ne-eqb (length (digits 10 n)) 0 (λ e. omega (arith, w .some)), no-leading-zero n (digits 10 n) w, w .all, w .number, lt-ltb n limit l)
+
+  pub number-printed : decimalIn (2 ^ counterBits) (decimal n) ≡ Is n
+  number-printed = printed-below (2 ^ counterBits) h

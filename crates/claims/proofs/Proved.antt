@@ -8,6 +8,7 @@ use Rattle.layout.proofs.UpdateTicks.{ticks-exact, ticks-none}
 use Rattle.sine.proofs.Quarter.{magnitude-positive}
 use Rattle.exponential.proofs.Entries.{entry-largest}
 use Rattle.exponential.proofs.Sizes.{older-entry, older-exponential}
+use Rattle.exponential.proofs.OlderTable.{older-table}
 use Rattle.machine.proofs.FreshMachine.{fresh-length, fresh-sound}
 use Rattle.machine.proofs.SoundMachine.{reaches, sound-controls, sound-ticks}
 use Rattle.machine.proofs.Asked.{ticks-disagree}
@@ -31,12 +32,15 @@ use Rattle.equal_orders.proofs.WorkedExamples.{worked-examples}
 use Rattle.equal_any_order.proofs.AnyOrder.{any-order-says, any-order-refused, one-order, orders-apart}
 use Rattle.equal_any_order.proofs.MarksApart.{marks-equal, forth-sets, back-sets}
 use Rattle.equal_parts.proofs.Parts.{parts-says, none-shown, contents-part}
+use Rattle.equal_parts.proofs.Shown.{found-differs}
+use Rattle.order_pitch.proofs.Sorted.{by-pitch-sorted, by-pitch-passes, sorted-is-by-pitch}
 use Rattle.wave_format.proofs.Samples.{sample-exact}
 use Rattle.bench_ringing.proofs.Printing.{printed-heard}
 use Rattle.bench_ringing.proofs.RungFile.{file-ticks, rung-file}
 use Rattle.bench_gathering.proofs.Gatherings.{gathered-file}
 use Rattle.claims.specs.Claims.{Claims}
 use Rattle.claims.proofs.PrintedNumbers.{number-printed}
+use Rattle.claims.proofs.PrintedOrders.{order-printed}
 
 -- A pass that answers 0 is refused by no question.
 not-refused : (m : Machine) (call : Call) → passOf m call .number ≡ 0 → passRefusal m call ≡ 0
@@ -55,6 +59,11 @@ claims =
       parts-says = parts-says;
       none-shown = none-shown;
       contents-part = contents-part;
+      found-differs = found-differs;
+      sorted-by-pitch = by-pitch-sorted;
+      sorted-alone = sorted-is-by-pitch;
+      sorted-passes = by-pitch-passes;
+      order-printed-read = order-printed;
       sine-not-zero = magnitude-positive;
       worked-examples = worked-examples;
       fresh-good = record { whole = fresh-length; is-sound = fresh-sound };
@@ -93,6 +102,7 @@ claims =
       entry-largest = entry-largest;
       older-entry = older-entry;
       older-exponential = older-exponential;
+      older-table = older-table;
       steps-are-output = rung-file;
       gathered-are-output = gathered-file;
       printed-heard = printed-heard;

@@ -8,12 +8,13 @@ use mathlib.Core.Path.{_≡_}
 use lib.IntN.{pos, _*ℤ_}
 use lib.ListN.{length, getD, set}
 use Rattle.words.specs.Words.{signed}
-use Rattle.layout.specs.Layout.{counterAt, quadrantWords, machineLength, updateTicksAt}
+use Rattle.layout.specs.Layout.{counterAt, quadrantWords, generators, machineLength, updateTicksAt}
 use Rattle.layout.specs.Machine.{Machine, Order, Items, Commands, Memory, ticksOf, updateTicks, updateTicksOf, lowCounter}
 use Rattle.layout.specs.Widths.{counterBits, lingerBits}
 use Rattle.questions.specs.Questions.{asked}
 use Rattle.sine.specs.Sine.{magnitude}
-use Rattle.exponential.specs.Exponential.{tableSize, olderSize, within, Largest, entry as exponentialEntry, exponential}
+use Rattle.exponential.specs.Exponential.{tableSize, olderSize, within, Largest, entry as exponentialEntry, entries as exponentialEntries, exponential}
+use Rattle.exponential.specs.OlderTable.{olderTable}
 use Rattle.modes.specs.Modes.{readData, writeData}
 use Rattle.machine.specs.Questions.{question1, question2, freshMachine}
 use Rattle.machine.specs.OlderCounter.{olderSound}
@@ -38,6 +39,10 @@ use Rattle.order_alike.specs.Parting.{partingOrders}
 use Rattle.compare.specs.Compare.{compareOf}
 use Rattle.any_order.specs.AnyOrder.{anyOrderOf}
 use Rattle.parts.specs.Parts.{partsOf}
+use Rattle.parts_shown.specs.Shown.{passBy, differenceShown, Differ}
+use Rattle.order_pitch.specs.Pitch.{byPitch, SortedByPitch}
+use Rattle.order_file.specs.OrderFile.{isOrderFile, orderOf}
+use Rattle.sorted_lines.specs.SortedLines.{orderLines}
 use Rattle.equal_orders.specs.Equal.{Equal}
 use Rattle.equal_orders.specs.WorkedExamples.{WorkedExamples, forth, back}
 use Rattle.equal_any_order.specs.EveryOrder.{Passes, EveryTwoEqual, Apart}
@@ -75,6 +80,20 @@ pub record Claims : Type 0 where
   pub contents-part : (m : Machine) (o₁ o₂ : Order) (contents : Machine) (items : Items) → partsOf m o₁ o₂ contents items .number ≡ 0
       → partsOf m o₁ o₂ contents items .point ≢ 0
       → PartingContents m o₁ o₂ items (partsOf m o₁ o₂ contents items .contents) (partsOf m o₁ o₂ contents items .items)
+  -- By what passes from those contents, over a delay memory of zeros and with a place for every generator, are said to differ is the first word by which the machines differ
+  -- that the two orders leave; or these are the same, and it is the first item by which the written data differ.
+  pub found-differs : (m : Machine) (o₁ o₂ : Order) (contents : Machine) (items : Items) → partsOf m o₁ o₂ contents items .number ≡ 0
+      → partsOf m o₁ o₂ contents items .point ≢ 0
+      → Differ (passBy (partsOf m o₁ o₂ contents items .contents) (partsOf m o₁ o₂ contents items .items) o₁)
+      (passBy (partsOf m o₁ o₂ contents items .contents) (partsOf m o₁ o₂ contents items .items) o₂)
+      (differenceShown (partsOf m o₁ o₂ contents items .contents) (partsOf m o₁ o₂ contents items .items) o₁ o₂)
+  -- The order by pitch is sorted by pitch, no other order is, and it passes 5 and 6.
+  pub sorted-by-pitch : (m : Machine) → SortedByPitch m (byPitch m)
+  pub sorted-alone : (m : Machine) (order : Order) → SortedByPitch m order → order ≡ byPitch m
+  pub sorted-passes : (m : Machine) → Passes m (byPitch m)
+  -- The printed lines of an order of 1 to 256 numbers of generators are an order file, which names that order.
+  pub order-printed-read : (o : Order) → 0 < length o → length o ≤ generators → ((i : ℕ) → i < length o → getD o i 0 < generators)
+      → (isOrderFile (orderLines o) ≡ true) × (orderOf (orderLines o) ≡ o)
   -- The sine is never 0, so that the sum of cosines divides by no 0.
   pub sine-not-zero : (k : ℕ) → 0 < magnitude k
   -- The twelve worked examples.
@@ -139,10 +158,11 @@ pub record Claims : Type 0 where
   pub table-returns : (unit : ℕ → Delay) (memory : ℕ → Memory) (word : ℕ → ℕ) → unit 0 .p ≢ line → Turns 3 unit memory word
       → due (unit 3) ≡ getD (memory 0) (address (unit 0) (word 0)) 0
   -- Entry f of an exponential table of n is the largest of all e with e^n times 2^f at most 4,093^n, for every n. Entry 4f of the table is entry f of
-  -- document 01's table of 256, and so the exponential of 4h is what document 01's was of h.
+  -- document 01's table of 256, and so the exponential of 4h is what document 01's was of h. Number by number that table is the one that `olderTable` lists.
   pub entry-largest : (n f : ℕ) → 0 < n → Largest (within n f) (exponentialEntry n f)
   pub older-entry : (f : ℕ) → exponentialEntry tableSize (4 * f) ≡ exponentialEntry olderSize f
   pub older-exponential : (h : ℕ) → exponential tableSize (4 * h) ≡ exponential olderSize h
+  pub older-table : olderTable ≡ exponentialEntries olderSize
   -- The steps of the bench program until no pass is left are its output, for every text; and so are they where they are gathered in a buffer that has room for a line.
   pub steps-are-output : (text m room : List ℕ) → length room ≡ commandPlaces → rungFrom (readOf text m room) ≡ outputOf text
   pub gathered-are-output : (size : ℕ) (text m room : List ℕ) → lineBytes ≤ size → length room ≡ commandPlaces → printedFrom size (readOf text m room) ≡ outputOf text

@@ -1,0 +1,14 @@
+-- `order_file::no_order_file` meets its contract.
+-- Assumes nothing.
+use mathlib.Core.Path.{refl}
+use Rattle.lists.specs.Lists.{zeros}
+use Rattle.order_file.specs.OrderFile.{noOrderFile}
+use Rattle.order_file.proofs.no_order_file.Statement.{statement}
+use Rattle.order_file.proofs.no_order_file.Tie as tie
+
+returns : tie.Need-returns
+unfolding noOrderFile zeros
+returns c = refl
+
+pub no-order-file-spec : {M : Type 1} → statement M
+no-order-file-spec = tie.close (tie.spec returns)

@@ -1,0 +1,31 @@
+-- `order_file::read` meets its contract: its last line has to end, then its lines are read.
+-- Assumes nothing.
+use mathlib.Core.Path.{sym, _∙_}
+use borrow.Author.Tests.{not-true, not-false}
+use borrow.Author.Needs.{needs}
+use Rattle.order_file.proofs.Lines as lines
+use Rattle.order_file.proofs.read.Statement.{statement}
+use Rattle.order_file.proofs.read.Tie as tie
+
+ended-requires : tie.Need-ended-requires
+ended-requires c κs = search needs
+
+no-order-file-requires : tie.Need-no-order-file-requires
+no-order-file-requires c κs = search needs
+
+returns : tie.Need-returns
+returns c =
+    let test = c .before in
+    c .no-order-file .ensures
+    ∙ lines.unended (test .before .before .before .args .text .now) (sym (test .before .ended .ensures) ∙ not-true _ (test .if1 .taken))
+
+read-lines-requires : tie.Need-read-lines-requires
+read-lines-requires c κs = sym (c .before .ended .ensures) ∙ not-false _ (c .if1 .left)
+
+returns-2 : tie.Need-returns-2
+returns-2 c = search needs
+
+pub read-spec : {M : Type 1} → statement M
+read-spec =
+    tie.close
+    (tie.spec ended-requires no-order-file-requires returns read-lines-requires returns-2)

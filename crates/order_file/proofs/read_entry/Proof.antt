@@ -1,0 +1,31 @@
+-- `order_file::read_entry` meets its contract: the start, then a number.
+-- Assumes nothing.
+use mathlib.Core.Path.{sym, _∙_}
+use Rattle.bench_bytes.proofs.Searches.{starts-long}
+use Rattle.order_file.specs.OrderFile.{orderStart}
+use Rattle.order_file.proofs.Lines as lines
+use borrow.Author.Needs.{needs}
+use Rattle.order_file.proofs.read_entry.Statement.{statement}
+use Rattle.order_file.proofs.read_entry.Tie as tie
+
+starts-requires : tie.Need-starts-requires
+starts-requires c κs = search needs
+
+after-requires : tie.Need-after-requires
+after-requires c κs = starts-long _ orderStart (sym (c .before .starts .ensures) ∙ c .if1 .taken)
+
+decimal-requires : tie.Need-decimal-requires
+decimal-requires c κs = search needs
+
+returns : tie.Need-returns
+returns c =
+    let test = c .before .before in
+    let a = test .before .before .before .before .before .args in
+    lines.entry-named (a .line .now) (test .before .starts .ensures) (test .if1 .taken) (c .before .after .ensures) (c .decimal .ensures)
+
+returns-2 : tie.Need-returns-2
+returns-2 c = lines.entry-none (c .before .before .before .before .before .args .line .now) (c .before .starts .ensures) (c .if1 .left)
+
+pub read-entry-spec : {M : Type 1} → statement M
+read-entry-spec =
+    tie.close (tie.spec starts-requires after-requires decimal-requires returns returns-2)

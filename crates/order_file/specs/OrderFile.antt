@@ -1,0 +1,63 @@
+-- A file with an order of the generators: a line `order=G` for each of them, as program sorted prints it.
+-- Assumes nothing.
+use Prim.Native.Nat.{ℕ}
+use mathlib.Core.Bool.{Bool, true, false, cond, _&&_}
+use mathlib.Core.List.{List, [], _∷_, map}
+use lib.Dec.{leb}
+use lib.ListN.{length}
+use lib.Seq.{sets}
+use Rattle.lists.specs.Lists.{zeros}
+use Rattle.layout.specs.Layout.{generators}
+use Rattle.layout.specs.Machine.{Order}
+use Rattle.bench_bytes.specs.Bytes.{ascii, startsWith}
+use Rattle.bench_numbers.specs.Numbers.{decimalIn}
+use Rattle.bench_numbers.specs.declared.Number.{Number}
+use Rattle.bench_numbers.specs.declared.Number.the-variants.{Is, No}
+use Rattle.bench_lines.specs.Lines.{afterStart, linesOf, ended}
+
+-- What a line starts with.
+abbrev pub orderStart : List ℕ
+orderStart = ascii "order="
+
+-- The generator that a line names, 0..255 in decimal without leading zeros; or none.
+unfoldable pub entryOf : List ℕ → Number
+entryOf line = cond (startsWith line orderStart) (decimalIn generators (afterStart orderStart line)) No
+
+-- Whether there is one, and which.
+abbrev pub isEntry : Number → Bool
+isEntry (Is g) = true
+isEntry No = false
+
+abbrev pub entry : Number → ℕ
+entry (Is g) = g
+entry No = 0
+
+-- Whether each of a file's lines names a generator.
+unfoldable pub allEntries : List (List ℕ) → Bool
+allEntries [] = true
+allEntries (l ∷ ls) = isEntry (entryOf l) && allEntries ls
+
+-- Whether a text is an order file: at most 65,536 bytes, every line ends in LF, and 1 to 256 lines each name a generator.
+unfoldable pub isOrderFile : List ℕ → Bool
+isOrderFile text = ended text && leb (length (linesOf text)) generators && allEntries (linesOf text)
+
+-- The order that it names.
+unfoldable pub orderOf : List ℕ → Order
+orderOf text = map (λ l. entry (entryOf l)) (linesOf text)
+
+-- An answer: 9 where a text is no order file or 0, how many entries there are, and the entries, with zeros after them.
+pub record Answer : Type 0 where
+  pub number : ℕ
+  pub count : ℕ
+  pub entries : Order
+
+-- The answer to a text that is none.
+unfoldable pub noOrderFile : Answer
+noOrderFile = record { number = 9; count = 0; entries = zeros generators }
+
+-- What reading a text answers.
+unfoldable pub readOf : List ℕ → Answer
+readOf text =
+    cond (isOrderFile text)
+    (record { number = 0; count = length (orderOf text); entries = sets (zeros generators) 0 (orderOf text) })
+    noOrderFile

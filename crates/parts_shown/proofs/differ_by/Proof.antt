@@ -1,0 +1,126 @@
+-- `parts_shown::differ_by` meets its contract: what two passes leave is compared word by word, and where no word differs what they wrote item by item.
+-- Assumes nothing.
+use mathlib.Core.Path.{sym}
+use lib.Seq.{length-take-le}
+use Rattle.lists.specs.Lists.{zeros}
+use Rattle.layout.specs.Layout.{generators}
+use Rattle.pass_model.specs.Pass.{plainCall}
+use Rattle.parts_shown.proofs.Passes.{left-within, says-word, says-item}
+use borrow.Author.Needs.{needs}
+use Rattle.parts_shown.proofs.differ_by.Statement.{statement}
+use Rattle.parts_shown.proofs.differ_by.Tie as tie
+
+slice-aggregate-pass-by : tie.Need-slice-aggregate-pass-by
+slice-aggregate-pass-by c = search needs
+
+slice-aggregate-pass-by-2 : tie.Need-slice-aggregate-pass-by-2
+slice-aggregate-pass-by-2 c = search needs
+
+pass-by-requires : tie.Need-pass-by-requires
+pass-by-requires c κs = search needs
+
+slice-aggregate-pass-by-3 : tie.Need-slice-aggregate-pass-by-3
+slice-aggregate-pass-by-3 c = search needs
+
+slice-aggregate-pass-by-4 : tie.Need-slice-aggregate-pass-by-4
+slice-aggregate-pass-by-4 c = search needs
+
+pass-by-requires-2 : tie.Need-pass-by-requires-2
+pass-by-requires-2 c κs = search needs
+
+slice-aggregate-first-different : tie.Need-slice-aggregate-first-different
+slice-aggregate-first-different c = search needs
+
+slice-aggregate-first-different-2 : tie.Need-slice-aggregate-first-different-2
+slice-aggregate-first-different-2 c = search needs
+
+first-different-requires : tie.Need-first-different-requires
+first-different-requires c κs = search needs
+
+returns : tie.Need-returns
+unfolding zeros
+returns c =
+    let compared = c .before in
+    let other = compared .before .before .before .before .before in
+    let one = other .before .before .before .before .before .before in
+    let lent = one .before .before .before in
+    let a = lent .before .before .before .before .args in
+    let long = other .before .before .before .before .before .m2 .given in
+    says-word (a .contents .now) (a .items .now) (a .first .now) (a .second .now) (one .pass-by .ensures) (other .pass-by2 .ensures) long (compared .first-different .ensures)
+    (c .if1 .taken)
+
+array-share-prefix-places : tie.Need-array-share-prefix-places
+unfolding zeros
+array-share-prefix-places c =
+    let compared = c .before in
+    let other = compared .before .before .before .before .before in
+    let one = other .before .before .before .before .before .before in
+    let lent = one .before .before .before in
+    let a = lent .before .before .before .before .args in
+    left-within (a .contents .now) (plainCall (a .first .now) (a .items .now) (zeros generators)) (one .pass-by .ensures)
+
+slice-aggregate-first-different-3 : tie.Need-slice-aggregate-first-different-3
+unfolding zeros
+slice-aggregate-first-different-3 c =
+    let compared = c .before .before in
+    let other = compared .before .before .before .before .before in
+    let one = other .before .before .before .before .before .before in
+    let lent = one .before .before .before in
+    let a = lent .before .before .before .before .args in
+    sym (length-take-le _ _ (left-within (a .contents .now) (plainCall (a .first .now) (a .items .now) (zeros generators)) (one .pass-by .ensures)))
+
+array-share-prefix-other-places : tie.Need-array-share-prefix-other-places
+unfolding zeros
+array-share-prefix-other-places c =
+    let compared = c .before .before in
+    let other = compared .before .before .before .before .before in
+    let one = other .before .before .before .before .before .before in
+    let lent = one .before .before .before in
+    let a = lent .before .before .before .before .args in
+    left-within (a .contents .now) (plainCall (a .second .now) (a .items .now) (zeros generators)) (other .pass-by2 .ensures)
+
+slice-aggregate-first-different-4 : tie.Need-slice-aggregate-first-different-4
+unfolding zeros
+slice-aggregate-first-different-4 c =
+    let compared = c .before .before .before in
+    let other = compared .before .before .before .before .before in
+    let one = other .before .before .before .before .before .before in
+    let lent = one .before .before .before in
+    let a = lent .before .before .before .before .args in
+    sym (length-take-le _ _ (left-within (a .contents .now) (plainCall (a .second .now) (a .items .now) (zeros generators)) (other .pass-by2 .ensures)))
+
+first-different-requires-2 : tie.Need-first-different-requires-2
+first-different-requires-2 c κs = search needs
+
+returns-2 : tie.Need-returns-2
+unfolding zeros
+returns-2 c =
+    let compared = c .before .before .before .before in
+    let other = compared .before .before .before .before .before in
+    let one = other .before .before .before .before .before .before in
+    let lent = one .before .before .before in
+    let a = lent .before .before .before .before .args in
+    let long = other .before .before .before .before .before .m2 .given in
+    says-item (a .contents .now) (a .items .now) (a .first .now) (a .second .now) (one .pass-by .ensures) (other .pass-by2 .ensures) long (compared .first-different .ensures)
+    (c .before .before .before .if1 .left) (c .first-different2 .ensures)
+
+pub differ-by-spec : {M : Type 1} → statement M
+differ-by-spec =
+    tie.close
+    (tie.spec
+    slice-aggregate-pass-by
+    slice-aggregate-pass-by-2
+    pass-by-requires
+    slice-aggregate-pass-by-3
+    slice-aggregate-pass-by-4
+    pass-by-requires-2
+    slice-aggregate-first-different
+    slice-aggregate-first-different-2
+    first-different-requires
+    returns
+    array-share-prefix-places
+    slice-aggregate-first-different-3
+    array-share-prefix-other-places
+    slice-aggregate-first-different-4
+    first-different-requires-2
+    returns-2)

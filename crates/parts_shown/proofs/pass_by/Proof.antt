@@ -1,0 +1,37 @@
+-- `parts_shown::pass_by` meets its contract: the pass is from a copy of the contents, over zeros.
+-- Assumes nothing.
+use Rattle.lists.specs.Lists.{zeros}
+use Rattle.pass_model.specs.Pass.{plainCall}
+use Rattle.parts_shown.proofs.Passes.{leaves}
+use borrow.Author.Needs.{needs}
+use Rattle.parts_shown.proofs.pass_by.Statement.{statement}
+use Rattle.parts_shown.proofs.pass_by.Tie as tie
+
+copy-requires : tie.Need-copy-requires
+copy-requires c κs = search needs
+
+slice-aggregate-pass : tie.Need-slice-aggregate-pass
+slice-aggregate-pass c = search needs
+
+pass-requires : tie.Need-pass-requires
+pass-requires c κs = search needs
+
+same-length : tie.Need-same-length
+same-length c = search needs
+
+same-length-2 : tie.Need-same-length-2
+same-length-2 c = search needs
+
+returns : tie.Need-returns
+unfolding zeros
+returns c =
+    let passed = c .before .before .before .before .before in
+    let copied = passed .before .before .before .before .before .before in
+    let known = copied .before in
+    let a = known .before .before .before .before .before .before .args in
+    leaves (plainCall (a .order .now) (a .items .now) (a .places .now)) (copied .copy .ensures) (passed .pass .ensures)
+
+pub pass-by-spec : {M : Type 1} → statement M
+pass-by-spec =
+    tie.close
+    (tie.spec copy-requires slice-aggregate-pass pass-requires same-length same-length-2 returns)

@@ -1,0 +1,39 @@
+-- `print` meets its contract: all that is printed lies within its buffer.
+-- Assumes nothing.
+use mathlib.Core.Path.{refl}
+use Rattle.sorted_findings.proofs.WholeText.{findings-within}
+use borrow.Author.Needs.{needs}
+use Rattle.sorted.proofs.print.Statement.{statement}
+use Rattle.sorted.proofs.print.Tie as tie
+
+findings-requires : tie.Need-findings-requires
+findings-requires c κs = search needs
+
+sub-write-all : tie.Need-sub-write-all
+sub-write-all c = search needs
+
+part-write-all-start : tie.Need-part-write-all-start
+part-write-all-start c = search needs
+
+part-write-all-end : tie.Need-part-write-all-end
+part-write-all-end c =
+    let found = c .before in
+    let a = found .before .before .before .before .args in
+    findings-within (a .text .now) (a .given) (a .order .now) _ refl (found .findings .ensures)
+
+write-all-requires : tie.Need-write-all-requires
+write-all-requires c κs = search needs
+
+returns : tie.Need-returns
+returns c = search needs
+
+pub print-spec : {M : Type 1} → statement M
+print-spec =
+    tie.close
+    (tie.spec
+    findings-requires
+    sub-write-all
+    part-write-all-start
+    part-write-all-end
+    write-all-requires
+    returns)

@@ -1,0 +1,76 @@
+-- `sorted_findings::by_file` meets its contract: a text that is no order file, a machine that is refused, or two orders.
+-- Assumes nothing.
+use Rattle.sorted_findings.proofs.Comparing.{first-asked}
+use Rattle.sorted_findings.proofs.WholeText.{file-refused, file-within, file-compared}
+use borrow.Author.Needs.{needs}
+use Rattle.sorted_findings.proofs.by_file.Statement.{statement}
+use Rattle.sorted_findings.proofs.by_file.Tie as tie
+
+read-requires : tie.Need-read-requires
+read-requires c κs = search needs
+
+put-order-refusal-requires : tie.Need-put-order-refusal-requires
+put-order-refusal-requires c κs = search needs
+
+returns : tie.Need-returns
+returns c =
+    let refused = c .before .before in
+    let file = refused .before .before .before in
+    let a = file .before .before .before .args in
+    rw (file-refused (a .m .now) (a .text .now) (file .read .ensures) (refused .if1 .taken)) (c .put-order-refusal .ensures)
+
+refusal-requires : tie.Need-refusal-requires
+refusal-requires c κs = search needs
+
+put-refusal-requires : tie.Need-put-refusal-requires
+put-refusal-requires c κs = search needs
+
+returns-2 : tie.Need-returns-2
+returns-2 c =
+    let refused = c .before .before in
+    let asked = refused .before in
+    let named = asked .before in
+    let file = named .before .before .before in
+    let a = file .before .before .before .args in
+    let order = file-compared (a .m .now) (a .text .now) (file .read .ensures) (named .if1 .left) in
+    rw (order, first-asked (a .m .now) _ (asked .refusal .ensures) (refused .if2 .taken)) (c .put-refusal .ensures)
+
+sub-compared : tie.Need-sub-compared
+sub-compared c = search needs
+
+part-compared-start : tie.Need-part-compared-start
+part-compared-start c = search needs
+
+part-compared-end : tie.Need-part-compared-end
+part-compared-end c =
+    let named = c .before .before .before in
+    let file = named .before .before .before in
+    let a = file .before .before .before .args in
+    file-within (a .m .now) (a .text .now) (file .read .ensures)
+
+compared-requires : tie.Need-compared-requires
+compared-requires c κs = search needs
+
+returns-3 : tie.Need-returns-3
+returns-3 c =
+    let passed = c .before .before .before .before in
+    let named = passed .before .before in
+    let file = named .before .before .before in
+    let a = file .before .before .before .args in
+    rw (file-compared (a .m .now) (a .text .now) (file .read .ensures) (named .if1 .left)) (c .compared .ensures)
+
+pub by-file-spec : {M : Type 1} → statement M
+by-file-spec =
+    tie.close
+    (tie.spec
+    read-requires
+    put-order-refusal-requires
+    returns
+    refusal-requires
+    put-refusal-requires
+    returns-2
+    sub-compared
+    part-compared-start
+    part-compared-end
+    compared-requires
+    returns-3)

@@ -1,0 +1,50 @@
+-- `sorted_findings::compared` meets its contract: the first T entries of the order by number of 256 are that of T.
+-- Assumes nothing.
+use Rattle.compare.proofs.Asked.{is-traceable}
+use Rattle.sorted_findings.proofs.Comparing.{numbers-part, numbers-within}
+use borrow.Author.Needs.{needs}
+use Rattle.sorted_findings.proofs.compared.Statement.{statement}
+use Rattle.sorted_findings.proofs.compared.Tie as tie
+
+by-number-requires : tie.Need-by-number-requires
+by-number-requires c κs = search needs
+
+ticks-requires : tie.Need-ticks-requires
+ticks-requires c κs = let start = c .before .before .before .before in is-traceable (start .args .m .now) (start .pre) .reaches
+
+sub-put-compared : tie.Need-sub-put-compared
+sub-put-compared c = search needs
+
+part-put-compared-start : tie.Need-part-put-compared-start
+part-put-compared-start c = search needs
+
+part-put-compared-end : tie.Need-part-put-compared-end
+part-put-compared-end c =
+    let ticks = c .before in
+    let numbers = ticks .before in
+    let start = numbers .before .before .before .before in
+    let m = start .args .m .now in
+    numbers-within m (is-traceable m (start .pre) .ticks) (numbers .by-number .ensures) (ticks .ticks .ensures)
+
+put-compared-requires : tie.Need-put-compared-requires
+put-compared-requires c κs =
+    let ticks = c .before .before .before in
+    let numbers = ticks .before in
+    let start = numbers .before .before .before .before in
+    let m = start .args .m .now in
+    numbers-part m (is-traceable m (start .pre) .ticks) (numbers .by-number .ensures) (ticks .ticks .ensures)
+
+returns : tie.Need-returns
+returns c = search needs
+
+pub compared-spec : {M : Type 1} → statement M
+compared-spec =
+    tie.close
+    (tie.spec
+    by-number-requires
+    ticks-requires
+    sub-put-compared
+    part-put-compared-start
+    part-put-compared-end
+    put-compared-requires
+    returns)

@@ -1,0 +1,70 @@
+-- `sorted_findings::put_compared` meets its contract: a refusal, or the second order's lines and what was found.
+-- Assumes nothing.
+use native.Mathlib.Omega.{arith}
+use Rattle.sorted_findings.proofs.Comparing.{says-refused, says-both, lines-room, line-room}
+use borrow.Author.Needs.{needs}
+use Rattle.sorted_findings.proofs.put_compared.Statement.{statement}
+use Rattle.sorted_findings.proofs.put_compared.Tie as tie
+
+slice-aggregate-parts : tie.Need-slice-aggregate-parts
+slice-aggregate-parts c = search needs
+
+slice-aggregate-parts-2 : tie.Need-slice-aggregate-parts-2
+slice-aggregate-parts-2 c = search needs
+
+parts-requires : tie.Need-parts-requires
+parts-requires c κs = search needs
+
+put-refusal-requires : tie.Need-put-refusal-requires
+put-refusal-requires c κs = search needs
+
+returns : tie.Need-returns
+returns c =
+    let refused = c .before .before in
+    let made = refused .before .before .before .before in
+    let start = made .before .before .before .before .before .before in
+    let a = start .args in
+    rw (says-refused (a .m .now) (a .second .now) (start .pre) (made .parts .ensures) (refused .if1 .taken)) (c .put-refusal .ensures)
+
+order-lines-requires : tie.Need-order-lines-requires
+order-lines-requires c κs =
+    let passed = c .before in
+    let made = passed .before .before .before .before in
+    let start = made .before .before .before .before .before .before in
+    let a = start .args in
+    omega (arith, lines-room (a .m .now) (a .second .now) (start .pre) (made .parts .ensures) (passed .if1 .left))
+
+slice-aggregate-put-found : tie.Need-slice-aggregate-put-found
+slice-aggregate-put-found c = search needs
+
+put-found-requires : tie.Need-put-found-requires
+put-found-requires c κs =
+    let lines = c .before .before .before in
+    let passed = lines .before .before in
+    let made = passed .before .before .before .before in
+    let start = made .before .before .before .before .before .before in
+    let a = start .args in
+    (line-room (a .m .now) (a .second .now) (start .pre) (made .parts .ensures) (passed .if1 .left) (lines .order-lines .ensures .0), search needs)
+
+returns-2 : tie.Need-returns-2
+returns-2 c =
+    let lines = c .before .before .before .before in
+    let passed = lines .before .before in
+    let made = passed .before .before .before .before in
+    let start = made .before .before .before .before .before .before in
+    let a = start .args in
+    says-both (a .m .now) (a .second .now) (start .pre) (made .parts .ensures) (passed .if1 .left) (a .out .now) (lines .order-lines .ensures) (c .put-found .ensures)
+
+pub put-compared-spec : {M : Type 1} → statement M
+put-compared-spec =
+    tie.close
+    (tie.spec
+    slice-aggregate-parts
+    slice-aggregate-parts-2
+    parts-requires
+    put-refusal-requires
+    returns
+    order-lines-requires
+    slice-aggregate-put-found
+    put-found-requires
+    returns-2)

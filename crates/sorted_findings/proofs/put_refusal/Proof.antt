@@ -1,0 +1,41 @@
+-- `sorted_findings::put_refusal` meets its contract: the line is the first part of its own buffer.
+-- Assumes nothing.
+use native.Mathlib.Omega.{arith}
+use Rattle.bench_text.specs.Text.{refusalLine}
+use Rattle.bench_text.proofs.Lines.{refusal-line-length}
+use Rattle.sorted_lines.proofs.Parts.{part-within, part-fits, part-first}
+use borrow.Author.Needs.{needs}
+use Rattle.sorted_findings.proofs.put_refusal.Statement.{statement}
+use Rattle.sorted_findings.proofs.put_refusal.Tie as tie
+
+refusal-line-requires : tie.Need-refusal-line-requires
+refusal-line-requires c κs = search needs
+
+sub-put : tie.Need-sub-put
+sub-put c = search needs
+
+part-put-start : tie.Need-part-put-start
+part-put-start c = search needs
+
+part-put-end : tie.Need-part-put-end
+part-put-end c =
+    let made = c .before .before in
+    let n = made .before .before .args .n in
+    part-within (refusalLine n) _ (omega (arith, refusal-line-length n)) (made .refusal-line .ensures)
+
+put-requires : tie.Need-put-requires
+put-requires c κs =
+    let made = c .before .before .before in
+    let n = made .before .before .args .n in
+    part-fits (refusalLine n) _ (omega (arith, refusal-line-length n)) (made .refusal-line .ensures) 0 _ (omega (arith, refusal-line-length n))
+
+returns : tie.Need-returns
+returns c =
+    let made = c .before .before .before .before in
+    let a = made .before .before .args in
+    part-first (refusalLine (a .n)) _ (omega (arith, refusal-line-length (a .n))) (made .refusal-line .ensures) (a .out .now) (c .put .ensures)
+
+pub put-refusal-spec : {M : Type 1} → statement M
+put-refusal-spec =
+    tie.close
+    (tie.spec refusal-line-requires sub-put part-put-start part-put-end put-requires returns)
