@@ -80,6 +80,17 @@ class Faults:
         self.timer_keeps_high_bits = False
         self.clear_keeps_high_bits = False
         self.prints_20_bits = False
+        # The order by pitch, and the order file.
+        self.pitch_unsigned = False
+        self.pitch_not_by_magnitude = False
+        self.pitch_of_28_bits = False
+        self.higher_number_first = False
+        self.order_leading_zeros = False
+        self.order_entry_256 = False
+        self.order_of_257_lines = False
+        self.order_line_open = False
+        self.order_asked_first = False
+        self.order_asked_after_2 = False
 
 
 faults = Faults()

@@ -68,6 +68,17 @@ def bench_file(file):
     return passes, words, commands
 
 
+def first_machine(words):
+    """The machine that a file's initial words make, before any pass or command."""
+    machine = fresh_machine()
+    for place, value in words:
+        machine[place] = value
+    if not faults.reader_leaves_256:
+        # Also with a T or N out of range: question 2 follows.
+        put_update_ticks(machine)
+    return machine
+
+
 def pass_line(machine):
     """The line of a pass: the counter, DAC 0 and DAC 1."""
     left, right = (signed(machine[layout.DACS_AT + dac], 20) for dac in (0, 1))
@@ -102,13 +113,7 @@ def ring(file, seen=lambda before, after: None):
     if read is None:
         return b"refused=9\n"
     passes, words, commands = read
-    machine = fresh_machine()
-    for place, value in words:
-        machine[place] = value
-    if not faults.reader_leaves_256:
-        # Also with a T or N out of range: question 2 follows.
-        put_update_ticks(machine)
-    return "".join(pass_lines(machine, passes, commands, seen)).encode()
+    return "".join(pass_lines(first_machine(words), passes, commands, seen)).encode()
 
 
 if __name__ == "__main__":

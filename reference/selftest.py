@@ -7,11 +7,11 @@ import sys
 from time import process_time
 
 from reference.cases import (any_orders, benches, clipped, commands, comparisons, delays,
-                             examples, generators, modifiers, parts, passes, questions)
+                             examples, generators, modifiers, parts, passes, questions, sortings)
 from reference.faults import NAMES, switched_on
 
 MODULES = (examples, generators, modifiers, passes, clipped, questions, commands, comparisons,
-           any_orders, parts, delays, benches)
+           any_orders, parts, delays, benches, sortings)
 GROUPS = [group for module in MODULES for group in module.GROUPS]
 # How long each group took.
 SECONDS = {}
