@@ -31,9 +31,10 @@ def main():
         text = (ROOT / "examples" / "short_bell.txt").read_bytes()
         rung = run(prefix / "bin" / "ring", input=text)
         assert rung.stdout == run(host, input=text).stdout and rung.stdout.count(b"\n") == 40
-        for name in ("ring", "wav"):
+        for name in ("ring", "wav", "sorted"):
             assert (prefix / "bin" / name).read_bytes() == (ROOT / "target" / "bin" / name).read_bytes()
         assert run(prefix / "bin" / "wav", input=text).stdout[:4] == b"RIFF"
+        assert run(prefix / "bin" / "sorted", input=text).stdout.endswith(b"order=4\nequal\n")
         blocked = Path(folder, "file")
         blocked.write_text("")
         for call in ([], ["a", "b"], [str(blocked / "below")]):

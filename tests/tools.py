@@ -1,5 +1,5 @@
-"""The tools: the example bell is what its table makes, ./hear leaves sound, picture and table, and each bad input ends with
-one sentence that says what is wrong, a status that is not 0, and no file.
+"""The tools: the example bell and its report are what its table makes, ./hear leaves sound, picture and table, and each bad
+input ends with one sentence that says what is wrong, a status that is not 0, and no file.
 
     /usr/bin/python3 tests/tools.py      (needs numpy, scipy, matplotlib and sox; target/bin/wav must be built)
 """
@@ -61,6 +61,11 @@ def bad_tables(folder):
     refused(run("python3", "tools/partials.py", Path(folder, "none.csv"), "-o", file), "can't be read", file)
     table.write_text(TABLE + "hum,100,0,1\n")
     refused(run("python3", "tools/partials.py", table, "-o", Path(folder, "none", "file.txt")), "can't be written", Path(folder, "none"))
+    blocked = Path(folder, "table.report")
+    blocked.mkdir()
+    refused(run("python3", "tools/partials.py", table, "-o", file), "table.report can't be written", file)
+    blocked.rmdir()
+    refused(run("python3", "tools/partials.py", table, "-o", Path(folder, "table.report")), "the report goes there", blocked)
     assert sorted(os.listdir(folder)) == ["table.csv"], os.listdir(folder)
 
 
@@ -102,9 +107,12 @@ def main():
         file = Path(folder, "bell.txt")
         done = run("python3", "tools/partials.py", "examples/bell.csv", "-o", file, "--seconds", "6")
         assert done.returncode == 0 and file.read_bytes() == (ROOT / "examples" / "bell.txt").read_bytes(), "examples/bell.txt is not what its table makes"
+        report = Path(folder, "bell.report").read_text()
+        assert done.stdout == report == (ROOT / "examples" / "bell.report").read_text(), "examples/bell.report is not what its table makes"
+        assert sorted(os.listdir(folder)) == ["bell.report", "bell.txt"], os.listdir(folder)
     with tempfile.TemporaryDirectory() as folder:
         heard(folder)
-    print(f"{len(BAD_TABLES) + 7} bad inputs refused with a sentence; the example bell is what its table makes; heard and seen")
+    print(f"{len(BAD_TABLES) + 9} bad inputs refused with a sentence; the example bell and its report are what its table makes; heard and seen")
 
 
 if __name__ == "__main__":

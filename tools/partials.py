@@ -10,12 +10,13 @@ Lines that start with # are skipped.
 
 The rate in passes a second is 10^9 / (195 N): --rate asks for the nearest one, --seconds for the N with which the passes
 last so long (N = 265 where neither is given). --gain DB is added to all levels; without it the levels are lowered, if need
-be, until the sum of all peaks fits the 20 bits of a DAC. The report goes to standard output; an error says what is wrong
-and where, writes nothing and ends with status 1.
+be, until the sum of all peaks fits the 20 bits of a DAC. The report goes to standard output and, for `./compare`, beside
+the bench file: NAME.report for NAME.txt. An error says what is wrong and where, writes nothing and ends with status 1.
 """
 
 import argparse
 import csv
+import errno
 import math
 import os
 import sys
@@ -286,16 +287,29 @@ def bench_text(words, passes):
     return text
 
 
-def write_whole(path, text):
-    """A file that is there whole or not at all."""
+def report_beside(file):
+    """Where the report of a bench file stands: NAME.report for NAME.txt."""
+    return os.path.splitext(file)[0] + ".report"
+
+
+def write_whole(texts):
+    """Files, each by its path, that are there whole or not at all."""
+    temporary = {}
     try:
-        handle, temporary = tempfile.mkstemp(dir=os.path.dirname(path) or ".")
-        with os.fdopen(handle, "w", encoding="ascii") as file:
-            file.write(text)
-        os.chmod(temporary, 0o644)
-        os.replace(temporary, path)
+        for path, text in texts.items():
+            if os.path.isdir(path):
+                raise IsADirectoryError(errno.EISDIR, os.strerror(errno.EISDIR))
+            handle, temporary[path] = tempfile.mkstemp(dir=os.path.dirname(path) or ".")
+            with os.fdopen(handle, "w", encoding="utf-8") as file:
+                file.write(text)
+            os.chmod(temporary[path], 0o644)
+        for path in texts:
+            os.replace(temporary.pop(path), path)
     except OSError as error:
         raise Wrong(f"{path} can't be written: {error.strerror}") from None
+    finally:
+        for left in temporary.values():
+            os.unlink(left)
 
 
 def make(table, passes=MOST_PASSES, rate=None, seconds=None, gain=None):
@@ -327,8 +341,11 @@ def main():
         parser.add_argument(option, type=finite)
     asked = parser.parse_args()
     try:
+        beside = report_beside(asked.file)
+        if os.path.realpath(beside) in (os.path.realpath(asked.file), os.path.realpath(asked.table)):
+            raise Wrong(f"{beside} can't be the table or the bench file: the report goes there")
         text, lines, _, _, _ = make(asked.table, asked.passes, asked.rate, asked.seconds, asked.gain)
-        write_whole(asked.file, text)
+        write_whole({asked.file: text, beside: "\n".join(lines) + "\n"})
     except Wrong as wrong:
         sys.exit(f"partials: {asked.table}: {wrong}")
     print("\n".join(lines))

@@ -1,0 +1,321 @@
+#!/usr/bin/env python3
+"""What the program sorted finds of a bench file, in words: may it be rung with its generators in another order?
+
+    python3 tools/compared.py PROGRAM FILE [ORDER-FILE]      (./compare builds the program and calls this)
+
+PROGRAM compares the order by number with a second one, that of ORDER-FILE or else that by pitch. It alone decides; the
+words of FILE are looked at only to say what stands behind its findings. Generators are named by the report of
+tools/partials.py beside FILE (NAME.report), if the pitches there are those of FILE. The exit status is 0 where the orders
+are equal, 1 where they are not, 2 in a refusal and 3 for everything else.
+"""
+
+import os
+import re
+import subprocess
+import sys
+
+import partials as tables
+
+EQUAL, NOT_EQUAL, REFUSED, FAILED = range(4)
+FILE_MOST = 65536
+ENTRIES_SHOWN, NAMES_SHOWN = 12, 6
+
+# The words of the machine.
+GENERATOR = ("GO", "GJ", "GK", "GN", "GM", "GP", "GQ", "GL", "GSUM", "GFM", "GMODE")
+MODIFIER = ("M0", "M1", "L0", "L1", "MIN", "MRM", "MSUM", "MMODE")
+DELAY_UNIT = ("X", "Y", "Z", "P", "the first word", "the second word", "the third word")
+QUADRANTS = ("generator-this", "generator-last", "modifier-this", "modifier-last")
+OTHERS = ("DX", "T", "N", "the pass counter", "lingering", "the Linger pass", "overrun")
+MODIFIERS_AT, SUMS_AT, DACS_AT, OTHERS_AT, DELAY_UNITS_AT, UPDATE_TICKS_AT = 2816, 3840, 4096, 4112, 4119, 4343
+T_AT, N_AT, FRESH_T, FRESH_N = 4113, 4114, 1, 265
+
+# Run modes.
+PAUSE, TO_DAC, WRITES, READS, WAITS, STOPS, TRIGGERS = 0b0001, 0b0010, 0b0011, 0b0111, 0b1001, 0b1101, 0b1110
+ADDING = (STOPS, TRIGGERS, 0b1111)
+
+# The questions that sorted asks, in README's words.
+QUESTIONS = {
+    2: "Are all words within their width and range, with built modes and addresses, and are the update ticks those of T and N?",
+    5: "Are there T entries in the order?",
+    6: "Is each number below T in the order once?",
+    9: "Is the text a bench file?",
+}
+NOT_SO = "what the program sorted found isn't so in the file"
+ORDER_FILE = "it must have 1 to 256 lines order=G, each with a number G from 0 to 255 without leading zeros and ended by LF"
+
+POINT = re.compile(r"point=([1-4]) place=(\d+) (word|written)=(\d+)")
+ENTRY = re.compile(r"order=(\d+)")
+# A partial's line in the report: its name, its generators, and its Hz if it isn't noise.
+PARTIAL = re.compile(r"(.*\S)\s+(\d+(?:,\d+)*)\s+(?:noise|(\d+\.\d+)\s+[+-]\d+\.\d+)\s+\S+\s+[+-]\S+\s+\S+\s+[+-]\S+%")
+
+
+class Trouble(Exception):
+    """Why nothing could be found."""
+
+
+def joined(parts):
+    """Parts as a list in words."""
+    return parts[0] if len(parts) == 1 else f"{', '.join(parts[:-1])} and {parts[-1]}"
+
+
+def first_of(parts):
+    """The first parts of a list, and how many more there are."""
+    return parts if len(parts) <= NAMES_SHOWN + 1 else parts[:NAMES_SHOWN] + [f"{len(parts) - NAMES_SHOWN} more"]
+
+
+def sentence(text):
+    """Text with a capital letter."""
+    return text[0].upper() + text[1:]
+
+
+class Bell:
+    """The machine of a bench file as it begins, its commands, and the names of its partials by generator."""
+
+    def __init__(self, text):
+        lines = text.decode("ascii").splitlines()
+        words = (line[len("word="):].split(":") for line in lines if line.startswith("word="))
+        self.words = {int(place): int(value) for place, value in words}
+        self.commands = [(number, int(line[len("command="):], 16)) for number, line in enumerate(lines, 1) if line.startswith("command=")]
+        self.t = self.words.get(T_AT, FRESH_T)
+        self.names = {}
+
+    def register(self, g, name):
+        return self.words.get(len(GENERATOR) * g + GENERATOR.index(name), 0)
+
+    def mode(self, g):
+        return self.register(g, "GMODE") >> 6
+
+    def pitch(self, g):
+        """A generator's Hz, where it turns forwards."""
+        return (self.register(g, "GJ") >> 8) / 2 ** 20 / (tables.TICK * self.words.get(N_AT, FRESH_N))
+
+    def in_mode(self, order, mode):
+        return [g for g in order if self.mode(g) == mode]
+
+    # Words for its parts.
+
+    def number(self, g):
+        """A generator's number, with its partial."""
+        return f"{g} ({self.names[g]})" if g in self.names else f"{g}"
+
+    def generators(self, those):
+        """Generators by their numbers, with their partials."""
+        return ("generator " if len(those) == 1 else "generators ") + joined(first_of([self.number(g) for g in those]))
+
+    def sum_word(self, word):
+        """A sum word, with the partials that add to it or wait to."""
+        those = [self.names[g] for g in range(self.t) if g in self.names and self.register(g, "GSUM") == word and self.mode(g) in (*ADDING, WAITS)]
+        return f"sum word {word}" + (f" ({joined(first_of(those))})" if those else "")
+
+    def source(self, g):
+        """What a generator sends to a DAC or writes: the sum word that its GFM names."""
+        quadrant, word = divmod(self.register(g, "GFM"), 64)
+        return f"modifier-last sum word {word}" if quadrant else f"generator-last {self.sum_word(word)}"
+
+    def word(self, place):
+        """A word of the machine."""
+        for start, end, names, whose in ((0, MODIFIERS_AT, GENERATOR, "generator"), (MODIFIERS_AT, SUMS_AT, MODIFIER, "modifier"), (DELAY_UNITS_AT, UPDATE_TICKS_AT, DELAY_UNIT, "delay unit")):
+            if start <= place < end:
+                at, name = divmod(place - start, len(names))
+                return f"{names[name]} of {whose} {self.number(at) if whose == 'generator' else at}"
+        if SUMS_AT <= place < DACS_AT:
+            return f"{QUADRANTS[(place - SUMS_AT) // 64]} sum word {(place - SUMS_AT) % 64}"
+        if DACS_AT <= place < OTHERS_AT:
+            return f"DAC word {place - DACS_AT}"
+        return "the update ticks" if place == UPDATE_TICKS_AT else OTHERS[place - OTHERS_AT]
+
+    def order(self, order):
+        """An order: partials by name, numbers that follow each other together, and no more than its beginning."""
+        entries, at = [], 0
+        while at < len(order):
+            end = at + 1
+            while end < len(order) and order[end] == order[end - 1] + 1 and not {order[at], order[end]} & self.names.keys():
+                end += 1
+            if end - at < 3:
+                end = at + 1
+            entries.append((f"{order[at]} to {order[end - 1]}" if end > at + 1 else f"{order[at]} {self.names.get(order[at], '')}".strip(), end - at))
+            at = end
+        if len(entries) > ENTRIES_SHOWN + 1:
+            return ", ".join(text for text, _ in entries[:ENTRIES_SHOWN]) + f" and {sum(count for _, count in entries[ENTRIES_SHOWN:])} more"
+        return ", ".join(text for text, _ in entries)
+
+
+def name_partials(bell, path):
+    """Takes the partials' names from a report, if there is one; none where a pitch there isn't that of the file."""
+    try:
+        with open(path, encoding="utf-8", errors="replace") as file:
+            rows = [row.groups() for row in map(PARTIAL.match, file) if row]
+    except OSError:
+        return
+    for name, generators, hz in rows:
+        for g in map(int, generators.split(",")):
+            if g >= bell.t or abs(bell.pitch(g) - float(hz or 0)) > 0.001 or bell.mode(g) in (TO_DAC, WRITES):
+                print(f"compare: no partials are named: in {path} generator {g} is {name}, and in the bench file it isn't", file=sys.stderr)
+                bell.names = {}
+                return
+            bell.names[g] = name
+
+
+# What stands behind each point. The first order is by number.
+
+def differing(ours, theirs):
+    """What the orders have where they differ."""
+    if ours == theirs:
+        raise ValueError
+    return ours, theirs
+
+
+def point_1(bell, waiting, second):
+    differing(second.index(waiting - 1) > second.index(waiting), False)
+    return f"generator {bell.number(waiting)} waits for generator {bell.number(waiting - 1)}, which the second order takes after it: a trigger of generator {waiting - 1} no longer starts it."
+
+
+def point_2(bell, dac, second):
+    one, other = differing(*([g for g in bell.in_mode(order, TO_DAC) if bell.register(g, "GO") % 16 == dac][-1] for order in (range(bell.t), second)))
+    return f"DAC {dac} is fed last by another generator: by number generator {bell.number(one)} sends it {bell.source(one)}, in the second order generator {bell.number(other)} sends it {bell.source(other)}."
+
+
+def point_3(bell, item, second):
+    one, other = differing(*(bell.in_mode(order, WRITES)[item] for order in (range(bell.t), second)))
+    return f"item {item} of the written data (counted from 0) comes from another generator: by number generator {bell.number(one)} writes {bell.source(one)}, in the second order generator {bell.number(other)} writes {bell.source(other)}."
+
+
+def point_4(bell, word, second):
+    def on_word(g):
+        return bell.register(g, "GSUM") == word
+
+    def kept(order, last):
+        return {g for g in order[order.index(last):] if on_word(g) and bell.mode(g) in ADDING}
+    first = list(range(bell.t))
+    last, other = ([g for g in bell.in_mode(order, READS) if on_word(g)][-1] for order in (first, second))
+    if last != other:
+        return f"{bell.sum_word(word)} is replaced last by another generator: by number by generator {bell.number(last)}, in the second order by generator {bell.number(other)}."
+    start = f"generator {bell.number(last)} replaces {{}} last in both orders, "
+    item, other = (bell.in_mode(order, READS).index(last) for order in (first, second))
+    if item != other:
+        return start.format(bell.sum_word(word)) + f"but with another read item (counted from 0): by number item {item}, in the second order item {other}."
+    ours, theirs = differing(kept(first, last), kept(second, last))
+    sides = [f"{bell.generators(sorted(those))} {'adds' if len(those) == 1 else 'add'} {side}" for those, side in ((ours - theirs, "after it by number and before it in the second order"), (theirs - ours, "before it by number and after it in the second order")) if those]
+    return start.format(f"sum word {word}") + f"and only what is added after it stays: {joined(sides)}."
+
+
+# How far "equal" reaches. It is about a pass with the file's modes, sum words, DACs and T; so it is about every pass, unless these change.
+
+def changing(bell, second):
+    """The generators that a trigger can put into another mode, with which the orders may not be equal."""
+    at = {g: place for place, g in enumerate(second)}
+    moving = [g for g in range(bell.t) if bell.mode(g) in (WAITS, STOPS)]
+    last = {bell.register(g, "GSUM"): g for g in bell.in_mode(range(bell.t), READS)}
+    for g in moving:
+        reader = last.get(bell.register(g, "GSUM"), g)
+        if (g - 1 in moving or g > 0 and bell.mode(g - 1) == TRIGGERS) and at[g - 1] > at[g] or (g < reader) != (at[g] < at[reader]):
+            yield g
+
+
+def sets(bell, command):
+    """Whether a command can change modes, sum words or DACs of generators below T, or T."""
+    code, g = command >> 8 & 0b1111, command & 0b11111111
+    if code == 0b0000 and not g >> 7:  # MISC: W and P
+        return any(command & 0b100 and bell.mode(h) in (WAITS, STOPS) or command & 0b010 and bell.mode(h) == PAUSE for h in range(bell.t))
+    if code == 0b0001 and g >> 7:  # TICKS: Q
+        return not command & 0b1000
+    return g < bell.t and (code == 0b1000 and not command >> 30 & 1 or code == 0b1010 and command >> 30 != 0b11 or code == 0b1011 and bell.mode(g) == TO_DAC)
+
+
+def limits(bell, second):
+    """What may change the answer "equal" while the file rings."""
+    moved = list(changing(bell, second))
+    if moved:
+        yield f"Only until a trigger changes {bell.generators(moved)}: with another mode there the orders may part."
+    line = next((line for line, command in bell.commands if sets(bell, command)), 0)
+    if line:
+        yield f"Only until commands change modes, sum words, DACs or T, the first of them in line {line} of the file."
+
+
+def order_line(bell, second, order_file):
+    """The second order in words."""
+    same = ", the same as by number" if second == list(range(bell.t)) else ""
+    return f"The second order, {f'from {order_file}' if order_file else 'by pitch'}{same}: {bell.order(second)}."
+
+
+def found(program, text, order_file):
+    """The lines that the program prints."""
+    command = [program] + ([order_file] if order_file else [])
+    try:
+        done = subprocess.run(command, input=text, stdout=subprocess.PIPE, stderr=subprocess.PIPE, close_fds=False)
+    except OSError as error:
+        raise Trouble(f"cannot run {program}: {error.strerror}") from None
+    if done.returncode or done.stderr:
+        raise Trouble(done.stderr.decode(errors="replace").strip() or f"the program sorted ended with status {done.returncode}")
+    return done.stdout.decode("ascii", "replace").splitlines()
+
+
+def refusal(line, file, order_file, text):
+    """A refusal in words, or nothing where the line is none."""
+    if line == "order-refused=9":
+        return f"{order_file} is no order file: {ORDER_FILE}."
+    name, _, number = line.partition("=")
+    if name != "refused" or number not in map(str, QUESTIONS):
+        return None
+    number = int(number)
+    whose = {2: f"The machine of {file}", 9: file}.get(number) or order_file or "The order by pitch"
+    which = f" T is {Bell(text).t} in {file}." if number in (5, 6) else ""
+    return f"{whose} doesn't pass question {number}: {QUESTIONS[number]}{which}"
+
+
+def compared(program, file, order_file=None):
+    """What was found, in words, and the exit status."""
+    try:
+        with open(file, "rb") as opened:
+            text = opened.read(FILE_MOST + 1)
+    except OSError as error:
+        raise Trouble(f"cannot read {file}: {error.strerror}") from None
+    lines = found(program, text, order_file)
+    refused = refusal(lines[0], file, order_file, text) if len(lines) == 1 else None
+    if refused:
+        return [refused], REFUSED
+    entries, point = [ENTRY.fullmatch(line) for line in lines[:-1]], POINT.fullmatch(lines[-1]) if lines else None
+    if not lines or not all(entries) or not (point or lines[-1] == "equal"):
+        raise Trouble(f"the program sorted printed what is not known here: {lines[-1:]}")
+    bell, second = Bell(text), [int(entry[1]) for entry in entries]
+    if sorted(second) != list(range(bell.t)):
+        raise Trouble(NOT_SO)
+    name_partials(bell, tables.report_beside(file))
+    said = [order_line(bell, second, order_file)]
+    if not point:
+        but = list(limits(bell, second))
+        return said + [f"Yes{', as the file begins' if but else ''}: the same bell in both orders."] + but, EQUAL
+    try:
+        behind = (point_1, point_2, point_3, point_4)[int(point[1]) - 1](bell, int(point[2]), second)
+        where = bell.word(int(point[4])) if point[3] == "word" else f"item {point[4]} of the written data"
+    except (IndexError, ValueError):
+        raise Trouble(NOT_SO) from None
+    return said + ["No: the two orders can ring differently.", sentence(behind), f"Shown by an example with the file's modes, sum words and DACs: after a pass by each order the first difference is in {where}."], NOT_EQUAL
+
+
+def say(lines):
+    """Prints lines whole."""
+    try:
+        sys.stdout.reconfigure(errors="replace")
+        print("\n".join(lines), flush=True)
+    except OSError as error:
+        os.dup2(os.open(os.devnull, os.O_WRONLY), sys.stdout.fileno())  # what is left unwritten stays so
+        raise Trouble(f"cannot write: {error.strerror}") from None
+
+
+def main(arguments):
+    """An error of any kind is FAILED: Python's own status for one, 1, would say that the orders aren't equal."""
+    try:
+        said, status = compared(*arguments)
+        say(said)
+    except Trouble as trouble:
+        print(f"compare: {trouble}", file=sys.stderr)
+        return FAILED
+    except Exception as error:
+        print(f"compare: nothing was found: {error!r}", file=sys.stderr)
+        return FAILED
+    return status
+
+
+if __name__ == "__main__":
+    sys.exit(main(sys.argv[1:]))
