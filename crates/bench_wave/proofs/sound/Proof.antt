@@ -52,7 +52,8 @@ returns : tie.Need-returns
 returns c =
     let called = c .before .before .before .before .before .before in
     let put = called .before .before .before .before in
-    let start = put .before .before .before .before .before .before .before in
+    let rated = put .before .before in
+    let start = rated .before .before .before .before .before in
     let a = start .args in
     let long : length (a .out .now) ≡ waveRoom = search needs in
     let same = headed-long (a .out .now) _ _ (put .put-header .ensures) ∙ long in
@@ -60,9 +61,11 @@ returns c =
 
 add-t23 : tie.Need-add-t23
 add-t23 c =
-    let called = c .before .before .before .before .before .before .before in
+    let asked = c .before in
+    let called = asked .before .before .before .before .before .before in
     let put = called .before .before .before .before in
-    let start = put .before .before .before .before .before .before .before in
+    let rated = put .before .before in
+    let start = rated .before .before .before .before .before in
     let a = start .args in
     let long : length (a .out .now) ≡ waveRoom = search needs in
     let same = headed-long (a .out .now) _ _ (put .put-header .ensures) ∙ long in
@@ -77,7 +80,8 @@ same-length-4 c = search needs
 
 returns-2 : tie.Need-returns-2
 returns-2 c =
-    let called = c .before .before .before .before .before .before .before in
+    let asked = c .before in
+    let called = asked .before .before .before .before .before .before in
     let put = called .before .before .before .before in
     let rated = put .before .before in
     let start = rated .before .before .before .before .before in
