@@ -1,21 +1,20 @@
 -- The sum of cosines by the code's numbers: the index by the low bits of a product, an exact shift to divide by, and the sign of a product of two sines.
 -- Assumes nothing.
-use mathlib.Core.Path.{_≡_, refl, sym, ap, _∙_}
+use mathlib.Core.Path.{_≡_, refl, sym}
 use mathlib.Core.Bool.{Bool, true, false, cond}
 use Prim.Native.Nat.{ℕ, zero, suc, _+_, _*_, _/_, _%_, _^_, _<_, _≤_, min}
 use native.Mathlib.Nat.{mul-le-mul, mod-eq-of-lt, le-mul-of-pos-right, pow-le-pow-right, min-le-left, min-eq-left, min-eq-right, le-div-iff-mul-le, div-le-of-le-mul, mul-div-cancel}
 use native.Mathlib.Omega.{arith}
 use lib.Dec.{eqb, ltb, lit≤}
-use lib.IntN.{ℤ, pos, negsuc, negℤ, natAbs, _*ℤ_}
+use lib.IntN.{ℤ, pos, negℤ, natAbs, _*ℤ_}
 use lib.Pow.{pow-pos}
 use lib.Signed.{nonNeg}
 use borrow.Author.Tests.{ltb-true, ltb-false}
-use Rattle.words.specs.Words.{signed, lowBits, valueOf}
+use Rattle.words.specs.Words.{signed, valueOf}
 use Rattle.words.proofs.Residues.{low-lt, low-times}
 use Rattle.sine.specs.Sine.{magnitude, negative, signOf}
 use Rattle.sine.proofs.Quarter.{magnitude-low, magnitude-positive}
 use Rattle.oscillator.specs.Oscillator.{sineAt, multiple, ratio, sumOfCosines, Wave}
-use Rattle.oscillator.proofs.Waves.{sign-bit}
 
 -- K read unsigned times GN has the low 12 bits of K times GN.
 pub multiple-is : (k gn : ℕ) → k < 2 ^ 13 → k * gn % 2 ^ 12 ≡ multiple k gn

@@ -1,6 +1,5 @@
 -- `words::low20` meets its contract: the low bits of a signed word are its own.
 -- Assumes nothing.
-use borrow.Author.Needs.{needs}
 use mathlib.Core.Path.{sym, ap, _∙_}
 use Prim.Native.Nat.{ℕ, _%_}
 use native.Mathlib.Omega.{arith}
