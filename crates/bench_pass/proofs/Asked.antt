@@ -16,7 +16,7 @@ use Rattle.modes.specs.Modes.{readData, writeData}
 use Rattle.machine.specs.Questions.{question1, question2}
 use Rattle.order.specs.Order.{question7, question8, inMode}
 use Rattle.delay_questions.specs.Questions.{memoryGood, question11, question12}
-use Rattle.pass_model.specs.Pass.{Call, Outcome, ran, passRefusal, passOf}
+use Rattle.pass_model.specs.Pass.{Call, Outcome, ran, passRefusal}
 use Rattle.pass_model.proofs.Asked.{Answered, refused-first, refused-7, refused-8, refused-10, past-memory, passes, few-ticks}
 use Rattle.pass_laws.proofs.Passing.{let-through, pass-number}
 use Rattle.pass_generators.specs.Loops.{Ready, Numbers}

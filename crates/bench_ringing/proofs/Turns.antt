@@ -2,27 +2,24 @@
 -- Assumes nothing.
 use mathlib.Core.Path.{_≡_, refl, sym, _∙_, ap}
 use mathlib.Core.Logic.{_≢_}
-use mathlib.Core.Bool.{Bool, true, false, cond}
 use mathlib.Core.List.{List, [], _∷_}
 use Prim.Native.Nat.{ℕ, _+_, _-_, _≤_, _<_}
 use native.Mathlib.Omega.{arith}
-use borrow.Author.Tests.{eq-eqb, ne-eqb, eqb-true}
+use borrow.Author.Tests.{eq-eqb, ne-eqb}
 use lib.Dec.{eqb, lit<}
-use lib.ListN.{length, set, take, drop, length-drop, drop-of-length-le}
-use lib.Seq.{sets, take-all, drop-drop}
-use Rattle.layout.specs.Layout.{lingeringAt}
+use lib.ListN.{length, take, drop, length-drop, drop-of-length-le}
+use lib.Seq.{sets, drop-drop}
 use Rattle.questions.specs.Questions.{asked}
 use Rattle.machine.specs.Questions.{question1, question2}
 use Rattle.machine.proofs.SoundMachine.{reaches, sound-dac}
 use Rattle.pass_model.specs.Pass.{Outcome as Passed}
 use Rattle.pass_model.proofs.Asked.{is-sound, is-whole}
-use Rattle.update.specs.Update.{Outcome, outcome, stillLingering, mostCommands, takenBy, updateOf, takenCount}
-use Rattle.update.proofs.Updating.{left-within, count-is, tail-of}
+use Rattle.update.specs.Update.{Outcome, outcome, updateOf, takenCount}
+use Rattle.update.proofs.Updating.{left-within}
 use Rattle.update_laws.proofs.Lengths.{update-length}
 use Rattle.update_laws.proofs.UpdateSound.{update-sound}
 use Rattle.lists.proofs.Choices.{of-cond}
 use Rattle.lists.proofs.Parts.{part-from}
-use Rattle.bench_text.specs.Text.{refusalLine}
 use Rattle.bench_text.proofs.Lines.{pass-line-length, refusal-line-length}
 use Rattle.wave_format.proofs.Numbers.{frame-length}
 use Rattle.bench_pass.specs.ByNumber.{passed}

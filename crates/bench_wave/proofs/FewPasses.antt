@@ -14,7 +14,7 @@ use Rattle.bench_bytes.specs.Bytes.{startsWith}
 use Rattle.bench_numbers.specs.Numbers.{allDigits, writtenAfter, numberIn, leadingZero, decimalIn, hexadecimalIn}
 use Rattle.bench_numbers.specs.declared.Number.{Number}
 use Rattle.bench_numbers.specs.declared.Number.the-variants.{Is, No}
-use Rattle.bench_lines.specs.Lines.{mostPasses, passesStart, wordStart, commandStart, afterStart, lineBy, wordLine, lineOf, linesOf}
+use Rattle.bench_lines.specs.Lines.{mostPasses, passesStart, wordStart, commandStart, afterStart, lineBy, lineOf, linesOf}
 use Rattle.bench_lines.specs.declared.Line.{Line}
 use Rattle.bench_lines.specs.declared.Line.the-variants.{Passes, Word, Command, Other}
 use Rattle.bench_lines.proofs.LineKinds.{word-kind}

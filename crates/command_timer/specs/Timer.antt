@@ -4,7 +4,7 @@ use Prim.Native.Nat.{ℕ, _+_}
 use mathlib.Core.Bool.{Bool, false, cond, not}
 use lib.Dec.{eqb, leb}
 use lib.IntN.{pos, _-ℤ_}
-use lib.ListN.{getD, set}
+use lib.ListN.{set}
 use Rattle.words.specs.Words.{lowBits}
 use Rattle.layout.specs.Layout.{tAt, nAt, counterAt, lingeringAt, lingerPassAt, overrunAt}
 use Rattle.layout.specs.Machine.{Machine, withUpdateTicks, lowCounter}

@@ -1,17 +1,16 @@
 -- Question 10: the or of the words is within a width just where each word is; and what a good delay memory has.
 -- Assumes nothing.
 use mathlib.Core.Path.{_≡_, sym, _∙_}
-use mathlib.Core.Bool.{true, false, _&&_}
-use Prim.Native.Nat.{ℕ, zero, suc, _+_, _^_, _<_}
+use mathlib.Core.Bool.{true, false}
+use Prim.Native.Nat.{ℕ, zero, suc, _+_, _^_}
 use native.Mathlib.Numerals.{add-one}
-use native.Mathlib.Omega.{arith}
 use borrow.Author.Tests.{ltb-true, lt-ltb, eqb-true, eq-eqb}
 use lib.Bits.{bitOr}
 use lib.Dec.{eqb, ltb}
 use lib.ListN.{length, getD}
 use lib.Pow.{pow-pos}
 use Rattle.lists.specs.Lists.{allBelow}
-use Rattle.lists.proofs.Below.{both-ways, and-first, and-second, and-both, below-at, below-from}
+use Rattle.lists.proofs.Below.{and-first, and-second, and-both, below-at, below-from}
 use Rattle.machine_sweep.proofs.Rows.{or-bits}
 use Rattle.layout.specs.Layout.{memoryWords}
 use Rattle.layout.specs.Machine.{Memory}

@@ -3,7 +3,6 @@
 use mathlib.Core.Path.{_≡_, refl, _∙_}
 use mathlib.Core.Bool.{true}
 use mathlib.Core.List.{[], _∷_}
-use Prim.Native.Nat.{ℕ}
 use lib.Dec.{lit≤, lit<}
 use lib.ListN.{set, length-set}
 use Rattle.lists.specs.Lists.{zeros, countBelow, isOneOf}

@@ -18,7 +18,6 @@ use Rattle.delay_questions.specs.Questions.{memoryGood, invokes, goodLine, line
 use Rattle.delay_questions.proofs.Memory.{good-from}
 use Rattle.delay_questions.proofs.Lines.{none-invoked}
 use Rattle.questions.specs.Questions.{asked}
-use Rattle.machine.specs.Questions.{question1, question2}
 use Rattle.machine.proofs.SoundMachine.{reaches}
 use Rattle.modes.specs.Modes.{readData, writeData}
 use Rattle.order.specs.Order.{question5, question6, inMode}

@@ -1,8 +1,8 @@
 -- Tables of two sizes: where k times a number is written for the size and for the place, both sides of the rule are only raised to the power k.
 -- Assumes nothing.
-use mathlib.Core.Path.{_≡_, ap, _∙_}
+use mathlib.Core.Path.{_≡_}
 use mathlib.Core.Bool.{true}
-use Prim.Native.Nat.{ℕ, zero, suc, _+_, _*_, _/_, _%_, _^_, _<_, _≤_}
+use Prim.Native.Nat.{ℕ, zero, suc, _*_, _/_, _%_, _^_, _<_, _≤_}
 use native.Mathlib.Nat.{zero-mul, suc-mul, mul-pos, mul-mul-mul-comm, pow-zero, pow-suc, pow-le-pow-left, pow-lt-pow-left}
 use native.Mathlib.Omega.{arith, by-contra}
 use lib.Dec.{lit<}

@@ -1,8 +1,6 @@
 -- Where each word of the machine stands (document 01, "The machine").
 -- Assumes nothing.
-use Prim.Native.Nat.{ℕ, _+_, _*_, _≤_}
-use mathlib.Core.List.{List}
-use lib.ListN.{length}
+use Prim.Native.Nat.{ℕ, _+_, _*_}
 
 -- The length of the machine's run of words, and the number of its places that a bench file can name: all but the last, which holds the update ticks.
 abbrev pub machineLength : ℕ

@@ -7,7 +7,7 @@ use Prim.Native.Nat.{ℕ, zero, suc, _+_, _*_, _%_, _^_, _<_}
 use native.Mathlib.Nat.{not-suc-le-zero, le-of-suc-le-suc, mod-lt}
 use lib.Dec.{ltb}
 use lib.ListN.{length, getD}
-use Rattle.lists.specs.Lists.{allBelow, tabulate}
+use Rattle.lists.specs.Lists.{allBelow}
 use Rattle.lists.proofs.Below.{below-same}
 use Rattle.lists.proofs.Tables.{tabulate-at, tabulate-length}
 use Rattle.machine_sweep.specs.Columns.{swept}

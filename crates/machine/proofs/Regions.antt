@@ -5,7 +5,7 @@ use mathlib.Core.Bool.{Bool, true, false, cond, _&&_}
 use mathlib.Core.List.{List, [], _∷_}
 use Prim.Native.Nat.{ℕ, zero, suc, _+_, _-_, _*_, _/_, _%_, _≤_, _<_}
 use native.Mathlib.Omega.{arith}
-use native.Mathlib.Nat.{not-suc-le-zero, le-of-suc-le-suc, lt-of-lt-of-le, mul-zero, mul-comm, mul-suc, zero-add, add-zero, add-suc, suc-add, add-assoc, add-sub-cancel-left, add-sub-of-le, mul-le-mul-left, mul-add-mod-self-left, mod-eq-of-lt, mod-lt, div-add-mod, div-lt-iff-lt-mul}
+use native.Mathlib.Nat.{not-suc-le-zero, lt-of-lt-of-le, mul-zero, mul-comm, mul-suc, zero-add, add-assoc, add-sub-cancel-left, add-sub-of-le, mul-le-mul-left, mul-add-mod-self-left, mod-eq-of-lt, mod-lt, div-add-mod, div-lt-iff-lt-mul}
 use borrow.Author.Tests.{ltb-true, ltb-false, lt-ltb, le-ltb}
 use lib.Dec.{ltb}
 use lib.ListN.{length, getD}

@@ -1,6 +1,6 @@
 -- The sweep: where the limits are powers of two it passes just where each word of each column is below its limit.
 -- Assumes nothing.
-use mathlib.Core.Path.{_≡_, refl, sym, _∙_}
+use mathlib.Core.Path.{_≡_, sym, _∙_}
 use mathlib.Core.Bool.{Bool, true, _&&_}
 use mathlib.Core.List.{List}
 use Prim.Native.Nat.{ℕ, zero, suc, _+_, _*_, _/_, _%_, _^_, _<_, _≤_}
@@ -12,7 +12,6 @@ use lib.Dec.{ltb}
 use lib.Bits.{bitOr, or-lt, or-add-and, and-le-l, and-le-r}
 use lib.Pow.{pow-pos}
 use lib.ListN.{length, getD}
-use Rattle.lists.specs.Lists.{allBelow}
 use Rattle.lists.proofs.Below.{both-ways, and-first, and-second, and-both, below-at, below-from}
 use Rattle.machine_sweep.specs.Columns.{column, everyWord, rowsBelow, swept}
 use Rattle.machine_sweep.proofs.EveryColumn.{everyColumn, column-at, column-from, limitTests, tests-length, tests-at}

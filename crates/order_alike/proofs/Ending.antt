@@ -11,7 +11,6 @@ use lib.Dec.{eqb, ltb}
 use lib.ListN.{length, getD}
 use Rattle.lists.specs.Lists.{count}
 use Rattle.lists.proofs.Counts.{count-first, count-next}
-use Rattle.layout.specs.Machine.{Order}
 use Rattle.order.specs.Order.{IsOrder}
 use Rattle.order_lists.specs.Sequences.{byNumber, keep, some, lastOf, placeOf, before}
 use Rattle.order_lists.proofs.ByNumber.{by-number-once, by-number-none}

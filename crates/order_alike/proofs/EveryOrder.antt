@@ -1,22 +1,22 @@
 -- Where the clauses hold, every two orders agree on the four points.
 -- Assumes nothing.
-use mathlib.Core.Path.{_≡_, refl, sym, ap, _∙_}
+use mathlib.Core.Path.{_≡_, refl, sym, _∙_}
 use mathlib.Core.Bool.{Bool, true, false, cond}
 use mathlib.Core.List.{List, [], _∷_, map}
-use Prim.Native.Nat.{ℕ, zero, suc, _+_, _-_, _≤_, _<_}
+use Prim.Native.Nat.{ℕ, _+_, _-_, _≤_, _<_}
 use native.Mathlib.Omega.{arith}
 use borrow.Author.Tests.{le-leb, eq-eqb}
 use lib.ListN.{length, getD, length-map, List·getD-map}
 use lib.Seq.{ext-getD}
 use Rattle.lists.specs.Lists.{count, countBelow}
 use Rattle.lists.proofs.Below.{and-second, and-both}
-use Rattle.layout.specs.Layout.{dacs, quadrantWords}
+use Rattle.layout.specs.Layout.{quadrantWords}
 use Rattle.layout.specs.Machine.{Order}
 use Rattle.order.specs.Order.{IsOrder}
-use Rattle.order_lists.specs.Sequences.{keep, some, lastOf, placeOf, before}
+use Rattle.order_lists.specs.Sequences.{keep, some, lastOf, placeOf}
 use Rattle.order_lists.proofs.Entries.{last-passes, count-entry, keep-count}
 use Rattle.order_lists.proofs.Orders.{some-from, last-below, length-keep, keep-below}
-use Rattle.order_agreement.specs.Agreement.{Settings, awaits, replacesWord, addsToWord, lastReplacing, placeReplacing, afterReplacing, SameWord, Agreeing}
+use Rattle.order_agreement.specs.Agreement.{Settings, awaits, replacesWord, lastReplacing, SameWord, Agreeing}
 use Rattle.order_alike.proofs.Clauses.{Clauses}
 
 -- An entry that is kept passes.

@@ -4,18 +4,18 @@ use mathlib.Core.Path.{_≡_, refl, sym, ap, _∙_}
 use mathlib.Core.Logic.{_≢_}
 use mathlib.Core.Bool.{Bool, true, false, not, _&&_, _||_, true≢false}
 use mathlib.Core.List.{List, [], _∷_, _++_, map}
-use Prim.Native.Nat.{ℕ, suc, _+_, _-_, _≤_, _<_}
+use Prim.Native.Nat.{ℕ, _+_, _-_, _<_}
 use native.Mathlib.Omega.{arith}
-use borrow.Author.Tests.{eqb-true, eqb-false, eq-eqb}
+use borrow.Author.Tests.{eqb-true, eqb-false}
 use lib.Dec.{eqb, leb}
 use lib.ListN.{length, getD, List·getD-map}
 use lib.Seq.{getD-append-seam}
 use Rattle.lists.proofs.Below.{and-both}
 use Rattle.layout.specs.Layout.{dacs, quadrantWords}
 use Rattle.layout.specs.Machine.{Order}
-use Rattle.order_lists.specs.Sequences.{keep, lastOf, placeOf, before}
-use Rattle.order_lists.proofs.Found.{Found, some-found}
-use Rattle.order_agreement.specs.Agreement.{Settings, awaits, replacesWord, addsToWord, lastReplacing, SameWord, Agreeing}
+use Rattle.order_lists.specs.Sequences.{keep, placeOf, before}
+use Rattle.order_lists.proofs.Found.{some-found}
+use Rattle.order_agreement.specs.Agreement.{Settings, awaits, replacesWord, addsToWord, SameWord, Agreeing}
 use Rattle.order_agreement.proofs.Agreed.{and-parts}
 use Rattle.order_alike.specs.Parting.{someBelow, waitsFor, sendApart, bothReplace, replacesUnder, tells, endingWith}
 use Rattle.order_alike.proofs.Clauses.{Separate}

@@ -1,10 +1,9 @@
 -- Counts that are the same where the rule looks at them have the same answer.
 -- Assumes nothing.
-use mathlib.Core.Path.{_≡_, ap, _∙_}
-use mathlib.Core.Bool.{Bool, _||_}
+use mathlib.Core.Path.{_≡_, ap}
+use mathlib.Core.Bool.{_||_}
 use Prim.Native.Nat.{ℕ, _<_}
 use lib.Dec.{eqb, leb, ltb}
-use Rattle.lists.specs.Lists.{countBelow}
 use Rattle.lists.proofs.Below.{both, below-same}
 use Rattle.lists.proofs.Counts.{count-below-same}
 use Rattle.layout.specs.Layout.{dacs, quadrantWords}

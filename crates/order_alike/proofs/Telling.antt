@@ -1,9 +1,9 @@
 -- Where the rule fails there are two generators whose sequence tells, and the two orders that end with the lowest such ones don't agree.
 -- Assumes nothing.
-use mathlib.Core.Path.{_≡_, refl, sym, ap, _∙_}
+use mathlib.Core.Path.{_≡_, refl, sym, _∙_}
 use mathlib.Core.Logic.{_≢_}
 use mathlib.Core.Bool.{Bool, true, false, not, _&&_, _||_, true≢false}
-use Prim.Native.Nat.{ℕ, zero, suc, _+_, _-_, _≤_, _<_}
+use Prim.Native.Nat.{ℕ, zero, suc, _+_, _-_, _<_}
 use native.Mathlib.Omega.{arith}
 use borrow.Author.Tests.{eqb-true, eqb-false, eq-eqb, ne-eqb, leb-true, leb-false, ltb-true}
 use lib.Dec.{eqb, leb, ltb}
@@ -11,11 +11,10 @@ use Rattle.lists.specs.Lists.{allBelow, countBelow}
 use Rattle.lists.proofs.Below.{and-both}
 use Rattle.layout.specs.Layout.{dacs, quadrantWords}
 use Rattle.order.specs.Order.{IsOrder}
-use Rattle.order_lists.specs.Sequences.{firstFailing}
 use Rattle.order_lists.proofs.Found.{Found, FoundTwo, found, found-two, found-some, lowest-passes}
 use Rattle.order_agreement.specs.Agreement.{Settings, awaits, replacesWord, addsToWord, Agreeing}
 use Rattle.order_agreement.proofs.Agreed.{and-parts}
-use Rattle.order_alike.specs.Alike.{Counts, countsIn, sources, shareOne, feedersShare, wordsApart, alike}
+use Rattle.order_alike.specs.Alike.{countsIn, sources, shareOne, feedersShare, wordsApart, alike}
 use Rattle.order_alike.specs.Parting.{someBelow, waitsFor, sendApart, bothReplace, replacesUnder, tells, partnerOf, laterOf, partingOrders}
 use Rattle.order_alike.proofs.Clauses.{Separate}
 use Rattle.order_alike.proofs.Ending.{ending-order}

@@ -4,7 +4,6 @@ use Prim.Native.Nat.{ℕ, _+_}
 use mathlib.Core.Bool.{Bool, not, _&&_, _||_}
 use mathlib.Core.List.{[], _∷_, _++_}
 use lib.Dec.{eqb, ltb}
-use Rattle.lists.specs.Lists.{allBelow}
 use Rattle.layout.specs.Layout.{dacs, quadrantWords}
 use Rattle.layout.specs.Machine.{Order}
 use Rattle.order_lists.specs.Sequences.{byNumber, keep, firstFailing}

@@ -1,20 +1,19 @@
 -- The counts that are kept are the counts of the generators, so that the rule answers the same by them.
 -- Assumes nothing.
 use mathlib.Core.Path.{_≡_, refl, sym, ap, _∙_}
-use mathlib.Core.Logic.{_≢_}
 use mathlib.Core.Bool.{Bool, true, false, cond, _&&_}
 use mathlib.Core.List.{List}
-use Prim.Native.Nat.{ℕ, zero, suc, _+_, _*_, _%_, _^_, _<_, _≤_}
+use Prim.Native.Nat.{ℕ, zero, suc, _+_, _%_, _^_, _<_, _≤_}
 use native.Mathlib.Omega.{arith}
 use native.Mathlib.Nat.{mod-eq-of-lt, add-zero}
 use borrow.Author.Tests.{eqb-true, eqb-false, ne-eqb}
 use lib.Dec.{eqb, lit≤}
 use lib.ListN.{length, getD, set, length-set}
 use lib.Seq.{getD-set-same, getD-set-other}
-use Rattle.lists.specs.Lists.{countBelow, zeros}
+use Rattle.lists.specs.Lists.{countBelow}
 use Rattle.lists.proofs.Counts.{count-below-le}
 use Rattle.lists.proofs.Zeros.{zeros-length, zeros-at}
-use Rattle.layout.specs.Machine.{Machine, ticksOf, runModeAt, gsumAt, gfmAt, dacNumberAt}
+use Rattle.layout.specs.Machine.{Machine, ticksOf, runModeAt}
 use Rattle.modes.specs.Modes.{replaces}
 use Rattle.order_agreement.specs.Agreement.{Settings, settingsOf, awaits}
 use Rattle.order_alike.specs.Alike.{countsIn, alike}

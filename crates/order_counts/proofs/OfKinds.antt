@@ -1,8 +1,8 @@
 -- The kinds of generators have places of their own: a generator stands at the place of a count just where it is of that count's kind.
 -- Assumes nothing.
-use mathlib.Core.Path.{_≡_, refl, sym, ap, _∙_}
+use mathlib.Core.Path.{_≡_, refl, sym, _∙_}
 use mathlib.Core.Logic.{_≢_}
-use mathlib.Core.Bool.{Bool, true, false, cond, _&&_}
+use mathlib.Core.Bool.{Bool, true, false, _&&_}
 use Prim.Native.Nat.{ℕ, _+_, _*_, _<_, _≤_}
 use native.Mathlib.Omega.{arith}
 use native.Mathlib.Nat.{mod-lt}
@@ -11,7 +11,7 @@ use lib.Dec.{eqb, lit<}
 use Rattle.lists.specs.Lists.{isOneOf}
 use Rattle.lists.proofs.Below.{both-ways, and-first, and-second, and-both}
 use Rattle.layout.specs.Machine.{Machine, runModeAt, gsumAt, gfmAt, dacNumberAt}
-use Rattle.modes.specs.Modes.{readData, writeData, writeDAC, adds, replaces}
+use Rattle.modes.specs.Modes.{writeData, writeDAC, adds, replaces}
 use Rattle.modes.proofs.Exclusions.{on-not-off}
 use Rattle.modes.proofs.RunModes.{replaces-alone}
 use Rattle.order_counts.specs.KeptCounts.{readersAt, addersAt, writersAt, feedersAt, othersAt, placeIn}

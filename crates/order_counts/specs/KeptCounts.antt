@@ -6,7 +6,7 @@ use mathlib.Core.List.{List}
 use lib.Dec.{eqb}
 use lib.ListN.{getD, set}
 use Rattle.lists.specs.Lists.{zeros}
-use Rattle.layout.specs.Layout.{generators, quadrantWords, dacs}
+use Rattle.layout.specs.Layout.{generators, quadrantWords}
 use Rattle.layout.specs.Machine.{Machine, Reaches, ticksOf, runModeAt, gsumAt, gfmAt, dacNumberAt}
 use Rattle.modes.specs.Modes.{writeData, writeDAC, adds, replaces}
 use Rattle.order_agreement.specs.Agreement.{settingsOf, awaits}

@@ -1,6 +1,6 @@
 -- The stages of a pass, one after the other, are the pass.
 -- Assumes nothing.
-use mathlib.Core.Path.{_≡_, refl, _∙_}
+use mathlib.Core.Path.{_≡_, _∙_}
 use Prim.Native.Nat.{ℕ, _/_}
 use lib.ListN.{set}
 use Rattle.layout.specs.Machine.{Machine, Sums, ticksOf}

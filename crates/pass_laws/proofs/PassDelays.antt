@@ -1,6 +1,6 @@
 -- What a pass keeps for the next one's questions 10, 11 and 12: delay memory its length and width, the delay units their settings, and Y at most Z.
 -- Assumes nothing.
-use mathlib.Core.Path.{_≡_, refl, sym, _∙_, ap}
+use mathlib.Core.Path.{_≡_, refl, sym, _∙_}
 use mathlib.Core.Logic.{_≢_}
 use mathlib.Core.Bool.{Bool, true, false, cond}
 use mathlib.Core.List.{[], _∷_}
@@ -22,10 +22,8 @@ use Rattle.delay_questions.specs.Questions.{memoryGood, goodLine, linesGood, na
 use Rattle.delay_questions.proofs.Kept.{SameModifiers, fits-kept, named-once-same, good-line-same, lines-good-kept}
 use Rattle.delay_questions.proofs.Memory.{good-length, good-words, good-from}
 use Rattle.pass_model.specs.Generators.{of1978, begun}
-use Rattle.pass_model.specs.Pass.{Call, Outcome, ran, passRefusal, passOf}
-use Rattle.pass_model.proofs.Asked.{passes}
+use Rattle.pass_model.specs.Pass.{Call, Outcome, ran, passOf}
 use Rattle.pass_model.proofs.Delays.{yOf, zOf, y-is, z-is}
-use Rattle.pass_laws.specs.Settings.{SettingsKept}
 use Rattle.pass_laws.proofs.Frames.{steps-length, steps-beyond, steps-quadrants}
 use Rattle.pass_laws.proofs.Turns1978.{sixteen}
 use Rattle.pass_laws.proofs.Passing.{Admitted, generatorsDone, heldThen, begun-words, begun-sums, admitted, pass-by, refused-machine, refused-memory, ran-machine, ran-memory}

@@ -7,14 +7,12 @@ use native.Mathlib.Omega.{arith}
 use lib.Dec.{eqb}
 use lib.ListN.{set}
 use lib.Seq.{getD-set-other}
-use Rattle.lists.specs.Lists.{countBelow}
 use Rattle.lists.proofs.Counts.{count-below-same}
 use Rattle.layout.specs.Layout.{generatorAt, tAt, GMODE}
 use Rattle.layout.specs.Machine.{Machine, ticksOf, runModeAt}
 use Rattle.modes.specs.Modes.{wait, runningC}
 use Rattle.order.specs.Order.{inMode}
 use Rattle.pass_model.specs.Pass.{Call, passOf}
-use Rattle.pass_laws.specs.Settings.{SettingsKept}
 use Rattle.pass_laws.proofs.PassSettings.{pass-settings}
 
 -- Machines with the same T whose generators below it are alike in a run mode.

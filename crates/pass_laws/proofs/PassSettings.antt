@@ -10,11 +10,11 @@ use borrow.Author.Tests.{eqb-true, eqb-false, ne-eqb, ltb-true}
 use lib.Dec.{eqb, ltb, lit<, lit≤}
 use lib.ListN.{length, getD}
 use Rattle.lists.proofs.Below.{and-first}
-use Rattle.layout.specs.Layout.{generatorAt, modifierAt, dxAt, tAt, nAt, updateTicksAt, counterAt, lingeringAt, lingerPassAt, overrunAt, updateTicksAt, delayAt, delayX, delayY, delayZ, delayP, GN, GM, GP, GL, GSUM, GFM, GMODE, MIN, MRM, MSUM, MMODE}
+use Rattle.layout.specs.Layout.{generatorAt, modifierAt, dxAt, tAt, nAt, updateTicksAt, counterAt, lingeringAt, lingerPassAt, overrunAt, updateTicksAt, delayAt, delayX, delayY, delayZ, delayP, GMODE}
 use Rattle.modes.specs.Modes.{wait, runningC, withRunMode}
 use Rattle.machine.specs.Questions.{sound}
 use Rattle.machine.proofs.SoundMachine.{reaches}
-use Rattle.layout.specs.Machine.{Machine, Order, Items, ticksOf, runModeAt}
+use Rattle.layout.specs.Machine.{Machine, Order, Items, ticksOf}
 use Rattle.sums.specs.Sums.{sumsOf}
 use Rattle.sums.proofs.Blocks.{Outside, outside-before, outside-after}
 use Rattle.sums.proofs.Memory.{sums-quadrants}

@@ -12,7 +12,6 @@ use lib.ListN.{length, getD, set}
 use lib.Pow.{pow-pos}
 use lib.Seq.{getD-drop}
 use Rattle.lists.specs.Lists.{isOneOf}
-use Rattle.lists.proofs.Below.{and-second}
 use Rattle.lists.proofs.Choices.{of-cond}
 use Rattle.modes.specs.Modes.{builtRun, builtOscillator, wait, runningC, withRunMode}
 use Rattle.layout.specs.Layout.{generatorAt, modifierAt, quadrantAt, dacAt, tAt, nAt, counterAt, updateTicksAt, delayAt, delayY, delayFirst, delaySecond, delayThird, GJ, GK, GQ, GMODE, M1, L0, L1}

@@ -10,7 +10,6 @@ use borrow.Author.Tests.{eqb-true, eqb-false}
 use lib.Dec.{eqb}
 use lib.ListN.{length, getD, set, length-set}
 use lib.Seq.{getD-set-same, getD-set-other}
-use Rattle.lists.specs.Lists.{zeros}
 use Rattle.lists.proofs.Zeros.{zeros-length, zeros-at}
 use Rattle.layout.specs.Layout.{quadrantWords}
 use Rattle.layout.specs.Machine.{Order, Items}

@@ -2,13 +2,13 @@
 -- Assumes nothing.
 use mathlib.Core.Path.{_≡_, refl, _∙_}
 use mathlib.Core.Logic.{_≢_}
-use mathlib.Core.Bool.{Bool, true, false, cond, _&&_}
+use mathlib.Core.Bool.{Bool, true, false, _&&_}
 use Prim.Native.Nat.{ℕ, _+_, _%_, _^_, _≤_, _<_}
 use native.Mathlib.Omega.{arith}
-use native.Mathlib.Nat.{mod-lt, mod-eq-of-lt}
+use native.Mathlib.Nat.{mod-lt}
 use borrow.Author.Tests.{eqb-true, eqb-false}
 use lib.Dec.{eqb, lit<}
-use lib.ListN.{length, getD, set, drop, length-set}
+use lib.ListN.{length, getD, set, length-set}
 use lib.Pow.{pow-pos}
 use lib.Seq.{getD-drop, getD-set-same, getD-set-other}
 use Rattle.lists.proofs.Choices.{of-cond}
@@ -19,7 +19,7 @@ use Rattle.modifier_delay.specs.Invoke.{invoking, unitOf}
 use Rattle.delay.specs.declared.Delay.{Delay}
 use Rattle.delay.specs.Delay.{loaded, stored, runs, turnOf}
 use Rattle.delay.proofs.Low.{WordsLow, memory-low}
-use Rattle.delay.proofs.Turn.{memory-length, z-kept, y-within}
+use Rattle.delay.proofs.Turn.{memory-length, y-within}
 use Rattle.delay_questions.specs.Questions.{delayOf}
 use Rattle.pass_model.specs.Modifiers.{Held, delayed}
 

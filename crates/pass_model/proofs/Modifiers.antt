@@ -16,7 +16,7 @@ use Rattle.modifier.proofs.Turns.{Low}
 use Rattle.modifier_turn.proofs.Turns.{turn-low}
 use Rattle.delay.proofs.Low.{WordsLow}
 use Rattle.sums.proofs.Blocks.{Outside, getD-outside}
-use Rattle.pass_model.specs.Modifiers.{withWrites, earlyView, lateView, turnSeen, modifierOf, Held, delayed, Stage, modify, modified, modifiedBy}
+use Rattle.pass_model.specs.Modifiers.{withWrites, earlyView, lateView, turnSeen, modifierOf, Held, delayed, modify, modified, modifiedBy}
 use Rattle.pass_model.proofs.Registers.{registers, four, put-is}
 use Rattle.pass_model.proofs.Views.{writes-snoc, writes-length, write-low, seen-low, beside-low}
 use Rattle.pass_model.proofs.Delays.{OffUnits, off-below, off-setting, yOf, zOf, delayed-length, delayed-kept, delayed-memory-length, delayed-memory-low, delayed-within}

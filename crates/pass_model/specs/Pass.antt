@@ -14,7 +14,7 @@ use Rattle.machine.specs.Questions.{question1, question2}
 use Rattle.order.specs.Order.{question5, question6, question7, question8}
 use Rattle.delay_questions.specs.Questions.{question10, question11, question12}
 use Rattle.sums.specs.Sums.{modifierThis, sumsOf, closed}
-use Rattle.pass_model.specs.Generators.{Generators, of1978, begun, Taken, takenBy}
+use Rattle.pass_model.specs.Generators.{of1978, begun, Taken, takenBy}
 use Rattle.pass_model.specs.Clipped.{Marks, noMarks, markedBy}
 use Rattle.pass_model.specs.Modifiers.{Held, modifiedBy}
 

@@ -1,7 +1,7 @@
 // The modifiers of a pass, taken by number.
 ghost use mathlib.Core.Path.{_≡_};
 ghost use mathlib.Core.List.{[]};
-ghost use Prim.Native.Nat.{_≤_, _<_, _^_};
+ghost use Prim.Native.Nat.{_≤_, _<_};
 ghost use lib.ListN.{getD, set};
 ghost use Rattle.layout.specs.Layout.{modifierAt};
 ghost use Rattle.layout.specs.Machine.{Reaches};

@@ -1,7 +1,7 @@
 // The benchmark's job over the proved leaves: turns of 256 generators, or products, many times over; prints a checksum.
 // The same job stands in plain C in bench/leaves.c.
 ghost use mathlib.Core.Path.{_≡_};
-ghost use Prim.Native.Nat.{_≤_, _<_, _^_};
+ghost use Prim.Native.Nat.{_<_, _^_};
 ghost use mathlib.Core.Bool.{true};
 ghost use lib.ListN.{length};
 ghost use Rattle.sine.specs.Sine.{quarter};

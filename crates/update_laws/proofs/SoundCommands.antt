@@ -12,7 +12,7 @@ use Rattle.lists.proofs.Below.{and-both}
 use Rattle.lists.proofs.Choices.{of-cond, of-test}
 use Rattle.layout.specs.Layout.{GMODE, tAt, nAt, counterAt, lingeringAt, lingerPassAt, overrunAt}
 use Rattle.layout.specs.Machine.{Reaches, gmodeAt, runModeAt, withUpdateTicks}
-use Rattle.layout.specs.Widths.{gmodeBits, wordBits, counterBits, lingerBits}
+use Rattle.layout.specs.Widths.{wordBits, counterBits, lingerBits}
 use Rattle.modes.specs.Modes.{builtRun, builtOscillator, pause, wait, runningA, withRunMode}
 use Rattle.machine.specs.Questions.{between, goodGmode, regions, testAt, sound}
 use Rattle.machine.proofs.Words.{gmode-from}

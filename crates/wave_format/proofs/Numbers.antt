@@ -1,14 +1,14 @@
 -- The bytes of a number, of a frame and of the header: how many there are, and as the code puts them one after another.
 -- Assumes nothing.
 use mathlib.Core.Path.{_≡_, refl, sym, ap, _∙_}
-use mathlib.Core.List.{List, [], _∷_, _++_}
-use Prim.Native.Nat.{ℕ, zero, suc, _+_, _*_, _-_, _/_, _%_, _^_, _≤_}
+use mathlib.Core.List.{List, _++_}
+use Prim.Native.Nat.{ℕ, zero, suc, _+_, _*_, _-_, _/_, _%_, _^_}
 use native.Mathlib.Omega.{arith}
 use native.Mathlib.Nat.{zero-add}
 use lib.ListN.{length, set, length-append}
 use lib.Seq.{sets}
 use Rattle.bench_bytes.specs.Bytes.{ascii}
-use Rattle.bench_bytes.proofs.Puts.{Put, done, then}
+use Rattle.bench_bytes.proofs.Puts.{Put, then}
 use Rattle.wave_format.specs.WaveFormat.{littleEndian, sample, frame, frameBytes, riff, formatKind, formatRates, dataHead, header, headerBytes}
 
 pub number-length : (k x : ℕ) → length (littleEndian k x) ≡ k

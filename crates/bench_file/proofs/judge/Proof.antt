@@ -47,12 +47,6 @@ find-requires c κs = search needs
 add-read-line : tie.Need-add-read-line Inv-loop μ-loop
 add-read-line c = omega (arith, short (c .before .before), line-end c)
 
-sub-read-line : tie.Need-sub-read-line Inv-loop μ-loop
-sub-read-line c = omega arith
-
-part-read-line-start : tie.Need-part-read-line-start Inv-loop μ-loop
-part-read-line-start c = omega arith
-
 part-read-line-end : tie.Need-part-read-line-end Inv-loop μ-loop
 part-read-line-end c = omega (arith, line-end c)
 
@@ -95,20 +89,6 @@ returns c = judging.ends _ _ _ (c .before .loop .inv) (c .loop-test .left)
 pub judge-spec : {M : Type 1} → statement M
 judge-spec =
     tie.close
-    (tie.spec
-    Inv-loop
-    μ-loop
-    loop-holds
-    after-requires
-    find-requires
-    add-read-line
-    sub-read-line
-    part-read-line-start
-    part-read-line-end
-    read-line-requires
-    judge-line-requires
-    add-at
-    add-at-2
-    loop-less
-    loop-again
+    (tie.spec Inv-loop μ-loop loop-holds after-requires find-requires add-read-line (λ c. omega arith)
+    (λ c. omega arith) part-read-line-end read-line-requires judge-line-requires add-at add-at-2 loop-less loop-again
     returns)

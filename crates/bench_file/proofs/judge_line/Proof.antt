@@ -19,21 +19,6 @@ returns c =
     let a = after .before .args in
     judged-unfit (a .file) (a .line) (after .phase-after .ensures) (c .before .fit .ensures) (c .if1 .taken)
 
-enum-known-line : tie.Need-enum-known-line
-enum-known-line c = search needs
-
-enum-told : tie.Need-enum-told
-enum-told c = search needs
-
-enum-told-2 : tie.Need-enum-told-2
-enum-told-2 c = search needs
-
-add-t12 : tie.Need-add-t12
-add-t12 c = search needs
-
-enum-told-3 : tie.Need-enum-told-3
-enum-told-3 c = search needs
-
 returns-2 : tie.Need-returns-2
 returns-2 c =
     let fits = c .before .before .before in
@@ -69,16 +54,5 @@ returns-5 c =
 pub judge-line-spec : {M : Type 1} → statement M
 judge-line-spec =
     tie.close
-    (tie.spec
-    phase-after-requires
-    fit-requires
-    returns
-    enum-known-line
-    enum-told
-    enum-told-2
-    add-t12
-    enum-told-3
-    returns-2
-    returns-3
-    returns-4
-    returns-5)
+    (tie.spec phase-after-requires fit-requires returns (λ c. search needs) (λ c. search needs) (λ c. search needs)
+    (λ c. search needs) (λ c. search needs) returns-2 returns-3 returns-4 returns-5)

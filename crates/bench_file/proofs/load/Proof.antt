@@ -48,12 +48,6 @@ find-requires c κs = search needs
 add-read-line : tie.Need-add-read-line Inv-loop μ-loop
 add-read-line c = omega (arith, short (c .before .before), line-end c)
 
-sub-read-line : tie.Need-sub-read-line Inv-loop μ-loop
-sub-read-line c = omega arith
-
-part-read-line-start : tie.Need-part-read-line-start Inv-loop μ-loop
-part-read-line-start c = omega arith
-
 part-read-line-end : tie.Need-part-read-line-end Inv-loop μ-loop
 part-read-line-end c = omega (arith, line-end c)
 
@@ -102,34 +96,12 @@ loop-again c =
           (rw (read .read-line .ensures, add-sub-cancel-left) at (loaded .load-line .ensures)),
     )
 
-same-length : tie.Need-same-length Inv-loop μ-loop
-same-length c = c .before .loop .inv .0
-
-same-length-2 : tie.Need-same-length-2 Inv-loop μ-loop
-same-length-2 c = c .before .loop .inv .1
-
 returns : tie.Need-returns Inv-loop μ-loop
 returns c = loading.ends _ (c .before .loop .inv .2) (c .loop-test .left)
 
 pub load-spec : {M : Type 1} → statement M
 load-spec =
     tie.close
-    (tie.spec
-    Inv-loop
-    μ-loop
-    loop-holds
-    after-requires
-    find-requires
-    add-read-line
-    sub-read-line
-    part-read-line-start
-    part-read-line-end
-    read-line-requires
-    load-line-requires
-    add-at
-    add-at-2
-    loop-less
-    loop-again
-    same-length
-    same-length-2
-    returns)
+    (tie.spec Inv-loop μ-loop loop-holds after-requires find-requires add-read-line (λ c. omega arith)
+    (λ c. omega arith) part-read-line-end read-line-requires load-line-requires add-at add-at-2 loop-less loop-again
+    (λ c. c .before .loop .inv .0) (λ c. c .before .loop .inv .1) returns)

@@ -5,41 +5,20 @@ use borrow.Author.Needs.{needs}
 use Rattle.bench_file.proofs.load_line.Statement.{statement}
 use Rattle.bench_file.proofs.load_line.Tie as tie
 
-enum-told : tie.Need-enum-told
-enum-told c = search needs
-
-enum-known-line : tie.Need-enum-known-line
-enum-known-line c = search needs
-
 put-requires : tie.Need-put-requires
 put-requires c κs = search needs
-
-enum-known-line-2 : tie.Need-enum-known-line-2
-enum-known-line-2 c = search needs
 
 put-requires-2 : tie.Need-put-requires-2
 put-requires-2 c κs = search needs
 
-add-result : tie.Need-add-result
-add-result c = search needs
-
-enum-told-2 : tie.Need-enum-told-2
-enum-told-2 c = search needs
-
 returns : tie.Need-returns
 returns c = let a = c .before .before .before .before .args in loading.load-passes _ (a .count) (a .m .now) (a .room .now) (c .enum-told .given .1)
-
-same-length : tie.Need-same-length
-same-length c = search needs
 
 returns-2 : tie.Need-returns-2
 returns-2 c =
     let place = c .before .before .before .before .before in
     let a = place .before .before .before .before .args in
     loading.load-word _ (a .count) (a .m .now) (a .room .now) (place .line .given .1) (c .before .before .put .ensures)
-
-same-length-2 : tie.Need-same-length-2
-same-length-2 c = search needs
 
 returns-3 : tie.Need-returns-3
 returns-3 c =
@@ -53,17 +32,6 @@ returns-4 c = let a = c .before .before .before .before .args in loading.load-ot
 pub load-line-spec : {M : Type 1} → statement M
 load-line-spec =
     tie.close
-    (tie.spec
-    enum-told
-    enum-known-line
-    put-requires
-    enum-known-line-2
-    put-requires-2
-    add-result
-    enum-told-2
-    returns
-    same-length
-    returns-2
-    same-length-2
-    returns-3
+    (tie.spec (λ c. search needs) (λ c. search needs) put-requires (λ c. search needs) put-requires-2
+    (λ c. search needs) (λ c. search needs) returns (λ c. search needs) returns-2 (λ c. search needs) returns-3
     returns-4)

@@ -25,28 +25,8 @@ slice-aggregate-gather-by c =
 gather-by-requires : tie.Need-gather-by-requires
 gather-by-requires c κs = search needs
 
-same-length : tie.Need-same-length
-same-length c = search needs
-
-same-length-2 : tie.Need-same-length-2
-same-length-2 c = search needs
-
-same-length-3 : tie.Need-same-length-3
-same-length-3 c = search needs
-
-returns : tie.Need-returns
-returns c = search needs
-
 pub gather-spec : {M : Type 1} → statement M
 gather-spec =
     tie.close
-    (tie.spec
-    by-number-requires
-    table-requires
-    table-requires-2
-    slice-aggregate-gather-by
-    gather-by-requires
-    same-length
-    same-length-2
-    same-length-3
-    returns)
+    (tie.spec by-number-requires table-requires table-requires-2 slice-aggregate-gather-by gather-by-requires
+    (λ c. search needs) (λ c. search needs) (λ c. search needs) (λ c. search needs))

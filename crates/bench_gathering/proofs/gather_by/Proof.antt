@@ -26,18 +26,6 @@ refusal-requires c κs = search needs
 loop-holds : tie.Need-loop-holds Inv-loop μ-loop
 loop-holds c = (refl, (refl, (c .refusal .ensures, gathering-begins _ _ _ _)))
 
-add-if2 : tie.Need-add-if2 Inv-loop μ-loop
-add-if2 c = omega (arith, c .before .before .before .loop .inv .1 .1 .1 .inside)
-
-same-length : tie.Need-same-length Inv-loop μ-loop
-same-length c = c .before .before .before .before .loop .inv .0
-
-same-length-2 : tie.Need-same-length-2 Inv-loop μ-loop
-same-length-2 c = c .before .before .before .before .loop .inv .1 .0
-
-same-length-3 : tie.Need-same-length-3 Inv-loop μ-loop
-same-length-3 c = c .before .before .before .before .loop .inv .1 .1 .1 .room
-
 returns : tie.Need-returns Inv-loop μ-loop
 returns c = gathering-full (c .before .before .before .before .loop .inv .1 .1 .1) (c .if2 .taken)
 
@@ -91,36 +79,15 @@ loop-again c =
       ),
     )
 
-same-length-4 : tie.Need-same-length-4 Inv-loop μ-loop
-same-length-4 c = c .before .before .loop .inv .0
-
-same-length-5 : tie.Need-same-length-5 Inv-loop μ-loop
-same-length-5 c = c .before .before .loop .inv .1 .0
-
-same-length-6 : tie.Need-same-length-6 Inv-loop μ-loop
-same-length-6 c = c .before .before .loop .inv .1 .1 .1 .room
-
 returns-2 : tie.Need-returns-2 Inv-loop μ-loop
 returns-2 c = gathering-ends (c .before .before .loop .inv .1 .1 .1) (c .if1 .left)
 
 pub gather-by-spec : {M : Type 1} → statement M
 gather-by-spec =
     tie.close
-    (tie.spec
-    Inv-loop
-    μ-loop
-    refusal-requires
-    loop-holds
-    add-if2
-    same-length
-    same-length-2
-    same-length-3
-    returns
-    step-into-requires
-    next-number-requires
-    loop-less
-    loop-again
-    same-length-4
-    same-length-5
-    same-length-6
-    returns-2)
+    (tie.spec Inv-loop μ-loop refusal-requires loop-holds
+    (λ c. omega (arith, c .before .before .before .loop .inv .1 .1 .1 .inside))
+    (λ c. c .before .before .before .before .loop .inv .0) (λ c. c .before .before .before .before .loop .inv .1 .0)
+    (λ c. c .before .before .before .before .loop .inv .1 .1 .1 .room) returns step-into-requires next-number-requires
+    loop-less loop-again (λ c. c .before .before .loop .inv .0) (λ c. c .before .before .loop .inv .1 .0)
+    (λ c. c .before .before .loop .inv .1 .1 .1 .room) returns-2)

@@ -10,12 +10,6 @@ use Rattle.bench_gathering.proofs.step_into.Tie as tie
 step-requires : tie.Need-step-requires
 step-requires c κs = search needs
 
-sub-put : tie.Need-sub-put
-sub-put c = search needs
-
-part-put-start : tie.Need-part-put-start
-part-put-start c = search needs
-
 part-put-end : tie.Need-part-put-end
 part-put-end c =
     let done = c .before .before .before .before .before .before in
@@ -32,15 +26,6 @@ put-requires c κs =
     let a = start .args in
     part-fits (a .output) (ringingAt (a .at) (a .m .now) (a .memory .now) (a .commands .now)) _ refl (done .step .ensures .0) (done .step .ensures .1 .0) (a .at .length) _ (start .pre .0)
 
-same-length : tie.Need-same-length
-same-length c = search needs
-
-same-length-2 : tie.Need-same-length-2
-same-length-2 c = search needs
-
-same-length-3 : tie.Need-same-length-3
-same-length-3 c = search needs
-
 returns : tie.Need-returns
 returns c =
     let puts = c .before .before in
@@ -53,13 +38,5 @@ returns c =
 pub step-into-spec : {M : Type 1} → statement M
 step-into-spec =
     tie.close
-    (tie.spec
-    step-requires
-    sub-put
-    part-put-start
-    part-put-end
-    put-requires
-    same-length
-    same-length-2
-    same-length-3
-    returns)
+    (tie.spec step-requires (λ c. search needs) (λ c. search needs) part-put-end put-requires (λ c. search needs)
+    (λ c. search needs) (λ c. search needs) returns)

@@ -11,14 +11,9 @@ returns c = text-lines.ended-long (c .before .args .text .now) (c .if1 .taken)
 returns-2 : tie.Need-returns-2
 returns-2 c = text-lines.ended-empty (c .before .before .args .text .now) (c .before .if1 .left) (c .if2 .taken)
 
-sub-result : tie.Need-sub-result
-sub-result c = search needs
-
-shared-slice-read-result : tie.Need-shared-slice-read-result
-shared-slice-read-result c = search needs
-
 returns-3 : tie.Need-returns-3
 returns-3 c = text-lines.ended-by (c .before .before .before .args .text .now) (c .before .before .if1 .left) (c .before .if2 .left)
 
 pub ended-spec : {M : Type 1} → statement M
-ended-spec = tie.close (tie.spec returns returns-2 sub-result shared-slice-read-result returns-3)
+ended-spec = tie.close
+    (tie.spec returns returns-2 (λ c. search needs) (λ c. search needs) returns-3)

@@ -20,32 +20,17 @@ slice-aggregate-decimal c = sym (length-take-le _ _ (omega arith))
 decimal-requires : tie.Need-decimal-requires
 decimal-requires c κs = search needs
 
-enum-known-place : tie.Need-enum-known-place
-enum-known-place c = search needs
-
-enum-told : tie.Need-enum-told
-enum-told c = search needs
-
 returns-2 : tie.Need-returns-2
 returns-2 c =
     let place = c .before .before in
     let test = place .before .before in
     kinds.word-no-place (test .before .before .before .args .text .now) (test .before .find .ensures) (test .if1 .left) (place .decimal .ensures) (c .enum-told .given .1)
 
-add-after : tie.Need-add-after
-add-after c = search needs
-
 after-requires : tie.Need-after-requires
 after-requires c κs = search needs
 
 decimal-requires-2 : tie.Need-decimal-requires-2
 decimal-requires-2 c κs = search needs
-
-enum-known-value : tie.Need-enum-known-value
-enum-known-value c = search needs
-
-enum-told-2 : tie.Need-enum-told-2
-enum-told-2 c = search needs
 
 returns-3 : tie.Need-returns-3
 returns-3 c =
@@ -61,9 +46,6 @@ returns-3 c =
     (d .before .after .ensures)
     (d .decimal2 .ensures)
     (c .enum-told2 .given .1)
-
-cast-at : tie.Need-cast-at
-cast-at c = search needs
 
 returns-4 : tie.Need-returns-4
 returns-4 c =
@@ -83,19 +65,6 @@ returns-4 c =
 pub word-spec : {M : Type 1} → statement M
 word-spec =
     tie.close
-    (tie.spec
-    find-requires
-    returns
-    slice-aggregate-decimal
-    decimal-requires
-    enum-known-place
-    enum-told
-    returns-2
-    add-after
-    after-requires
-    decimal-requires-2
-    enum-known-value
-    enum-told-2
-    returns-3
-    cast-at
-    returns-4)
+    (tie.spec find-requires returns slice-aggregate-decimal decimal-requires (λ c. search needs) (λ c. search needs)
+    returns-2 (λ c. search needs) after-requires decimal-requires-2 (λ c. search needs) (λ c. search needs) returns-3
+    (λ c. search needs) returns-4)

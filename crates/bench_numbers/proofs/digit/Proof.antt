@@ -5,17 +5,8 @@ use borrow.Author.Needs.{needs}
 use Rattle.bench_numbers.proofs.digit.Statement.{statement}
 use Rattle.bench_numbers.proofs.digit.Tie as tie
 
-cast-result : tie.Need-cast-result
-cast-result c = search needs
-
 returns : tie.Need-returns
 returns c = digits.digit-decimal (c .before .before .args .b) (c .before .if1 .taken) (c .if2 .taken)
-
-cast-result-2 : tie.Need-cast-result-2
-cast-result-2 c = search needs
-
-add-result : tie.Need-add-result
-add-result c = search needs
 
 returns-2 : tie.Need-returns-2
 returns-2 c = digits.digit-capital (c .before .before .before .before .args .b) (c .before .before .if2 .left) (c .before .if3 .taken) (c .if4 .taken)
@@ -32,4 +23,5 @@ returns-5 c = digits.digit-below (c .before .args .b) (c .if1 .left)
 pub digit-spec : {M : Type 1} → statement M
 digit-spec =
     tie.close
-    (tie.spec cast-result returns cast-result-2 add-result returns-2 returns-3 returns-4 returns-5)
+    (tie.spec (λ c. search needs) returns (λ c. search needs) (λ c. search needs) returns-2 returns-3 returns-4
+    returns-5)

@@ -8,11 +8,9 @@ use Rattle.bench_numbers.proofs.leading_zero.Tie as tie
 returns : tie.Need-returns
 returns c = digits.short-zero (c .before .args .text .now) (c .if1 .taken)
 
-shared-slice-read-result : tie.Need-shared-slice-read-result
-shared-slice-read-result c = search needs
-
 returns-2 : tie.Need-returns-2
 returns-2 c = digits.long-zero (c .before .before .args .text .now) (c .before .if1 .left)
 
 pub leading-zero-spec : {M : Type 1} → statement M
-leading-zero-spec = tie.close (tie.spec returns shared-slice-read-result returns-2)
+leading-zero-spec = tie.close
+    (tie.spec returns (λ c. search needs) returns-2)

@@ -18,12 +18,6 @@ Inv-loop text base limit v₀ i₀ v i =
 abbrev μ-loop : tie.MeasureT-loop
 μ-loop text base limit v₀ i₀ v i = length text - i
 
-loop-holds : tie.Need-loop-holds Inv-loop μ-loop
-loop-holds c = (omega arith, omega arith, refl, refl)
-
-shared-slice-read-digit : tie.Need-shared-slice-read-digit Inv-loop μ-loop
-shared-slice-read-digit c = omega arith
-
 digit-requires : tie.Need-digit-requires Inv-loop μ-loop
 digit-requires c κs = search needs
 
@@ -48,12 +42,6 @@ returns-2 c =
     let e = w .before .loop .inv .3 ∙ digits.written-on _ _ (w .loop-test .taken) (a .base) (w .before .loop .v) in
     sym (digits.number-large _ _ _ (rw (e, ← d .digit .ensures) (omega (arith, g, c .if2 .taken))))
 
-add-i : tie.Need-add-i Inv-loop μ-loop
-add-i c = omega arith
-
-loop-less : tie.Need-loop-less Inv-loop μ-loop
-loop-less c = omega arith
-
 loop-again : tie.Need-loop-again Inv-loop μ-loop
 loop-again c =
     let d = c .before .before in
@@ -66,9 +54,6 @@ loop-again c =
       rw (d .digit .ensures) (w .before .loop .inv .3 ∙ digits.written-on _ _ (w .loop-test .taken) _ _),
     )
 
-cast-t12 : tie.Need-cast-t12 Inv-loop μ-loop
-cast-t12 c = omega arith
-
 returns-3 : tie.Need-returns-3 Inv-loop μ-loop
 returns-3 c =
     let w = c .before .loop in
@@ -78,18 +63,5 @@ returns-3 c =
 pub value-spec : {M : Type 1} → statement M
 value-spec =
     tie.close
-    (tie.spec
-    Inv-loop
-    μ-loop
-    loop-holds
-    shared-slice-read-digit
-    digit-requires
-    returns
-    mul-v
-    add-v
-    returns-2
-    add-i
-    loop-less
-    loop-again
-    cast-t12
-    returns-3)
+    (tie.spec Inv-loop μ-loop (λ c. (omega arith, omega arith, refl, refl)) (λ c. omega arith) digit-requires returns
+    mul-v add-v returns-2 (λ c. omega arith) (λ c. omega arith) loop-again (λ c. omega arith) returns-3)

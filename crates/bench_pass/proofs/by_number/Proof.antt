@@ -15,21 +15,6 @@ abbrev μ-loop : tie.MeasureT-loop
 loop-holds : tie.Need-loop-holds Inv-loop μ-loop
 loop-holds c = none-filled (c .args .order .now) (c .pre)
 
-cast-order : tie.Need-cast-order Inv-loop μ-loop
-cast-order c = search needs
-
-mul-order : tie.Need-mul-order Inv-loop μ-loop
-mul-order c = search needs
-
-element-write-order : tie.Need-element-write-order Inv-loop μ-loop
-element-write-order c = search needs
-
-add-i : tie.Need-add-i Inv-loop μ-loop
-add-i c = search needs
-
-loop-less : tie.Need-loop-less Inv-loop μ-loop
-loop-less c = search needs
-
 loop-again : tie.Need-loop-again Inv-loop μ-loop
 loop-again c = fills (c .before .loop .order) (c .before .loop .i) (c .before .loop .inv) (c .loop-test .taken)
 
@@ -39,14 +24,5 @@ returns c = all-filled (c .before .loop .order) (c .before .loop .i) (c .before 
 pub by-number-spec : {M : Type 1} → statement M
 by-number-spec =
     tie.close
-    (tie.spec
-    Inv-loop
-    μ-loop
-    loop-holds
-    cast-order
-    mul-order
-    element-write-order
-    add-i
-    loop-less
-    loop-again
-    returns)
+    (tie.spec Inv-loop μ-loop loop-holds (λ c. search needs) (λ c. search needs) (λ c. search needs) (λ c. search needs)
+    (λ c. search needs) loop-again returns)

@@ -8,35 +8,11 @@ use Rattle.bench_pass.proofs.run.Tie as tie
 ticks-requires : tie.Need-ticks-requires
 ticks-requires c κs = ready _ _ (c .before .before .before .before .pre .0) .reaches
 
-sub-run : tie.Need-sub-run
-sub-run c = search needs
-
-part-run-start : tie.Need-part-run-start
-part-run-start c = search needs
-
 part-run-end : tie.Need-part-run-end
 part-run-end c =
     let ticks = c .before in
     let start = ticks .before .before .before .before .before in
     entries-there (start .args .m .now) (start .args .memory .now) (start .pre .0) (start .pre .1 .0) (ticks .ticks .ensures)
-
-sub-run-2 : tie.Need-sub-run-2
-sub-run-2 c = search needs
-
-part-run-start-2 : tie.Need-part-run-start-2
-part-run-start-2 c = search needs
-
-part-run-end-2 : tie.Need-part-run-end-2
-part-run-end-2 c = search needs
-
-sub-run-3 : tie.Need-sub-run-3
-sub-run-3 c = search needs
-
-part-places-start : tie.Need-part-places-start
-part-places-start c = search needs
-
-part-places-end : tie.Need-part-places-end
-part-places-end c = search needs
 
 run-requires : tie.Need-run-requires
 run-requires c κs =
@@ -45,12 +21,6 @@ run-requires c κs =
     let m = start .args .m .now in
     let memory = start .args .memory .now in
     (ready m memory (start .pre .0), (numbers m memory (start .pre .0) (start .pre .1 .0) (ticks .ticks .ensures), (ticks-most m memory (start .pre .0), start .pre .1 .1)))
-
-same-length : tie.Need-same-length
-same-length c = search needs
-
-same-length-2 : tie.Need-same-length-2
-same-length-2 c = search needs
 
 returns : tie.Need-returns
 returns c =
@@ -62,18 +32,6 @@ returns c =
 pub run-spec : {M : Type 1} → statement M
 run-spec =
     tie.close
-    (tie.spec
-    ticks-requires
-    sub-run
-    part-run-start
-    part-run-end
-    sub-run-2
-    part-run-start-2
-    part-run-end-2
-    sub-run-3
-    part-places-start
-    part-places-end
-    run-requires
-    same-length
-    same-length-2
-    returns)
+    (tie.spec ticks-requires (λ c. search needs) (λ c. search needs) part-run-end (λ c. search needs)
+    (λ c. search needs) (λ c. search needs) (λ c. search needs) (λ c. search needs) (λ c. search needs) run-requires
+    (λ c. search needs) (λ c. search needs) returns)

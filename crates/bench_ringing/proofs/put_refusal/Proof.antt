@@ -6,14 +6,8 @@ use borrow.Author.Needs.{needs}
 use Rattle.bench_ringing.proofs.put_refusal.Statement.{statement}
 use Rattle.bench_ringing.proofs.put_refusal.Tie as tie
 
-enum-told : tie.Need-enum-told
-enum-told c = search needs
-
 refusal-line-requires : tie.Need-refusal-line-requires
 refusal-line-requires c κs = search needs
-
-enum-told-2 : tie.Need-enum-told-2
-enum-told-2 c = search needs
 
 returns : tie.Need-returns
 unfolding givenRefused
@@ -25,4 +19,5 @@ returns-2 c = rw (c .enum-told2 .given .1) (refl, refl)
 
 pub put-refusal-spec : {M : Type 1} → statement M
 put-refusal-spec =
-    tie.close (tie.spec enum-told refusal-line-requires enum-told-2 returns returns-2)
+    tie.close
+    (tie.spec (λ c. search needs) refusal-line-requires (λ c. search needs) returns returns-2)

@@ -8,23 +8,8 @@ use Rattle.bench_ringing.proofs.ring_update.Tie as tie
 start-of-requires : tie.Need-start-of-requires
 start-of-requires c κs = search needs
 
-mul-take-commands : tie.Need-mul-take-commands
-mul-take-commands c = search needs
-
-sub-take-commands : tie.Need-sub-take-commands
-sub-take-commands c = search needs
-
-part-take-commands-start : tie.Need-part-take-commands-start
-part-take-commands-start c = search needs
-
-part-take-commands-end : tie.Need-part-take-commands-end
-part-take-commands-end c = search needs
-
 take-commands-requires : tie.Need-take-commands-requires
 take-commands-requires c κs = search needs
-
-same-length : tie.Need-same-length
-same-length c = search needs
 
 returns : tie.Need-returns
 returns c =
@@ -36,12 +21,5 @@ returns c =
 pub ring-update-spec : {M : Type 1} → statement M
 ring-update-spec =
     tie.close
-    (tie.spec
-    start-of-requires
-    mul-take-commands
-    sub-take-commands
-    part-take-commands-start
-    part-take-commands-end
-    take-commands-requires
-    same-length
-    returns)
+    (tie.spec start-of-requires (λ c. search needs) (λ c. search needs) (λ c. search needs) (λ c. search needs)
+    take-commands-requires (λ c. search needs) returns)

@@ -9,8 +9,6 @@ use Rattle.bench_ringing.proofs.start_of.Tie as tie
 returns : tie.Need-returns
 returns c = (omega arith, start-end (c .before .args .commands .now) (c .before .args .from) (c .if1 .taken))
 
-returns-2 : tie.Need-returns-2
-returns-2 c = search needs
-
 pub start-of-spec : {M : Type 1} → statement M
-start-of-spec = tie.close (tie.spec returns returns-2)
+start-of-spec = tie.close
+    (tie.spec returns (λ c. search needs))

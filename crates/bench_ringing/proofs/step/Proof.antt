@@ -45,12 +45,6 @@ add-taken c =
 put-refusal-requires-2 : tie.Need-put-refusal-requires-2
 put-refusal-requires-2 c κs = search needs
 
-same-length : tie.Need-same-length
-same-length c = search needs
-
-same-length-2 : tie.Need-same-length-2
-same-length-2 c = search needs
-
 returns-2 : tie.Need-returns-2
 returns-2 c =
     let test = c .before .before in
@@ -73,15 +67,6 @@ put-machine-requires c κs =
     let a = start .args in
     lined _ (drop (a .at .taken) (a .commands .now)) (rw (ran .run .ensures .0) (last-passes (a .m .now) (a .memory .now) (sym (start .pre .1 .1 .0) ∙ passes .if1 .left))) (updated .ring-update .ensures .1)
 
-sub-passes : tie.Need-sub-passes
-sub-passes c = search needs
-
-same-length-3 : tie.Need-same-length-3
-same-length-3 c = search needs
-
-same-length-4 : tie.Need-same-length-4
-same-length-4 c = search needs
-
 returns-3 : tie.Need-returns-3
 returns-3 c =
     let line = c .before in
@@ -97,18 +82,6 @@ returns-3 c =
 pub step-spec : {M : Type 1} → statement M
 step-spec =
     tie.close
-    (tie.spec
-    put-refusal-requires
-    returns
-    run-requires
-    ring-update-requires
-    add-taken
-    put-refusal-requires-2
-    same-length
-    same-length-2
-    returns-2
-    put-machine-requires
-    sub-passes
-    same-length-3
-    same-length-4
-    returns-3)
+    (tie.spec put-refusal-requires returns run-requires ring-update-requires add-taken put-refusal-requires-2
+    (λ c. search needs) (λ c. search needs) returns-2 put-machine-requires (λ c. search needs) (λ c. search needs)
+    (λ c. search needs) returns-3)

@@ -8,21 +8,16 @@ use Rattle.bench_streams.proofs.read_some.Tie as tie
 read-requires : tie.Need-read-requires
 read-requires c κs = search needs
 
-same-length : tie.Need-same-length
-same-length c = search needs
-
 returns : tie.Need-returns
 returns c = failed-within
 
 count-requires : tie.Need-count-requires
 count-requires c κs = search needs
 
-same-length-2 : tie.Need-same-length-2
-same-length-2 c = search needs
-
 returns-2 : tie.Need-returns-2
 returns-2 c = bytes-within (c .count .ensures .0 .0)
 
 pub read-some-spec : {M : Type 1} → statement M
 read-some-spec =
-    tie.close (tie.spec read-requires same-length returns count-requires same-length-2 returns-2)
+    tie.close
+    (tie.spec read-requires (λ c. search needs) returns count-requires (λ c. search needs) returns-2)

@@ -9,28 +9,14 @@ use Rattle.bench_streams.proofs.refuse.Tie as tie
 refusal-line-requires : tie.Need-refusal-line-requires
 refusal-line-requires c κs = search needs
 
-sub-write-all : tie.Need-sub-write-all
-sub-write-all c = search needs
-
-part-write-all-start : tie.Need-part-write-all-start
-part-write-all-start c = search needs
-
 part-write-all-end : tie.Need-part-write-all-end
 part-write-all-end c = refusal-within _ (c .before .before .before .args .n) refl (c .before .refusal-line .ensures)
 
 write-all-requires : tie.Need-write-all-requires
 write-all-requires c κs = search needs
 
-returns : tie.Need-returns
-returns c = search needs
-
 pub refuse-spec : {M : Type 1} → statement M
 refuse-spec =
     tie.close
-    (tie.spec
-    refusal-line-requires
-    sub-write-all
-    part-write-all-start
-    part-write-all-end
-    write-all-requires
-    returns)
+    (tie.spec refusal-line-requires (λ c. search needs) (λ c. search needs) part-write-all-end write-all-requires
+    (λ c. search needs))

@@ -24,14 +24,8 @@ right-starts c = omega (arith, c .put2 .ensures .0, left-ends (c .before .before
 right-ends : (c : tie.After-put-signed2) → c .put-signed2 .result ≤ 50
 right-ends c = omega (arith, lines.signed-end _ _ (c .put-signed2 .ensures .0), right-starts (c .before .before))
 
-slice-aggregate-put-named : tie.Need-slice-aggregate-put-named
-slice-aggregate-put-named c = search needs
-
 put-named-requires : tie.Need-put-named-requires
 put-named-requires c κs = search needs
-
-slice-aggregate-put : tie.Need-slice-aggregate-put
-slice-aggregate-put c = search needs
 
 put-requires : tie.Need-put-requires
 put-requires c κs = omega (arith, counter-ends (c .before .before))
@@ -41,9 +35,6 @@ put-signed-requires c κs =
     let counter = c .before .before .before .before in
     omega (arith, left-starts (c .before), counter .before .before .before .pre)
 
-slice-aggregate-put-2 : tie.Need-slice-aggregate-put-2
-slice-aggregate-put-2 c = search needs
-
 put-requires-2 : tie.Need-put-requires-2
 put-requires-2 c κs = omega (arith, left-ends (c .before .before))
 
@@ -52,9 +43,6 @@ put-signed-requires-2 c κs =
     let left = c .before .before .before .before in
     let counter = left .before .before .before .before .before in
     omega (arith, right-starts (c .before), counter .before .before .before .pre)
-
-slice-aggregate-put-3 : tie.Need-slice-aggregate-put-3
-slice-aggregate-put-3 c = search needs
 
 put-requires-3 : tie.Need-put-requires-3
 put-requires-3 c κs = omega (arith, right-ends (c .before .before))
@@ -82,15 +70,5 @@ returns c =
 pub pass-line-spec : {M : Type 1} → statement M
 pass-line-spec =
     tie.close
-    (tie.spec
-    slice-aggregate-put-named
-    put-named-requires
-    slice-aggregate-put
-    put-requires
-    put-signed-requires
-    slice-aggregate-put-2
-    put-requires-2
-    put-signed-requires-2
-    slice-aggregate-put-3
-    put-requires-3
-    returns)
+    (tie.spec (λ c. search needs) put-named-requires (λ c. search needs) put-requires put-signed-requires
+    (λ c. search needs) put-requires-2 put-signed-requires-2 (λ c. search needs) put-requires-3 returns)

@@ -13,14 +13,8 @@ returns : tie.Need-returns
 returns c = let a = c .before .before .before .args in
     lines.put-positive (a .line .now) (a .at) (a .n) (c .before .before .if1 .taken) (c .put-digits .ensures)
 
-slice-aggregate-put : tie.Need-slice-aggregate-put
-slice-aggregate-put c = search needs
-
 put-requires : tie.Need-put-requires
 put-requires c κs = search needs
-
-sub-put-digits : tie.Need-sub-put-digits
-sub-put-digits c = search needs
 
 put-digits-requires-2 : tie.Need-put-digits-requires-2
 put-digits-requires-2 c κs = search needs
@@ -35,11 +29,5 @@ returns-2 c =
 pub put-signed-spec : {M : Type 1} → statement M
 put-signed-spec =
     tie.close
-    (tie.spec
-    put-digits-requires
-    returns
-    slice-aggregate-put
-    put-requires
-    sub-put-digits
-    put-digits-requires-2
+    (tie.spec put-digits-requires returns (λ c. search needs) put-requires (λ c. search needs) put-digits-requires-2
     returns-2)

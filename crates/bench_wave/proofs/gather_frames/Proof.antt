@@ -6,26 +6,8 @@ use borrow.Author.Needs.{needs}
 use Rattle.bench_wave.proofs.gather_frames.Statement.{statement}
 use Rattle.bench_wave.proofs.gather_frames.Tie as tie
 
-sub-gather : tie.Need-sub-gather
-sub-gather c = search needs
-
-part-gather-start : tie.Need-part-gather-start
-part-gather-start c = search needs
-
-part-gather-end : tie.Need-part-gather-end
-part-gather-end c = search needs
-
 gather-requires : tie.Need-gather-requires
 gather-requires c κs = search needs
-
-same-length : tie.Need-same-length
-same-length c = search needs
-
-same-length-2 : tie.Need-same-length-2
-same-length-2 c = search needs
-
-same-length-3 : tie.Need-same-length-3
-same-length-3 c = search needs
 
 returns : tie.Need-returns
 returns c =
@@ -38,12 +20,5 @@ returns c =
 pub gather-frames-spec : {M : Type 1} → statement M
 gather-frames-spec =
     tie.close
-    (tie.spec
-    sub-gather
-    part-gather-start
-    part-gather-end
-    gather-requires
-    same-length
-    same-length-2
-    same-length-3
-    returns)
+    (tie.spec (λ c. search needs) (λ c. search needs) (λ c. search needs) gather-requires (λ c. search needs)
+    (λ c. search needs) (λ c. search needs) returns)

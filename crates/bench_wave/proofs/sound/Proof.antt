@@ -2,13 +2,13 @@
 -- Assumes nothing.
 use mathlib.Core.Path.{_≡_, _∙_}
 use mathlib.Core.List.{[]}
-use Prim.Native.Nat.{_-_, _≤_}
+use Prim.Native.Nat.{_-_}
 use native.Mathlib.Omega.{arith}
 use lib.ListN.{length, getD}
 use Rattle.layout.specs.Layout.{nAt}
 use Rattle.machine.proofs.SoundMachine.{sound-controls}
 use Rattle.pass_model.proofs.Asked.{is-sound, is-whole}
-use Rattle.wave_format.specs.WaveFormat.{headerBytes, rateOf}
+use Rattle.wave_format.specs.WaveFormat.{headerBytes}
 use Rattle.bench_ringing.specs.Steps.{Ringing}
 use Rattle.bench_ringing.specs.declared.Output.the-variants.{Frames}
 use Rattle.bench_gathering.proofs.Gatherings.{gathered-length}
@@ -29,9 +29,6 @@ rate-requires c κs =
     let s = sound-controls (start .args .m .now) (is-sound (start .args .m .now) [] (start .pre .0)) in
     (omega (arith, s .nLow), s .nHigh)
 
-mul-put-header : tie.Need-mul-put-header
-mul-put-header c = search needs
-
 put-header-requires : tie.Need-put-header-requires
 put-header-requires c κs =
     let start = c .before .before .before .before .before .before in
@@ -41,12 +38,6 @@ put-header-requires c κs =
 
 gather-frames-requires : tie.Need-gather-frames-requires
 gather-frames-requires c κs = search needs
-
-same-length : tie.Need-same-length
-same-length c = search needs
-
-same-length-2 : tie.Need-same-length-2
-same-length-2 c = search needs
 
 returns : tie.Need-returns
 returns c =
@@ -72,12 +63,6 @@ add-t23 c =
     let r : Ringing = record { passes = a .passes; machine = a .m .now; memory = a .memory .now; commands = a .commands .now; number = 0 } in
     record { fits = omega (arith, called .gather-frames .ensures .0, same, gathered-length Frames (length (put .put-header .last .0) - headerBytes) r) }
 
-same-length-3 : tie.Need-same-length-3
-same-length-3 c = search needs
-
-same-length-4 : tie.Need-same-length-4
-same-length-4 c = search needs
-
 returns-2 : tie.Need-returns-2
 returns-2 c =
     let asked = c .before in
@@ -93,16 +78,5 @@ returns-2 c =
 pub sound-spec : {M : Type 1} → statement M
 sound-spec =
     tie.close
-    (tie.spec
-    slice-read-n
-    rate-requires
-    mul-put-header
-    put-header-requires
-    gather-frames-requires
-    same-length
-    same-length-2
-    returns
-    add-t23
-    same-length-3
-    same-length-4
-    returns-2)
+    (tie.spec slice-read-n rate-requires (λ c. search needs) put-header-requires gather-frames-requires
+    (λ c. search needs) (λ c. search needs) returns add-t23 (λ c. search needs) (λ c. search needs) returns-2)

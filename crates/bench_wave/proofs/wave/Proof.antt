@@ -40,20 +40,11 @@ slice-aggregate-sound c =
     let file = c .before .before .before .before .before .before in
     read-whole (file .before .before .before .before .args .text .now) (replicate machineLength 0) (replicate commandPlaces 0) (length-replicate {A = ℕ} machineLength 0) (file .read .ensures)
 
-sub-sound : tie.Need-sub-sound
-sub-sound c = search needs
-
-part-sound-start : tie.Need-part-sound-start
-part-sound-start c = search needs
-
 part-sound-end : tie.Need-part-sound-end
 part-sound-end c =
     let lent = c .before in
     let file = lent .before .before .before .before .before .before in
     read-within (file .before .before .before .before .args .text .now) (replicate machineLength 0) (replicate commandPlaces 0) (length-replicate {A = ℕ} commandPlaces 0) (file .read .ensures)
-
-slice-aggregate-sound-2 : tie.Need-slice-aggregate-sound-2
-slice-aggregate-sound-2 c = search needs
 
 sound-requires : tie.Need-sound-requires
 sound-requires c κs =
@@ -74,16 +65,5 @@ returns-3 c =
 pub wave-spec : {M : Type 1} → statement M
 wave-spec =
     tie.close
-    (tie.spec
-    read-requires
-    returns
-    slice-aggregate-refusal
-    refusal-requires
-    returns-2
-    slice-aggregate-sound
-    sub-sound
-    part-sound-start
-    part-sound-end
-    slice-aggregate-sound-2
-    sound-requires
-    returns-3)
+    (tie.spec read-requires returns slice-aggregate-refusal refusal-requires returns-2 slice-aggregate-sound
+    (λ c. search needs) (λ c. search needs) part-sound-end (λ c. search needs) sound-requires returns-3)

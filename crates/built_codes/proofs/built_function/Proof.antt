@@ -7,12 +7,10 @@ use Rattle.built_codes.specs.BuiltCodes.{builtFunctions, builtFunction}
 use Rattle.built_codes.proofs.built_function.Statement.{statement}
 use Rattle.built_codes.proofs.built_function.Tie as tie
 
-shr-result : tie.Need-shr-result
-shr-result c = search needs
-
 returns : tie.Need-returns
 unfolding builtFunction builtFunctions isOneOf tells
 returns c = bit-tells _ builtFunctions 32 tt _ (c .pre)
 
 pub built-function-spec : {M : Type 1} → statement M
-built-function-spec = tie.close (tie.spec shr-result returns)
+built-function-spec = tie.close
+    (tie.spec (λ c. search needs) returns)

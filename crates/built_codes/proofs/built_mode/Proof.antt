@@ -8,12 +8,10 @@ use Rattle.built_codes.specs.BuiltCodes.{inactive, line, table, roundedT
 use Rattle.built_codes.proofs.built_mode.Statement.{statement}
 use Rattle.built_codes.proofs.built_mode.Tie as tie
 
-shr-result : tie.Need-shr-result
-shr-result c = search needs
-
 returns : tie.Need-returns
 unfolding builtMode tells isOneOf
 returns c = bit-tells _ (inactive ∷ line ∷ table ∷ roundedTable ∷ []) 16 tt (c .args .p) (c .pre)
 
 pub built-mode-spec : {M : Type 1} → statement M
-built-mode-spec = tie.close (tie.spec shr-result returns)
+built-mode-spec = tie.close
+    (tie.spec (λ c. search needs) returns)

@@ -11,9 +11,6 @@ field-requires c κs = search needs
 miscellany-requires : tie.Need-miscellany-requires
 miscellany-requires c κs = search needs
 
-same-length : tie.Need-same-length
-same-length c = search needs
-
 returns : tie.Need-returns
 returns c =
     let done = c .before .before in
@@ -24,9 +21,6 @@ returns c =
 
 load-requires : tie.Need-load-requires
 load-requires c κs = search needs
-
-same-length-2 : tie.Need-same-length-2
-same-length-2 c = search needs
 
 returns-2 : tie.Need-returns-2
 returns-2 c =
@@ -39,9 +33,6 @@ returns-2 c =
 timer-requires : tie.Need-timer-requires
 timer-requires c κs = search needs
 
-same-length-3 : tie.Need-same-length-3
-same-length-3 c = search needs
-
 returns-3 : tie.Need-returns-3
 returns-3 c =
     let done = c .before .before in
@@ -53,9 +44,6 @@ returns-3 c =
 ticks-requires : tie.Need-ticks-requires
 ticks-requires c κs = search needs
 
-same-length-4 : tie.Need-same-length-4
-same-length-4 c = search needs
-
 returns-4 : tie.Need-returns-4
 returns-4 c =
     let done = c .before .before in
@@ -66,9 +54,6 @@ returns-4 c =
 
 load-requires-2 : tie.Need-load-requires-2
 load-requires-2 c κs = search needs
-
-same-length-5 : tie.Need-same-length-5
-same-length-5 c = search needs
 
 returns-5 : tie.Need-returns-5
 returns-5 c =
@@ -85,9 +70,6 @@ returns-5 c =
 load-requires-3 : tie.Need-load-requires-3
 load-requires-3 c κs = search needs
 
-same-length-6 : tie.Need-same-length-6
-same-length-6 c = search needs
-
 returns-6 : tie.Need-returns-6
 returns-6 c =
     let done = c .before .before in
@@ -103,23 +85,6 @@ returns-6 c =
 pub perform-spec : {M : Type 1} → statement M
 perform-spec =
     tie.close
-    (tie.spec
-    field-requires
-    miscellany-requires
-    same-length
-    returns
-    load-requires
-    same-length-2
-    returns-2
-    timer-requires
-    same-length-3
-    returns-3
-    ticks-requires
-    same-length-4
-    returns-4
-    load-requires-2
-    same-length-5
-    returns-5
-    load-requires-3
-    same-length-6
-    returns-6)
+    (tie.spec field-requires miscellany-requires (λ c. search needs) returns load-requires (λ c. search needs) returns-2
+    timer-requires (λ c. search needs) returns-3 ticks-requires (λ c. search needs) returns-4 load-requires-2
+    (λ c. search needs) returns-5 load-requires-3 (λ c. search needs) returns-6)

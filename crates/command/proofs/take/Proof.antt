@@ -21,9 +21,6 @@ returns c =
 perform-requires : tie.Need-perform-requires
 perform-requires c κs = search needs
 
-same-length : tie.Need-same-length
-same-length c = search needs
-
 returns-2 : tie.Need-returns-2
 returns-2 c =
     let p = c .before .before in
@@ -33,4 +30,5 @@ returns-2 c =
     (sym e, p .perform .ensures .0 ∙ sym (passed-waits (a .m .now) (a .c) e), p .perform .ensures .1 ∙ sym (passed-does (a .m .now) (a .c) e))
 
 pub take-spec : {M : Type 1} → statement M
-take-spec = tie.close (tie.spec refusal-requires returns perform-requires same-length returns-2)
+take-spec = tie.close
+    (tie.spec refusal-requires returns perform-requires (λ c. search needs) returns-2)

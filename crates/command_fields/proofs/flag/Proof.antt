@@ -7,12 +7,6 @@ use borrow.Author.Needs.{needs}
 use Rattle.command_fields.proofs.flag.Statement.{statement}
 use Rattle.command_fields.proofs.flag.Tie as tie
 
-sub-result : tie.Need-sub-result
-sub-result c = search needs
-
-shr-result : tie.Need-shr-result
-shr-result c = search needs
-
 returns : tie.Need-returns
 returns c =
     let b = c .args .b in
@@ -20,4 +14,5 @@ returns c =
     rw one refl
 
 pub flag-spec : {M : Type 1} → statement M
-flag-spec = tie.close (tie.spec sub-result shr-result returns)
+flag-spec = tie.close
+    (tie.spec (λ c. search needs) (λ c. search needs) returns)

@@ -14,20 +14,11 @@ generator-at-requires c κs = search needs
 field-requires : tie.Need-field-requires
 field-requires c κs = search needs
 
-add-load-data : tie.Need-add-load-data
-add-load-data c = search needs
-
 load-data-requires : tie.Need-load-data-requires
 load-data-requires c κs = search needs
 
-add-load-two : tie.Need-add-load-two
-add-load-two c = search needs
-
 field-requires-2 : tie.Need-field-requires-2
 field-requires-2 c κs = search needs
-
-add-load-two-2 : tie.Need-add-load-two-2
-add-load-two-2 c = search needs
 
 field-requires-3 : tie.Need-field-requires-3
 field-requires-3 c κs = search needs
@@ -35,14 +26,8 @@ field-requires-3 c κs = search needs
 load-two-requires : tie.Need-load-two-requires
 load-two-requires c κs = search needs
 
-add-load-two-3 : tie.Need-add-load-two-3
-add-load-two-3 c = search needs
-
 field-requires-4 : tie.Need-field-requires-4
 field-requires-4 c κs = search needs
-
-add-load-two-4 : tie.Need-add-load-two-4
-add-load-two-4 c = search needs
 
 field-requires-5 : tie.Need-field-requires-5
 field-requires-5 c κs = search needs
@@ -50,50 +35,26 @@ field-requires-5 c κs = search needs
 load-two-requires-2 : tie.Need-load-two-requires-2
 load-two-requires-2 c κs = search needs
 
-add-load-data-2 : tie.Need-add-load-data-2
-add-load-data-2 c = search needs
-
 load-data-requires-2 : tie.Need-load-data-requires-2
 load-data-requires-2 c κs = search needs
-
-add-load-then-clear : tie.Need-add-load-then-clear
-add-load-then-clear c = search needs
 
 field-requires-6 : tie.Need-field-requires-6
 field-requires-6 c κs = search needs
 
-add-load-then-clear-2 : tie.Need-add-load-then-clear-2
-add-load-then-clear-2 c = search needs
-
 field-requires-7 : tie.Need-field-requires-7
 field-requires-7 c κs = search needs
-
-add-load-then-clear-3 : tie.Need-add-load-then-clear-3
-add-load-then-clear-3 c = search needs
 
 load-then-clear-requires : tie.Need-load-then-clear-requires
 load-then-clear-requires c κs = search needs
 
-add-load-data-3 : tie.Need-add-load-data-3
-add-load-data-3 c = search needs
-
 load-data-requires-3 : tie.Need-load-data-requires-3
 load-data-requires-3 c κs = search needs
-
-add-load-adjusted : tie.Need-add-load-adjusted
-add-load-adjusted c = search needs
 
 load-adjusted-requires : tie.Need-load-adjusted-requires
 load-adjusted-requires c κs = search needs
 
-add-load-adjusted-2 : tie.Need-add-load-adjusted-2
-add-load-adjusted-2 c = search needs
-
 load-adjusted-requires-2 : tie.Need-load-adjusted-requires-2
 load-adjusted-requires-2 c κs = search needs
-
-same-length : tie.Need-same-length
-same-length c = search needs
 
 returns : tie.Need-returns
 returns c =
@@ -103,9 +64,6 @@ returns c =
     let a = code .before .before .before .args in
     loads-gp (a .m .now) (a .c) (code .before .generator-at .ensures .0) (sym (code .field .ensures) ∙ arm .match .keys1) (done .load-data .ensures)
 
-same-length-2 : tie.Need-same-length-2
-same-length-2 c = search needs
-
 returns-2 : tie.Need-returns-2
 returns-2 c =
     let done = c .before .before in
@@ -113,9 +71,6 @@ returns-2 c =
     let code = arm .before in
     let a = code .before .before .before .args in
     loads-gn (a .m .now) (a .c) (code .before .generator-at .ensures .0) (sym (code .field .ensures) ∙ arm .match .keys2) (done .before .before .field2 .ensures) (done .before .field3 .ensures) (done .load-two .ensures)
-
-same-length-3 : tie.Need-same-length-3
-same-length-3 c = search needs
 
 returns-3 : tie.Need-returns-3
 returns-3 c =
@@ -125,9 +80,6 @@ returns-3 c =
     let a = code .before .before .before .args in
     loads-gl (a .m .now) (a .c) (code .before .generator-at .ensures .0) (sym (code .field .ensures) ∙ arm .match .keys3) (done .before .before .field4 .ensures) (done .before .field5 .ensures) (done .load-two2 .ensures)
 
-same-length-4 : tie.Need-same-length-4
-same-length-4 c = search needs
-
 returns-4 : tie.Need-returns-4
 returns-4 c =
     let done = c .before .before in
@@ -136,9 +88,6 @@ returns-4 c =
     let a = code .before .before .before .args in
     loads-gk (a .m .now) (a .c) (code .before .generator-at .ensures .0) (sym (code .field .ensures) ∙ arm .match .keys4) (done .load-data2 .ensures)
 
-same-length-5 : tie.Need-same-length-5
-same-length-5 c = search needs
-
 returns-5 : tie.Need-returns-5
 returns-5 c =
     let done = c .before .before in
@@ -146,9 +95,6 @@ returns-5 c =
     let code = arm .before in
     let a = code .before .before .before .args in
     loads-gmode (a .m .now) (a .c) (code .before .generator-at .ensures .0) (sym (code .field .ensures) ∙ arm .match .keys5) (done .before .before .field6 .ensures) (done .before .field7 .ensures) (done .load-then-clear .ensures)
-
-same-length-6 : tie.Need-same-length-6
-same-length-6 c = search needs
 
 returns-6 : tie.Need-returns-6
 returns-6 c =
@@ -165,9 +111,6 @@ returns-7 c =
     let e : code4 (a .c) ≡ code .field .result = sym (code .field .ensures) in
     lower-code (a .m .now) (a .c) (omega (arith, e, c .if1 .taken))
 
-same-length-7 : tie.Need-same-length-7
-same-length-7 c = search needs
-
 returns-8 : tie.Need-returns-8
 returns-8 c =
     let done = c .before .before in
@@ -176,9 +119,6 @@ returns-8 c =
     let a = code .before .before .before .args in
     let e : code4 (a .c) ≡ code .field .result = sym (code .field .ensures) in
     loads-gq (a .m .now) (a .c) (code .before .generator-at .ensures .0) (omega (arith, e, arm .before .if1 .left)) (omega (arith, e, arm .if2 .taken)) (done .load-adjusted .ensures)
-
-same-length-8 : tie.Need-same-length-8
-same-length-8 c = search needs
 
 returns-9 : tie.Need-returns-9
 returns-9 c =
@@ -200,50 +140,11 @@ returns-10 c =
 pub load-spec : {M : Type 1} → statement M
 load-spec =
     tie.close
-    (tie.spec
-    generator-at-requires
-    field-requires
-    add-load-data
-    load-data-requires
-    add-load-two
-    field-requires-2
-    add-load-two-2
-    field-requires-3
-    load-two-requires
-    add-load-two-3
-    field-requires-4
-    add-load-two-4
-    field-requires-5
-    load-two-requires-2
-    add-load-data-2
-    load-data-requires-2
-    add-load-then-clear
-    field-requires-6
-    add-load-then-clear-2
-    field-requires-7
-    add-load-then-clear-3
-    load-then-clear-requires
-    add-load-data-3
-    load-data-requires-3
-    add-load-adjusted
-    load-adjusted-requires
-    add-load-adjusted-2
-    load-adjusted-requires-2
-    same-length
-    returns
-    same-length-2
-    returns-2
-    same-length-3
-    returns-3
-    same-length-4
-    returns-4
-    same-length-5
-    returns-5
-    same-length-6
-    returns-6
-    returns-7
-    same-length-7
-    returns-8
-    same-length-8
-    returns-9
-    returns-10)
+    (tie.spec generator-at-requires field-requires (λ c. search needs) load-data-requires (λ c. search needs)
+    field-requires-2 (λ c. search needs) field-requires-3 load-two-requires (λ c. search needs) field-requires-4
+    (λ c. search needs) field-requires-5 load-two-requires-2 (λ c. search needs) load-data-requires-2
+    (λ c. search needs) field-requires-6 (λ c. search needs) field-requires-7 (λ c. search needs)
+    load-then-clear-requires (λ c. search needs) load-data-requires-3 (λ c. search needs) load-adjusted-requires
+    (λ c. search needs) load-adjusted-requires-2 (λ c. search needs) returns (λ c. search needs) returns-2
+    (λ c. search needs) returns-3 (λ c. search needs) returns-4 (λ c. search needs) returns-5 (λ c. search needs)
+    returns-6 returns-7 (λ c. search needs) returns-8 (λ c. search needs) returns-9 returns-10)

@@ -5,15 +5,6 @@ use borrow.Author.Needs.{needs}
 use Rattle.command_load.proofs.clear_if.Statement.{statement}
 use Rattle.command_load.proofs.clear_if.Tie as tie
 
-mul-m : tie.Need-mul-m
-mul-m c = search needs
-
-slice-write-m : tie.Need-slice-write-m
-slice-write-m c = search needs
-
-same-length : tie.Need-same-length
-same-length c = search needs
-
 returns : tie.Need-returns
 unfolding clearedIf
 returns c = rw (c .if1 .taken)
@@ -23,4 +14,5 @@ unfolding clearedIf
 returns-2 c = rw (c .if1 .left)
 
 pub clear-if-spec : {M : Type 1} → statement M
-clear-if-spec = tie.close (tie.spec mul-m slice-write-m same-length returns returns-2)
+clear-if-spec = tie.close
+    (tie.spec (λ c. search needs) (λ c. search needs) (λ c. search needs) returns returns-2)

@@ -15,39 +15,12 @@ field-requires c κs = search needs
 flag-requires : tie.Need-flag-requires
 flag-requires c κs = search needs
 
-slice-read-low : tie.Need-slice-read-low
-slice-read-low c = search needs
-
-sub-low : tie.Need-sub-low
-sub-low c = search needs
-
-shr-low : tie.Need-shr-low
-shr-low c = search needs
-
-sub-m : tie.Need-sub-m
-sub-m c = search needs
-
-shl-m : tie.Need-shl-m
-shl-m c = search needs
-
 add-m : tie.Need-add-m
 add-m c =
     let found = c .before .before .before in
     let start = found .before .before in
     let dx = getD (start .args .m .now) dxAt 0 in
     omega (arith, left-fits (start .args .width) (start .pre .1 .1) (start .pre .1 .2) (start .args .c) (found .field .ensures) dx (omega (arith, c .slice-known2 .given dxAt)))
-
-mul-m : tie.Need-mul-m
-mul-m c = search needs
-
-slice-write-m : tie.Need-slice-write-m
-slice-write-m c = search needs
-
-slice-write-m-2 : tie.Need-slice-write-m-2
-slice-write-m-2 c = simp length-set (omega arith)
-
-same-length : tie.Need-same-length
-same-length c = search needs
 
 returns : tie.Need-returns
 returns c =
@@ -59,20 +32,8 @@ returns c =
 extend20-requires : tie.Need-extend20-requires
 extend20-requires c κs = search needs
 
-shl-m-2 : tie.Need-shl-m-2
-shl-m-2 c = search needs
-
 rem-m : tie.Need-rem-m
 rem-m c = one-shifted-positive _ (omega arith)
-
-mul-m-2 : tie.Need-mul-m-2
-mul-m-2 c = search needs
-
-slice-write-m-3 : tie.Need-slice-write-m-3
-slice-write-m-3 c = search needs
-
-same-length-2 : tie.Need-same-length-2
-same-length-2 c = search needs
 
 returns-2 : tie.Need-returns-2
 returns-2 c =
@@ -84,24 +45,7 @@ returns-2 c =
 pub load-adjusted-spec : {M : Type 1} → statement M
 load-adjusted-spec =
     tie.close
-    (tie.spec
-    field-requires
-    flag-requires
-    slice-read-low
-    sub-low
-    shr-low
-    sub-m
-    shl-m
-    add-m
-    mul-m
-    slice-write-m
-    slice-write-m-2
-    same-length
-    returns
-    extend20-requires
-    shl-m-2
-    rem-m
-    mul-m-2
-    slice-write-m-3
-    same-length-2
-    returns-2)
+    (tie.spec field-requires flag-requires (λ c. search needs) (λ c. search needs) (λ c. search needs)
+    (λ c. search needs) (λ c. search needs) add-m (λ c. search needs) (λ c. search needs)
+    (λ c. simp length-set (omega arith)) (λ c. search needs) returns extend20-requires (λ c. search needs) rem-m
+    (λ c. search needs) (λ c. search needs) (λ c. search needs) returns-2)

@@ -9,18 +9,10 @@ use Rattle.command_load.proofs.load_data.Tie as tie
 field-requires : tie.Need-field-requires
 field-requires c κs = search needs
 
-mul-m : tie.Need-mul-m
-mul-m c = search needs
-
-slice-write-m : tie.Need-slice-write-m
-slice-write-m c = search needs
-
-same-length : tie.Need-same-length
-same-length c = search needs
-
 returns : tie.Need-returns
 unfolding loadedData
 returns c = rw (c .field .ensures) refl
 
 pub load-data-spec : {M : Type 1} → statement M
-load-data-spec = tie.close (tie.spec field-requires mul-m slice-write-m same-length returns)
+load-data-spec = tie.close
+    (tie.spec field-requires (λ c. search needs) (λ c. search needs) (λ c. search needs) returns)

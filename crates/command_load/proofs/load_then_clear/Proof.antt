@@ -14,9 +14,6 @@ flag-requires c κs = search needs
 clear-if-requires : tie.Need-clear-if-requires
 clear-if-requires c κs = search needs
 
-same-length : tie.Need-same-length
-same-length c = search needs
-
 returns : tie.Need-returns
 returns c =
     let clear = c .before .before in
@@ -26,4 +23,5 @@ returns c =
 
 pub load-then-clear-spec : {M : Type 1} → statement M
 load-then-clear-spec =
-    tie.close (tie.spec load-two-requires flag-requires clear-if-requires same-length returns)
+    tie.close
+    (tie.spec load-two-requires flag-requires clear-if-requires (λ c. search needs) returns)

@@ -17,9 +17,6 @@ flag-requires-2 c κs = search needs
 load-unless-requires-2 : tie.Need-load-unless-requires-2
 load-unless-requires-2 c κs = search needs
 
-same-length : tie.Need-same-length
-same-length c = search needs
-
 returns : tie.Need-returns
 returns c =
     let second = c .before .before in
@@ -30,10 +27,4 @@ returns c =
 pub load-two-spec : {M : Type 1} → statement M
 load-two-spec =
     tie.close
-    (tie.spec
-    flag-requires
-    load-unless-requires
-    flag-requires-2
-    load-unless-requires-2
-    same-length
-    returns)
+    (tie.spec flag-requires load-unless-requires flag-requires-2 load-unless-requires-2 (λ c. search needs) returns)

@@ -9,18 +9,10 @@ returns : tie.Need-returns
 unfolding loadedUnless
 returns c = rw (c .if1 .taken)
 
-mul-m : tie.Need-mul-m
-mul-m c = search needs
-
-slice-write-m : tie.Need-slice-write-m
-slice-write-m c = search needs
-
-same-length : tie.Need-same-length
-same-length c = search needs
-
 returns-2 : tie.Need-returns-2
 unfolding loadedUnless
 returns-2 c = rw (c .if1 .left)
 
 pub load-unless-spec : {M : Type 1} → statement M
-load-unless-spec = tie.close (tie.spec returns mul-m slice-write-m same-length returns-2)
+load-unless-spec = tie.close
+    (tie.spec returns (λ c. search needs) (λ c. search needs) (λ c. search needs) returns-2)

@@ -11,12 +11,6 @@ field-requires c κs = search needs
 field-requires-2 : tie.Need-field-requires-2
 field-requires-2 c κs = search needs
 
-slice-write-m : tie.Need-slice-write-m
-slice-write-m c = search needs
-
-same-length : tie.Need-same-length
-same-length c = search needs
-
 returns : tie.Need-returns
 returns c =
     let arm = c .before in
@@ -31,4 +25,4 @@ returns-2 c =
 pub load-dx-spec : {M : Type 1} → statement M
 load-dx-spec =
     tie.close
-    (tie.spec field-requires field-requires-2 slice-write-m same-length returns returns-2)
+    (tie.spec field-requires field-requires-2 (λ c. search needs) (λ c. search needs) returns returns-2)

@@ -20,9 +20,6 @@ flag-requires-2 c κs = search needs
 release-if-requires-2 : tie.Need-release-if-requires-2
 release-if-requires-2 c κs = search needs
 
-same-length : tie.Need-same-length
-same-length c = search needs
-
 returns : tie.Need-returns
 returns c =
     let p = c .before .before in
@@ -34,11 +31,5 @@ returns c =
 pub miscellany-spec : {M : Type 1} → statement M
 miscellany-spec =
     tie.close
-    (tie.spec
-    load-dx-requires
-    flag-requires
-    release-if-requires
-    flag-requires-2
-    release-if-requires-2
-    same-length
-    returns)
+    (tie.spec load-dx-requires flag-requires release-if-requires flag-requires-2 release-if-requires-2
+    (λ c. search needs) returns)

@@ -24,21 +24,12 @@ release-one-requires c κs =
     let z = c .before .before in
     (same-reach (z .loop .inv .1) (z .before .before .pre), omega arith)
 
-add-g : tie.Need-add-g Inv-loop μ-loop
-add-g c = omega arith
-
-loop-less : tie.Need-loop-less Inv-loop μ-loop
-loop-less c = omega arith
-
 loop-again : tie.Need-loop-again Inv-loop μ-loop
 loop-again c =
     let r = c .before .before in
     let z = r .before .before .before in
     let a = z .before .before .args in
     (omega arith, r .release-one .kept .0 ∙ z .loop .inv .1, one-more (a .run) (z .loop .g) (a .m .now) (z .loop .inv .2) (r .release-one .ensures))
-
-same-length : tie.Need-same-length Inv-loop μ-loop
-same-length c = c .before .loop .inv .1
 
 returns : tie.Need-returns Inv-loop μ-loop
 returns c =
@@ -48,13 +39,5 @@ returns c =
 pub release-spec : {M : Type 1} → statement M
 release-spec =
     tie.close
-    (tie.spec
-    Inv-loop
-    μ-loop
-    loop-holds
-    release-one-requires
-    add-g
-    loop-less
-    loop-again
-    same-length
-    returns)
+    (tie.spec Inv-loop μ-loop loop-holds release-one-requires (λ c. omega arith) (λ c. omega arith) loop-again
+    (λ c. c .before .loop .inv .1) returns)

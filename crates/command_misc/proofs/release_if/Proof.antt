@@ -7,16 +7,11 @@ use Rattle.command_misc.proofs.release_if.Tie as tie
 release-requires : tie.Need-release-requires
 release-requires c κs = search needs
 
-same-length : tie.Need-same-length
-same-length c = search needs
-
 returns : tie.Need-returns
 returns c =
     let done = c .before .before in
     rw (done .before .before .if1 .taken) (done .release .ensures)
 
-returns-2 : tie.Need-returns-2
-returns-2 c = search needs
-
 pub release-if-spec : {M : Type 1} → statement M
-release-if-spec = tie.close (tie.spec release-requires same-length returns returns-2)
+release-if-spec = tie.close
+    (tie.spec release-requires (λ c. search needs) returns (λ c. search needs))

@@ -12,26 +12,14 @@ modifier-at-requires c κs = search needs
 field-requires : tie.Need-field-requires
 field-requires c κs = search needs
 
-add-load-adjusted : tie.Need-add-load-adjusted
-add-load-adjusted c = search needs
-
 load-adjusted-requires : tie.Need-load-adjusted-requires
 load-adjusted-requires c κs = search needs
-
-add-load-adjusted-2 : tie.Need-add-load-adjusted-2
-add-load-adjusted-2 c = search needs
 
 load-adjusted-requires-2 : tie.Need-load-adjusted-requires-2
 load-adjusted-requires-2 c κs = search needs
 
-add-load-data : tie.Need-add-load-data
-add-load-data c = search needs
-
 load-data-requires : tie.Need-load-data-requires
 load-data-requires c κs = search needs
-
-add-load-data-2 : tie.Need-add-load-data-2
-add-load-data-2 c = search needs
 
 load-data-requires-2 : tie.Need-load-data-requires-2
 load-data-requires-2 c κs = search needs
@@ -39,26 +27,14 @@ load-data-requires-2 c κs = search needs
 load-mmode-msum-requires : tie.Need-load-mmode-msum-requires
 load-mmode-msum-requires c κs = search needs
 
-add-load-then-clear : tie.Need-add-load-then-clear
-add-load-then-clear c = search needs
-
 field-requires-2 : tie.Need-field-requires-2
 field-requires-2 c κs = search needs
-
-add-load-then-clear-2 : tie.Need-add-load-then-clear-2
-add-load-then-clear-2 c = search needs
 
 field-requires-3 : tie.Need-field-requires-3
 field-requires-3 c κs = search needs
 
-add-load-then-clear-3 : tie.Need-add-load-then-clear-3
-add-load-then-clear-3 c = search needs
-
 load-then-clear-requires : tie.Need-load-then-clear-requires
 load-then-clear-requires c κs = search needs
-
-same-length : tie.Need-same-length
-same-length c = search needs
 
 returns : tie.Need-returns
 returns c =
@@ -68,9 +44,6 @@ returns c =
     let a = code .before .before .before .args in
     loads-m0 (a .m .now) (a .c) (code .before .modifier-at .ensures .0) (vv-m0 (a .m .now) (a .c) (code .field .ensures) (arm .match .keys1)) (done .load-adjusted .ensures)
 
-same-length-2 : tie.Need-same-length-2
-same-length-2 c = search needs
-
 returns-2 : tie.Need-returns-2
 returns-2 c =
     let done = c .before .before in
@@ -78,9 +51,6 @@ returns-2 c =
     let code = arm .before in
     let a = code .before .before .before .args in
     loads-m1 (a .m .now) (a .c) (code .before .modifier-at .ensures .0) (vv-m1 (a .m .now) (a .c) (code .field .ensures) (arm .match .keys2)) (done .load-adjusted2 .ensures)
-
-same-length-3 : tie.Need-same-length-3
-same-length-3 c = search needs
 
 returns-3 : tie.Need-returns-3
 returns-3 c =
@@ -90,9 +60,6 @@ returns-3 c =
     let a = code .before .before .before .args in
     loads-l0 (a .m .now) (a .c) (code .before .modifier-at .ensures .0) (sym (code .field .ensures) ∙ arm .match .keys3) (done .load-data .ensures)
 
-same-length-4 : tie.Need-same-length-4
-same-length-4 c = search needs
-
 returns-4 : tie.Need-returns-4
 returns-4 c =
     let done = c .before .before in
@@ -101,9 +68,6 @@ returns-4 c =
     let a = code .before .before .before .args in
     loads-l1 (a .m .now) (a .c) (code .before .modifier-at .ensures .0) (sym (code .field .ensures) ∙ arm .match .keys4) (done .load-data2 .ensures)
 
-same-length-5 : tie.Need-same-length-5
-same-length-5 c = search needs
-
 returns-5 : tie.Need-returns-5
 returns-5 c =
     let done = c .before .before in
@@ -111,9 +75,6 @@ returns-5 c =
     let code = arm .before in
     let a = code .before .before .before .args in
     loads-mmode (a .m .now) (a .c) (sym (code .field .ensures) ∙ arm .match .keys5) (done .load-mmode-msum .ensures)
-
-same-length-6 : tie.Need-same-length-6
-same-length-6 c = search needs
 
 returns-6 : tie.Need-returns-6
 returns-6 c =
@@ -133,34 +94,9 @@ returns-7 c =
 pub load-spec : {M : Type 1} → statement M
 load-spec =
     tie.close
-    (tie.spec
-    modifier-at-requires
-    field-requires
-    add-load-adjusted
-    load-adjusted-requires
-    add-load-adjusted-2
-    load-adjusted-requires-2
-    add-load-data
-    load-data-requires
-    add-load-data-2
-    load-data-requires-2
-    load-mmode-msum-requires
-    add-load-then-clear
-    field-requires-2
-    add-load-then-clear-2
-    field-requires-3
-    add-load-then-clear-3
-    load-then-clear-requires
-    same-length
-    returns
-    same-length-2
-    returns-2
-    same-length-3
-    returns-3
-    same-length-4
-    returns-4
-    same-length-5
-    returns-5
-    same-length-6
-    returns-6
-    returns-7)
+    (tie.spec modifier-at-requires field-requires (λ c. search needs) load-adjusted-requires (λ c. search needs)
+    load-adjusted-requires-2 (λ c. search needs) load-data-requires (λ c. search needs) load-data-requires-2
+    load-mmode-msum-requires (λ c. search needs) field-requires-2 (λ c. search needs) field-requires-3
+    (λ c. search needs) load-then-clear-requires (λ c. search needs) returns (λ c. search needs) returns-2
+    (λ c. search needs) returns-3 (λ c. search needs) returns-4 (λ c. search needs) returns-5 (λ c. search needs)
+    returns-6 returns-7)

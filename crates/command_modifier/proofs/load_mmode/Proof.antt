@@ -9,12 +9,6 @@ use borrow.Author.Needs.{needs}
 use Rattle.command_modifier.proofs.load_mmode.Statement.{statement}
 use Rattle.command_modifier.proofs.load_mmode.Tie as tie
 
-mul-mmode : tie.Need-mul-mmode
-mul-mmode c = search needs
-
-slice-read-mmode : tie.Need-slice-read-mmode
-slice-read-mmode c = search needs
-
 flag-requires : tie.Need-flag-requires
 flag-requires c κs = search needs
 
@@ -47,15 +41,6 @@ add-m c =
     let mmode = getD (start .args .m .now) (start .args .at) 0 in
     omega (arith, mmode-fits mmode (start .args .c) (function .before .before .flag .ensures) (function .before .field .ensures) (function .chosen .ensures) (c .before .before .flag2 .ensures) (c .before .field2 .ensures) (c .chosen2 .ensures) (omega (arith, function .before .before .before .slice-known2 .given (start .args .at))))
 
-mul-m-2 : tie.Need-mul-m-2
-mul-m-2 c = search needs
-
-slice-write-m : tie.Need-slice-write-m
-slice-write-m c = search needs
-
-same-length : tie.Need-same-length
-same-length c = search needs
-
 returns : tie.Need-returns
 returns c =
     let function = c .before .before .before in
@@ -66,18 +51,5 @@ returns c =
 pub load-mmode-spec : {M : Type 1} → statement M
 load-mmode-spec =
     tie.close
-    (tie.spec
-    mul-mmode
-    slice-read-mmode
-    flag-requires
-    field-requires
-    chosen-requires
-    flag-requires-2
-    field-requires-2
-    chosen-requires-2
-    mul-m
-    add-m
-    mul-m-2
-    slice-write-m
-    same-length
-    returns)
+    (tie.spec (λ c. search needs) (λ c. search needs) flag-requires field-requires chosen-requires flag-requires-2
+    field-requires-2 chosen-requires-2 mul-m add-m (λ c. search needs) (λ c. search needs) (λ c. search needs) returns)

@@ -8,17 +8,11 @@ use Rattle.command_modifier.proofs.load_mmode_msum.Tie as tie
 modifier-at-requires : tie.Need-modifier-at-requires
 modifier-at-requires c κs = search needs
 
-add-load-mmode : tie.Need-add-load-mmode
-add-load-mmode c = search needs
-
 load-mmode-requires : tie.Need-load-mmode-requires
 load-mmode-requires c κs = search needs
 
 flag-requires : tie.Need-flag-requires
 flag-requires c κs = search needs
-
-add-load-unless : tie.Need-add-load-unless
-add-load-unless c = search needs
 
 field-requires : tie.Need-field-requires
 field-requires c κs = search needs
@@ -29,14 +23,8 @@ load-unless-requires c κs = search needs
 flag-requires-2 : tie.Need-flag-requires-2
 flag-requires-2 c κs = search needs
 
-add-clear-if : tie.Need-add-clear-if
-add-clear-if c = search needs
-
 clear-if-requires : tie.Need-clear-if-requires
 clear-if-requires c κs = search needs
-
-same-length : tie.Need-same-length
-same-length c = search needs
 
 returns : tie.Need-returns
 returns c =
@@ -50,16 +38,6 @@ returns c =
 pub load-mmode-msum-spec : {M : Type 1} → statement M
 load-mmode-msum-spec =
     tie.close
-    (tie.spec
-    modifier-at-requires
-    add-load-mmode
-    load-mmode-requires
-    flag-requires
-    add-load-unless
-    field-requires
-    load-unless-requires
-    flag-requires-2
-    add-clear-if
-    clear-if-requires
-    same-length
+    (tie.spec modifier-at-requires (λ c. search needs) load-mmode-requires flag-requires (λ c. search needs)
+    field-requires load-unless-requires flag-requires-2 (λ c. search needs) clear-if-requires (λ c. search needs)
     returns)

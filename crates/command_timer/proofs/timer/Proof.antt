@@ -15,9 +15,6 @@ field-requires-2 c κs = search needs
 set-counter-requires : tie.Need-set-counter-requires
 set-counter-requires c κs = search needs
 
-same-length : tie.Need-same-length
-same-length c = search needs
-
 returns : tie.Need-returns
 returns c =
     let done = c .before .before in
@@ -28,9 +25,6 @@ returns c =
 
 linger-requires : tie.Need-linger-requires
 linger-requires c κs = search needs
-
-same-length-2 : tie.Need-same-length-2
-same-length-2 c = search needs
 
 returns-2 : tie.Need-returns-2
 returns-2 c =
@@ -70,17 +64,5 @@ returns-4 c =
 pub timer-spec : {M : Type 1} → statement M
 timer-spec =
     tie.close
-    (tie.spec
-    field-requires
-    field-requires-2
-    set-counter-requires
-    same-length
-    returns
-    linger-requires
-    same-length-2
-    returns-2
-    set-counter-requires-2
-    linger-requires-2
-    same-length-3
-    returns-3
-    returns-4)
+    (tie.spec field-requires field-requires-2 set-counter-requires (λ c. search needs) returns linger-requires
+    (λ c. search needs) returns-2 set-counter-requires-2 linger-requires-2 same-length-3 returns-3 returns-4)

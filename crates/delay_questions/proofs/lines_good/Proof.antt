@@ -21,9 +21,6 @@ abbrev μ-loop : tie.MeasureT-loop
 modifiers-requires : tie.Need-modifiers-requires Inv-loop μ-loop
 modifiers-requires c κs = c .before .pre .0
 
-loop-holds : tie.Need-loop-holds Inv-loop μ-loop
-loop-holds c = (omega arith, refl)
-
 good-line-requires : tie.Need-good-line-requires Inv-loop μ-loop
 good-line-requires c κs =
     let begun = c .before .before in
@@ -37,12 +34,6 @@ returns c =
     let m = begun .before .before .args .m .now in
     let stops = sym (c .before .good-line .ensures) ∙ not-true _ (c .if1 .taken) in
     sym (below-stops (goodLine m) (z .loop .k) (ticksOf m / 2) (omega (arith, begun .modifiers .ensures)) stops)
-
-add-k : tie.Need-add-k Inv-loop μ-loop
-add-k c = omega arith
-
-loop-less : tie.Need-loop-less Inv-loop μ-loop
-loop-less c = omega arith
 
 loop-again : tie.Need-loop-again Inv-loop μ-loop
 loop-again c =
@@ -62,14 +53,5 @@ returns-2 c =
 pub lines-good-spec : {M : Type 1} → statement M
 lines-good-spec =
     tie.close
-    (tie.spec
-    Inv-loop
-    μ-loop
-    modifiers-requires
-    loop-holds
-    good-line-requires
-    returns
-    add-k
-    loop-less
-    loop-again
-    returns-2)
+    (tie.spec Inv-loop μ-loop modifiers-requires (λ c. (omega arith, refl)) good-line-requires returns
+    (λ c. omega arith) (λ c. omega arith) loop-again returns-2)

@@ -17,12 +17,6 @@ returns c = let no = sym (c .before .invokes .ensures) ∙ not-true _ (c .if1 .t
 named-by-requires : tie.Need-named-by-requires
 named-by-requires c κs = search needs
 
-element-copy-out-free : tie.Need-element-copy-out-free
-element-copy-out-free c = search needs
-
-element-write-marks : tie.Need-element-write-marks
-element-write-marks c = search needs
-
 returns-2 : tie.Need-returns-2
 unfolding unmarked marked
 returns-2 c =
@@ -33,10 +27,4 @@ returns-2 c =
 pub mark-spec : {M : Type 1} → statement M
 mark-spec =
     tie.close
-    (tie.spec
-    invokes-requires
-    returns
-    named-by-requires
-    element-copy-out-free
-    element-write-marks
-    returns-2)
+    (tie.spec invokes-requires returns named-by-requires (λ c. search needs) (λ c. search needs) returns-2)

@@ -37,12 +37,6 @@ returns c =
     let stops = sym (marks-tell m (z .loop .marks) (z .loop .k) (z .loop .inv .1)) ∙ sym (c .before .mark .ensures .0) ∙ not-true _ (c .if1 .taken) in
     sym (once-fresh m ∙ below-stops (fresh m) (z .loop .k) (ticksOf m / 2) (omega (arith, begun .modifiers .ensures)) stops)
 
-add-k : tie.Need-add-k Inv-loop μ-loop
-add-k c = omega arith
-
-loop-less : tie.Need-loop-less Inv-loop μ-loop
-loop-less c = omega arith
-
 loop-again : tie.Need-loop-again Inv-loop μ-loop
 loop-again c =
     let z = c .before .before .before .before in
@@ -64,14 +58,5 @@ returns-2 c =
 pub named-once-spec : {M : Type 1} → statement M
 named-once-spec =
     tie.close
-    (tie.spec
-    Inv-loop
-    μ-loop
-    modifiers-requires
-    loop-holds
-    mark-requires
-    returns
-    add-k
-    loop-less
-    loop-again
-    returns-2)
+    (tie.spec Inv-loop μ-loop modifiers-requires loop-holds mark-requires returns (λ c. omega arith) (λ c. omega arith)
+    loop-again returns-2)

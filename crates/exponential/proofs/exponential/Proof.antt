@@ -8,20 +8,8 @@ use Rattle.exponential.proofs.Entries.{exponential-at}
 use Rattle.exponential.proofs.exponential.Statement.{statement}
 use Rattle.exponential.proofs.exponential.Tie as tie
 
-cast-f : tie.Need-cast-f
-cast-f c = search needs
-
-mul-wide : tie.Need-mul-wide
-mul-wide c = search needs
-
-element-copy-out-wide : tie.Need-element-copy-out-wide
-element-copy-out-wide c = search needs
-
 wide-requires : tie.Need-wide-requires
 wide-requires c κs = search needs
-
-shr-result : tie.Need-shr-result
-shr-result c = search needs
 
 returns : tie.Need-returns
 returns c =
@@ -30,4 +18,5 @@ returns c =
 
 pub exponential-spec : {M : Type 1} → statement M
 exponential-spec =
-    tie.close (tie.spec cast-f mul-wide element-copy-out-wide wide-requires shr-result returns)
+    tie.close
+    (tie.spec (λ c. search needs) (λ c. search needs) (λ c. search needs) wide-requires (λ c. search needs) returns)

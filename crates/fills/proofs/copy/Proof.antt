@@ -20,12 +20,6 @@ loop-holds c =
     let a = c .args in
     (omega arith, filled-none 0 1 (λ k. getD (a .from .now) k 0) (a .run .now), refl)
 
-mul-run : tie.Need-mul-run Inv-loop μ-loop
-mul-run c = omega arith
-
-shared-slice-read-run : tie.Need-shared-slice-read-run Inv-loop μ-loop
-shared-slice-read-run c = omega arith
-
 mul-run-2 : tie.Need-mul-run-2 Inv-loop μ-loop
 mul-run-2 c =
     let z = c .before .before in
@@ -35,12 +29,6 @@ slice-write-run : tie.Need-slice-write-run Inv-loop μ-loop
 slice-write-run c =
     let z = c .before .before in
     omega (arith, z .loop .inv .2, z .before .pre)
-
-add-i : tie.Need-add-i Inv-loop μ-loop
-add-i c = omega arith
-
-loop-less : tie.Need-loop-less Inv-loop μ-loop
-loop-less c = omega arith
 
 loop-again : tie.Need-loop-again Inv-loop μ-loop
 loop-again c =
@@ -52,9 +40,6 @@ loop-again c =
       length-set (z .loop .run) (z .loop .i) _ ∙ z .loop .inv .2,
     )
 
-same-length : tie.Need-same-length Inv-loop μ-loop
-same-length c = c .before .loop .inv .2
-
 returns : tie.Need-returns Inv-loop μ-loop
 returns c =
     let z = c .before in
@@ -65,16 +50,5 @@ returns c =
 pub copy-spec : {M : Type 1} → statement M
 copy-spec =
     tie.close
-    (tie.spec
-    Inv-loop
-    μ-loop
-    loop-holds
-    mul-run
-    shared-slice-read-run
-    mul-run-2
-    slice-write-run
-    add-i
-    loop-less
-    loop-again
-    same-length
-    returns)
+    (tie.spec Inv-loop μ-loop loop-holds (λ c. omega arith) (λ c. omega arith) mul-run-2 slice-write-run
+    (λ c. omega arith) (λ c. omega arith) loop-again (λ c. c .before .loop .inv .2) returns)

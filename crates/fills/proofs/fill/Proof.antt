@@ -44,12 +44,6 @@ slice-write-run c =
     let a = z .before .args in
     omega (arith, z .before .pre, z .loop .inv .2, steps-apart (a .step) (z .loop .k) (a .n) (omega arith))
 
-add-k : tie.Need-add-k Inv-loop μ-loop
-add-k c = omega arith
-
-loop-less : tie.Need-loop-less Inv-loop μ-loop
-loop-less c = omega arith
-
 loop-again : tie.Need-loop-again Inv-loop μ-loop
 loop-again c =
     let z = c .before in
@@ -58,9 +52,6 @@ loop-again c =
       filled-next (a .at) (a .step) (z .loop .k) (λ k. a .word) (a .run .now) (z .loop .inv .1),
       length-set (z .loop .run) (a .at + a .step * z .loop .k) (a .word) ∙ z .loop .inv .2,
     )
-
-same-length : tie.Need-same-length Inv-loop μ-loop
-same-length c = c .before .loop .inv .2
 
 returns : tie.Need-returns Inv-loop μ-loop
 returns c =
@@ -71,16 +62,5 @@ returns c =
 pub fill-spec : {M : Type 1} → statement M
 fill-spec =
     tie.close
-    (tie.spec
-    Inv-loop
-    μ-loop
-    loop-holds
-    mul-run
-    add-run
-    mul-run-2
-    slice-write-run
-    add-k
-    loop-less
-    loop-again
-    same-length
-    returns)
+    (tie.spec Inv-loop μ-loop loop-holds mul-run add-run mul-run-2 slice-write-run (λ c. omega arith) (λ c. omega arith)
+    loop-again (λ c. c .before .loop .inv .2) returns)

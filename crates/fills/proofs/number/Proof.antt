@@ -40,12 +40,6 @@ add-word c =
     let z = c .before in
     omega (arith, z .before .pre .1, z .loop .inv .3)
 
-add-k : tie.Need-add-k Inv-loop μ-loop
-add-k c = omega arith
-
-loop-less : tie.Need-loop-less Inv-loop μ-loop
-loop-less c = omega arith
-
 loop-again : tie.Need-loop-again Inv-loop μ-loop
 loop-again c =
     let z = c .before in
@@ -57,9 +51,6 @@ loop-again c =
       omega (arith, z .loop .inv .3),
     )
 
-same-length : tie.Need-same-length Inv-loop μ-loop
-same-length c = c .before .loop .inv .2
-
 returns : tie.Need-returns Inv-loop μ-loop
 returns c =
     let z = c .before in
@@ -69,16 +60,5 @@ returns c =
 pub number-spec : {M : Type 1} → statement M
 number-spec =
     tie.close
-    (tie.spec
-    Inv-loop
-    μ-loop
-    loop-holds
-    add-run
-    mul-run
-    slice-write-run
-    add-word
-    add-k
-    loop-less
-    loop-again
-    same-length
-    returns)
+    (tie.spec Inv-loop μ-loop loop-holds add-run mul-run slice-write-run add-word (λ c. omega arith) (λ c. omega arith)
+    loop-again (λ c. c .before .loop .inv .2) returns)

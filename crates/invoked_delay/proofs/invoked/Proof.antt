@@ -36,12 +36,6 @@ unit-turn-requires c κs =
       ((n .unit-of .ensures .1, rw (i .invoke-delay .ensures) (word-low _ _ _)), rw (d .delay-at .ensures) (loaded-ranged _)),
     )
 
-same-length : tie.Need-same-length
-same-length c = search needs
-
-same-length-2 : tie.Need-same-length-2
-same-length-2 c = search needs
-
 returns : tie.Need-returns
 returns c =
     let w = c .before .before .before .before in
@@ -58,14 +52,5 @@ returns c =
 pub invoked-spec : {M : Type 1} → statement M
 invoked-spec =
     tie.close
-    (tie.spec
-    unit-of-requires
-    delay-at-requires
-    runs-requires
-    given-requires
-    invoke-delay-requires
-    put-modifier-at-requires
-    unit-turn-requires
-    same-length
-    same-length-2
-    returns)
+    (tie.spec unit-of-requires delay-at-requires runs-requires given-requires invoke-delay-requires
+    put-modifier-at-requires unit-turn-requires (λ c. search needs) (λ c. search needs) returns)

@@ -15,12 +15,6 @@ turn-requires c κs = search needs
 put-delay-at-requires : tie.Need-put-delay-at-requires
 put-delay-at-requires c κs = search needs
 
-same-length : tie.Need-same-length
-same-length c = search needs
-
-same-length-2 : tie.Need-same-length-2
-same-length-2 c = search needs
-
 returns-2 : tie.Need-returns-2
 returns-2 c =
     let p = c .before .before in
@@ -31,4 +25,4 @@ returns-2 c =
 pub unit-turn-spec : {M : Type 1} → statement M
 unit-turn-spec =
     tie.close
-    (tie.spec returns turn-requires put-delay-at-requires same-length same-length-2 returns-2)
+    (tie.spec returns turn-requires put-delay-at-requires (λ c. search needs) (λ c. search needs) returns-2)

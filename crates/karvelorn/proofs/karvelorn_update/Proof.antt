@@ -15,9 +15,6 @@ sub-taken c =
     let a = u .before .before .before .before .before .args in
     omega (arith, left-within (a .m .now) (a .commands .now) (u .update .ensures .0))
 
-same-length : tie.Need-same-length
-same-length c = search needs
-
 returns : tie.Need-returns
 returns c =
     let u = c .before .before in
@@ -26,4 +23,5 @@ returns c =
     (tail-of (a .m .now) (a .commands .now) e, count-is (a .m .now) (a .commands .now) e)
 
 pub karvelorn-update-spec : {M : Type 1} → statement M
-karvelorn-update-spec = tie.close (tie.spec update-requires sub-taken same-length returns)
+karvelorn-update-spec = tie.close
+    (tie.spec update-requires sub-taken (λ c. search needs) returns)

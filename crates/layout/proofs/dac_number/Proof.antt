@@ -9,18 +9,6 @@ use lib.ListN.{getD}
 use Rattle.layout.proofs.dac_number.Statement.{statement}
 use Rattle.layout.proofs.dac_number.Tie as tie
 
-mul-wide : tie.Need-mul-wide
-mul-wide c = search needs
-
-add-wide : tie.Need-add-wide
-add-wide c = search needs
-
-mul-wide-2 : tie.Need-mul-wide-2
-mul-wide-2 c = search needs
-
-shared-slice-read-wide : tie.Need-shared-slice-read-wide
-shared-slice-read-wide c = search needs
-
 wide-requires : tie.Need-wide-requires
 wide-requires c κs = search needs
 
@@ -32,4 +20,5 @@ returns c =
 
 pub dac-number-spec : {M : Type 1} → statement M
 dac-number-spec =
-    tie.close (tie.spec mul-wide add-wide mul-wide-2 shared-slice-read-wide wide-requires returns)
+    tie.close
+    (tie.spec (λ c. search needs) (λ c. search needs) (λ c. search needs) (λ c. search needs) wide-requires returns)

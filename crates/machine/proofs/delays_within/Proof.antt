@@ -16,20 +16,11 @@ use Rattle.machine.proofs.delays_within.Tie as tie
 delay-limits-requires : tie.Need-delay-limits-requires
 delay-limits-requires c κs = search needs
 
-mul-flags : tie.Need-mul-flags
-mul-flags c = search needs
-
 flags-requires : tie.Need-flags-requires
 flags-requires c κs = search needs
 
-slice-aggregate-swept : tie.Need-slice-aggregate-swept
-slice-aggregate-swept c = search needs
-
 swept-requires : tie.Need-swept-requires
 swept-requires c κs = search needs
-
-add-fields-flagged : tie.Need-add-fields-flagged
-add-fields-flagged c = search needs
 
 fields-flagged-requires : tie.Need-fields-flagged-requires
 fields-flagged-requires c κs = search needs
@@ -47,12 +38,5 @@ returns c =
 pub delays-within-spec : {M : Type 1} → statement M
 delays-within-spec =
     tie.close
-    (tie.spec
-    delay-limits-requires
-    mul-flags
-    flags-requires
-    slice-aggregate-swept
-    swept-requires
-    add-fields-flagged
-    fields-flagged-requires
-    returns)
+    (tie.spec delay-limits-requires (λ c. search needs) flags-requires (λ c. search needs) swept-requires
+    (λ c. search needs) fields-flagged-requires returns)

@@ -19,14 +19,8 @@ generator-limits-requires c κs = search needs
 flags-requires : tie.Need-flags-requires
 flags-requires c κs = search needs
 
-mul-flags : tie.Need-mul-flags
-mul-flags c = search needs
-
 flags-requires-2 : tie.Need-flags-requires-2
 flags-requires-2 c κs = search needs
-
-slice-aggregate-swept : tie.Need-slice-aggregate-swept
-slice-aggregate-swept c = search needs
 
 swept-requires : tie.Need-swept-requires
 swept-requires c κs = search needs
@@ -54,13 +48,5 @@ returns c =
 pub generators-within-spec : {M : Type 1} → statement M
 generators-within-spec =
     tie.close
-    (tie.spec
-    generator-limits-requires
-    flags-requires
-    mul-flags
-    flags-requires-2
-    slice-aggregate-swept
-    swept-requires
-    fields-flagged-requires
-    fields-flagged-requires-2
-    returns)
+    (tie.spec generator-limits-requires flags-requires (λ c. search needs) flags-requires-2 (λ c. search needs)
+    swept-requires fields-flagged-requires fields-flagged-requires-2 returns)

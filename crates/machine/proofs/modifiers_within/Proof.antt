@@ -19,26 +19,14 @@ modifier-limits-requires c κs = search needs
 flags-requires : tie.Need-flags-requires
 flags-requires c κs = search needs
 
-slice-aggregate-swept : tie.Need-slice-aggregate-swept
-slice-aggregate-swept c = search needs
-
 swept-requires : tie.Need-swept-requires
 swept-requires c κs = search needs
-
-add-words-below : tie.Need-add-words-below
-add-words-below c = search needs
 
 words-below-requires : tie.Need-words-below-requires
 words-below-requires c κs = search needs
 
-add-words-below-2 : tie.Need-add-words-below-2
-add-words-below-2 c = search needs
-
 words-below-requires-2 : tie.Need-words-below-requires-2
 words-below-requires-2 c κs = search needs
-
-add-fields-flagged : tie.Need-add-fields-flagged
-add-fields-flagged c = search needs
 
 fields-flagged-requires : tie.Need-fields-flagged-requires
 fields-flagged-requires c κs = search needs
@@ -62,15 +50,5 @@ returns c =
 pub modifiers-within-spec : {M : Type 1} → statement M
 modifiers-within-spec =
     tie.close
-    (tie.spec
-    modifier-limits-requires
-    flags-requires
-    slice-aggregate-swept
-    swept-requires
-    add-words-below
-    words-below-requires
-    add-words-below-2
-    words-below-requires-2
-    add-fields-flagged
-    fields-flagged-requires
-    returns)
+    (tie.spec modifier-limits-requires flags-requires (λ c. search needs) swept-requires (λ c. search needs)
+    words-below-requires (λ c. search needs) words-below-requires-2 (λ c. search needs) fields-flagged-requires returns)

@@ -45,21 +45,6 @@ shared-slice-read-field c =
     let a = z .before .args in
     omega (arith, word-inside (a .at) (a .step) (z .loop .k) (a .n) (length (a .m .now)) (omega arith) (z .before .pre .0))
 
-shr-field : tie.Need-shr-field Inv-loop μ-loop
-shr-field c = omega arith
-
-cast-i : tie.Need-cast-i Inv-loop μ-loop
-cast-i c = omega arith
-
-element-copy-out-ok : tie.Need-element-copy-out-ok Inv-loop μ-loop
-element-copy-out-ok c = omega arith
-
-add-k : tie.Need-add-k Inv-loop μ-loop
-add-k c = omega arith
-
-loop-less : tie.Need-loop-less Inv-loop μ-loop
-loop-less c = omega arith
-
 loop-again : tie.Need-loop-again Inv-loop μ-loop
 loop-again c =
     let z = c .before .before .before in
@@ -75,18 +60,5 @@ returns c =
 pub fields-flagged-spec : {M : Type 1} → statement M
 fields-flagged-spec =
     tie.close
-    (tie.spec
-    Inv-loop
-    μ-loop
-    loop-holds
-    mul-field
-    add-field
-    mul-field-2
-    shared-slice-read-field
-    shr-field
-    cast-i
-    element-copy-out-ok
-    add-k
-    loop-less
-    loop-again
-    returns)
+    (tie.spec Inv-loop μ-loop loop-holds mul-field add-field mul-field-2 shared-slice-read-field (λ c. omega arith)
+    (λ c. omega arith) (λ c. omega arith) (λ c. omega arith) (λ c. omega arith) loop-again returns)

@@ -15,9 +15,6 @@ Inv-loop limits m at times rows ok₀ k₀ ok k = (k ≤ times) × (ok ≡ swept
 abbrev μ-loop : tie.MeasureT-loop
 μ-loop limits m at times rows ok₀ k₀ ok k = times - k
 
-mul-rows : tie.Need-mul-rows Inv-loop μ-loop
-mul-rows c = omega arith
-
 loop-holds : tie.Need-loop-holds Inv-loop μ-loop
 unfolding swept
 loop-holds c = (omega arith, refl)
@@ -40,12 +37,6 @@ rows-below-requires c κs =
     let a = z .before .before .before .args in
     omega (arith, rows-inside (a .at) (8 * length (a .limits .now)) (z .loop .k) (a .times) (length (a .m .now)) (omega arith) (z .before .before .before .pre))
 
-add-k : tie.Need-add-k Inv-loop μ-loop
-add-k c = omega arith
-
-loop-less : tie.Need-loop-less Inv-loop μ-loop
-loop-less c = omega arith
-
 loop-again : tie.Need-loop-again Inv-loop μ-loop
 loop-again c =
     let z = c .before .before in
@@ -61,15 +52,5 @@ returns c =
 pub swept-spec : {M : Type 1} → statement M
 swept-spec =
     tie.close
-    (tie.spec
-    Inv-loop
-    μ-loop
-    mul-rows
-    loop-holds
-    mul-rows-below
-    add-rows-below
-    rows-below-requires
-    add-k
-    loop-less
-    loop-again
-    returns)
+    (tie.spec Inv-loop μ-loop (λ c. omega arith) loop-holds mul-rows-below add-rows-below rows-below-requires
+    (λ c. omega arith) (λ c. omega arith) loop-again returns)

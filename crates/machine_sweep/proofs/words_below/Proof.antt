@@ -44,12 +44,6 @@ shared-slice-read-ok c =
     let a = z .before .args in
     omega (arith, word-inside (a .at) (a .step) (z .loop .k) (a .n) (length (a .m .now)) (omega arith) (z .before .pre))
 
-add-k : tie.Need-add-k Inv-loop μ-loop
-add-k c = omega arith
-
-loop-less : tie.Need-loop-less Inv-loop μ-loop
-loop-less c = omega arith
-
 loop-again : tie.Need-loop-again Inv-loop μ-loop
 loop-again c =
     let z = c .before .before in
@@ -65,15 +59,5 @@ returns c =
 pub words-below-spec : {M : Type 1} → statement M
 words-below-spec =
     tie.close
-    (tie.spec
-    Inv-loop
-    μ-loop
-    loop-holds
-    mul-ok
-    add-ok
-    mul-ok-2
-    shared-slice-read-ok
-    add-k
-    loop-less
-    loop-again
-    returns)
+    (tie.spec Inv-loop μ-loop loop-holds mul-ok add-ok mul-ok-2 shared-slice-read-ok (λ c. omega arith)
+    (λ c. omega arith) loop-again returns)

@@ -7,12 +7,10 @@ use Rattle.modes.specs.Modes.{builtOscillators, builtOscillator}
 use Rattle.modes.proofs.built_oscillator.Statement.{statement}
 use Rattle.modes.proofs.built_oscillator.Tie as tie
 
-shr-result : tie.Need-shr-result
-shr-result c = search needs
-
 returns : tie.Need-returns
 unfolding builtOscillator tells isOneOf
 returns c = bit-tells _ builtOscillators 16 tt (c .args .s) (c .pre)
 
 pub built-oscillator-spec : {M : Type 1} → statement M
-built-oscillator-spec = tie.close (tie.spec shr-result returns)
+built-oscillator-spec = tie.close
+    (tie.spec (λ c. search needs) returns)

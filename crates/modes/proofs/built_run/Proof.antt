@@ -7,12 +7,10 @@ use Rattle.modes.specs.Modes.{builtRuns, builtRun}
 use Rattle.modes.proofs.built_run.Statement.{statement}
 use Rattle.modes.proofs.built_run.Tie as tie
 
-shr-result : tie.Need-shr-result
-shr-result c = search needs
-
 returns : tie.Need-returns
 unfolding builtRun tells isOneOf
 returns c = bit-tells _ builtRuns 16 tt (c .args .r) (c .pre)
 
 pub built-run-spec : {M : Type 1} → statement M
-built-run-spec = tie.close (tie.spec shr-result returns)
+built-run-spec = tie.close
+    (tie.spec (λ c. search needs) returns)

@@ -8,18 +8,6 @@ use Rattle.modifier_registers.proofs.modifier_at.Tie as tie
 place-requires : tie.Need-place-requires
 place-requires c κs = search needs
 
-mul-load : tie.Need-mul-load
-mul-load c = search needs
-
-sub-load : tie.Need-sub-load
-sub-load c = search needs
-
-part-load-start : tie.Need-part-load-start
-part-load-start c = search needs
-
-part-load-end : tie.Need-part-load-end
-part-load-end c = search needs
-
 load-requires : tie.Need-load-requires
 load-requires c κs = search needs
 
@@ -30,4 +18,5 @@ returns c = rw (c .load .ensures, part-from, c .before .before .place .ensures)
 pub modifier-at-spec : {M : Type 1} → statement M
 modifier-at-spec =
     tie.close
-    (tie.spec place-requires mul-load sub-load part-load-start part-load-end load-requires returns)
+    (tie.spec place-requires (λ c. search needs) (λ c. search needs) (λ c. search needs) (λ c. search needs)
+    load-requires returns)

@@ -8,23 +8,8 @@ use Rattle.modifier_registers.proofs.put_modifier_at.Tie as tie
 place-requires : tie.Need-place-requires
 place-requires c κs = search needs
 
-mul-store : tie.Need-mul-store
-mul-store c = search needs
-
-sub-store : tie.Need-sub-store
-sub-store c = search needs
-
-part-store-start : tie.Need-part-store-start
-part-store-start c = search needs
-
-part-store-end : tie.Need-part-store-end
-part-store-end c = search needs
-
 store-requires : tie.Need-store-requires
 store-requires c κs = search needs
-
-same-length : tie.Need-same-length
-same-length c = search needs
 
 returns : tie.Need-returns
 returns c =
@@ -36,12 +21,5 @@ returns c =
 pub put-modifier-at-spec : {M : Type 1} → statement M
 put-modifier-at-spec =
     tie.close
-    (tie.spec
-    place-requires
-    mul-store
-    sub-store
-    part-store-start
-    part-store-end
-    store-requires
-    same-length
-    returns)
+    (tie.spec place-requires (λ c. search needs) (λ c. search needs) (λ c. search needs) (λ c. search needs)
+    store-requires (λ c. search needs) returns)

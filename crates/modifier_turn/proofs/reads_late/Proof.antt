@@ -7,12 +7,10 @@ use Rattle.modifier_turn.specs.Turn.{lateFunctions, readsLate}
 use Rattle.modifier_turn.proofs.reads_late.Statement.{statement}
 use Rattle.modifier_turn.proofs.reads_late.Tie as tie
 
-shr-result : tie.Need-shr-result
-shr-result c = search needs
-
 returns : tie.Need-returns
 unfolding readsLate lateFunctions isOneOf tells
 returns c = bit-tells _ lateFunctions 32 tt _ (c .pre)
 
 pub reads-late-spec : {M : Type 1} → statement M
-reads-late-spec = tie.close (tie.spec shr-result returns)
+reads-late-spec = tie.close
+    (tie.spec (λ c. search needs) returns)

@@ -5,9 +5,6 @@ use borrow.Author.Needs.{needs}
 use Rattle.modifier_views.proofs.look.Statement.{statement}
 use Rattle.modifier_views.proofs.look.Tie as tie
 
-cast-i : tie.Need-cast-i
-cast-i c = search needs
-
 quadrant-word-requires : tie.Need-quadrant-word-requires
 quadrant-word-requires c κs = search needs
 
@@ -32,11 +29,5 @@ returns-3 c = rw (ne-eqb _ 0 (c .before .before .if1 .left), ne-eqb _ 1 (c .befo
 pub look-spec : {M : Type 1} → statement M
 look-spec =
     tie.close
-    (tie.spec
-    cast-i
-    quadrant-word-requires
-    returns
-    quadrant-word-requires-2
-    returns-2
-    word-at-requires
+    (tie.spec (λ c. search needs) quadrant-word-requires returns quadrant-word-requires-2 returns-2 word-at-requires
     returns-3)

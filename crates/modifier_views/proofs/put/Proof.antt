@@ -1,6 +1,5 @@
 -- `put` meets its contract by MSUM's top bit: S is added, or replaces the word.
 use mathlib.Core.Path.{refl}
-use Prim.Native.Nat.{_/_}
 use borrow.Author.Tests.{eq-eqb, ne-eqb}
 use Rattle.pass_model.specs.Modifiers.{withWrite}
 use Rattle.modifier_views.specs.Views.{wordLeft}
@@ -8,23 +7,11 @@ use borrow.Author.Needs.{needs}
 use Rattle.modifier_views.proofs.put.Statement.{statement}
 use Rattle.modifier_views.proofs.put.Tie as tie
 
-cast-i : tie.Need-cast-i
-cast-i c = search needs
-
 quadrant-word-requires : tie.Need-quadrant-word-requires
 quadrant-word-requires c κs = search needs
 
 add20-requires : tie.Need-add20-requires
 add20-requires c κs = search needs
-
-mul-s : tie.Need-mul-s
-mul-s c = search needs
-
-index-1-s : tie.Need-index-1-s
-index-1-s c = search needs
-
-index-2-s : tie.Need-index-2-s
-index-2-s c = search needs
 
 returns : tie.Need-returns
 unfolding withWrite wordLeft
@@ -33,15 +20,6 @@ returns c =
     let taken = word .before .before in
     rw (eq-eqb _ 0 (taken .if1 .taken), c .add20 .ensures, word .quadrant-word .ensures .is) (refl, refl)
 
-mul-s-2 : tie.Need-mul-s-2
-mul-s-2 c = search needs
-
-index-1-s-2 : tie.Need-index-1-s-2
-index-1-s-2 c = search needs
-
-index-2-s-2 : tie.Need-index-2-s-2
-index-2-s-2 c = search needs
-
 returns-2 : tie.Need-returns-2
 unfolding withWrite wordLeft
 returns-2 c = rw (ne-eqb _ 0 (c .if1 .left)) (refl, refl)
@@ -49,15 +27,5 @@ returns-2 c = rw (ne-eqb _ 0 (c .if1 .left)) (refl, refl)
 pub put-spec : {M : Type 1} → statement M
 put-spec =
     tie.close
-    (tie.spec
-    cast-i
-    quadrant-word-requires
-    add20-requires
-    mul-s
-    index-1-s
-    index-2-s
-    returns
-    mul-s-2
-    index-1-s-2
-    index-2-s-2
-    returns-2)
+    (tie.spec (λ c. search needs) quadrant-word-requires add20-requires (λ c. search needs) (λ c. search needs)
+    (λ c. search needs) returns (λ c. search needs) (λ c. search needs) (λ c. search needs) returns-2)

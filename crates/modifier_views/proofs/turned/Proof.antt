@@ -5,9 +5,6 @@ use Rattle.modifier_views.specs.Views.{turnBeside}
 use Rattle.modifier_views.proofs.turned.Statement.{statement}
 use Rattle.modifier_views.proofs.turned.Tie as tie
 
-index-1-late : tie.Need-index-1-late
-index-1-late c = search needs
-
 look-requires : tie.Need-look-requires
 look-requires c κs = search needs
 
@@ -46,14 +43,5 @@ returns-2 c =
 pub turned-spec : {M : Type 1} → statement M
 turned-spec =
     tie.close
-    (tie.spec
-    index-1-late
-    look-requires
-    function-requires
-    reads-late-requires
-    look-requires-2
-    turn-requires
-    returns
-    look-requires-3
-    turn-requires-2
-    returns-2)
+    (tie.spec (λ c. search needs) look-requires function-requires reads-late-requires look-requires-2 turn-requires
+    returns look-requires-3 turn-requires-2 returns-2)

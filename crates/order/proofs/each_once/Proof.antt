@@ -24,12 +24,6 @@ loop-holds c =
     let s = c .before in
     (omega arith, marks-once (s .args .t) (s .args .order .now) (s .pre .0) (s .pre .1))
 
-mul-mark : tie.Need-mul-mark Inv-loop μ-loop
-mul-mark c = omega arith
-
-shared-slice-read-mark : tie.Need-shared-slice-read-mark Inv-loop μ-loop
-shared-slice-read-mark c = omega arith
-
 mark-requires : tie.Need-mark-requires Inv-loop μ-loop
 mark-requires c κs = omega arith
 
@@ -39,12 +33,6 @@ returns c =
     let a = z .before .before .args in
     let e = sym (c .before .mark .ensures .0) ∙ not-true _ (c .if1 .taken) in
     sym (unmarked-stop (a .t) (z .loop .marks) (a .order .now) (z .loop .i) (omega arith) e) ∙ z .loop .inv .1
-
-add-i : tie.Need-add-i Inv-loop μ-loop
-add-i c = omega arith
-
-loop-less : tie.Need-loop-less Inv-loop μ-loop
-loop-less c = omega arith
 
 loop-again : tie.Need-loop-again Inv-loop μ-loop
 loop-again c =
@@ -64,15 +52,5 @@ returns-2 c =
 pub each-once-spec : {M : Type 1} → statement M
 each-once-spec =
     tie.close
-    (tie.spec
-    Inv-loop
-    μ-loop
-    loop-holds
-    mul-mark
-    shared-slice-read-mark
-    mark-requires
-    returns
-    add-i
-    loop-less
-    loop-again
-    returns-2)
+    (tie.spec Inv-loop μ-loop loop-holds (λ c. omega arith) (λ c. omega arith) mark-requires returns (λ c. omega arith)
+    (λ c. omega arith) loop-again returns-2)

@@ -65,12 +65,6 @@ add-writes c =
     let counted = one m (z .loop .g) writeData (c .before .before .run-mode .ensures) (c .is-mode2 .ensures) in
     omega (arith, fits m writeData (z .loop .g + 1) _ (next m writeData (z .loop .g) _ _ (z .loop .inv .2) counted))
 
-add-g : tie.Need-add-g Inv-loop μ-loop
-add-g c = omega arith
-
-loop-less : tie.Need-loop-less Inv-loop μ-loop
-loop-less c = omega arith
-
 loop-again : tie.Need-loop-again Inv-loop μ-loop
 loop-again c =
     let z = c .before .before .before .before in
@@ -92,17 +86,5 @@ returns c =
 pub in-modes-spec : {M : Type 1} → statement M
 in-modes-spec =
     tie.close
-    (tie.spec
-    Inv-loop
-    μ-loop
-    ticks-requires
-    loop-holds
-    run-mode-requires
-    is-mode-requires
-    add-reads
-    is-mode-requires-2
-    add-writes
-    add-g
-    loop-less
-    loop-again
-    returns)
+    (tie.spec Inv-loop μ-loop ticks-requires loop-holds run-mode-requires is-mode-requires add-reads is-mode-requires-2
+    add-writes (λ c. omega arith) (λ c. omega arith) loop-again returns)

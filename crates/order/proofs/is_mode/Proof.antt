@@ -12,11 +12,9 @@ number : (b : Bool) → boolByte b ≡ cond b 1 0
 number true = refl
 number false = refl
 
-cast-result : tie.Need-cast-result
-cast-result c = search needs
-
 returns : tie.Need-returns
 returns c = number (eqb (c .args .run) (c .args .mode))
 
 pub is-mode-spec : {M : Type 1} → statement M
-is-mode-spec = tie.close (tie.spec cast-result returns)
+is-mode-spec = tie.close
+    (tie.spec (λ c. search needs) returns)

@@ -11,18 +11,12 @@ returns : tie.Need-returns
 unfolding unmarked marked
 returns c = (rw (le-ltb _ _ (c .if1 .taken)) refl, rw (le-ltb _ _ (c .if1 .taken)) refl)
 
-element-copy-out-if2 : tie.Need-element-copy-out-if2
-element-copy-out-if2 c = search needs
-
 returns-2 : tie.Need-returns-2
 unfolding unmarked marked
 returns-2 c =
     let low = lt-ltb _ _ (c .before .before .if1 .left) in
     let there = ne-eqb _ _ (c .if2 .taken) in
     (rw (low, there) refl, rw (low, there) refl)
-
-element-write-marks : tie.Need-element-write-marks
-element-write-marks c = search needs
 
 returns-3 : tie.Need-returns-3
 unfolding unmarked marked
@@ -33,4 +27,5 @@ returns-3 c =
 
 pub mark-spec : {M : Type 1} → statement M
 mark-spec =
-    tie.close (tie.spec returns element-copy-out-if2 returns-2 element-write-marks returns-3)
+    tie.close
+    (tie.spec returns (λ c. search needs) returns-2 (λ c. search needs) returns-3)

@@ -38,9 +38,7 @@ first-failing-requires c κs =
     let o₂ = a .second .now in
     (b .pre .0, (b .pre .1, (both-places m o₁ o₂ e f, (both-fed m o₁ o₂ e f, (both-written m o₁ o₂ e f, (both-replaced m o₁ o₂ e f, writes-of m o₁ e))))))
 
-returns : tie.Need-returns
-returns c = search needs
-
 pub first-point-spec : {M : Type 1} → statement M
 first-point-spec =
-    tie.close (tie.spec trace-requires trace-requires-2 first-failing-requires returns)
+    tie.close
+    (tie.spec trace-requires trace-requires-2 first-failing-requires (λ c. search needs))

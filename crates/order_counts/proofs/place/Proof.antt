@@ -2,8 +2,7 @@
 -- Assumes nothing.
 use native.Mathlib.Omega.{arith}
 use mathlib.Core.Path.{sym, _∙_}
-use borrow.Author.Tests.{not-true, not-false}
-use Rattle.order_counts.proofs.Places.{Placed, reader-place, adder-place, writer-place, feeder-place, other-place}
+use Rattle.order_counts.proofs.Places.{reader-place, adder-place, writer-place, feeder-place, other-place}
 use borrow.Author.Needs.{needs}
 use Rattle.order_counts.proofs.place.Statement.{statement}
 use Rattle.order_counts.proofs.place.Tie as tie
@@ -13,9 +12,6 @@ run-mode-requires c κs = search needs
 
 gsum-requires : tie.Need-gsum-requires
 gsum-requires c κs = search needs
-
-add-result : tie.Need-add-result
-add-result c = search needs
 
 returns : tie.Need-returns
 returns c =
@@ -58,9 +54,6 @@ gfm-requires c κs = search needs
 wide-requires : tie.Need-wide-requires
 wide-requires c κs = search needs
 
-add-result-3 : tie.Need-add-result-3
-add-result-3 c = search needs
-
 returns-3 : tie.Need-returns-3
 returns-3 c =
     let read = c .before in
@@ -80,20 +73,11 @@ returns-3 c =
 dac-number-requires : tie.Need-dac-number-requires
 dac-number-requires c κs = search needs
 
-mul-result : tie.Need-mul-result
-mul-result c = search needs
-
-add-result-4 : tie.Need-add-result-4
-add-result-4 c = search needs
-
 gfm-requires-2 : tie.Need-gfm-requires-2
 gfm-requires-2 c κs = search needs
 
 wide-requires-2 : tie.Need-wide-requires-2
 wide-requires-2 c κs = search needs
-
-add-result-5 : tie.Need-add-result-5
-add-result-5 c = search needs
 
 returns-4 : tie.Need-returns-4
 returns-4 c =
@@ -130,24 +114,6 @@ returns-5 c =
 pub place-spec : {M : Type 1} → statement M
 place-spec =
     tie.close
-    (tie.spec
-    run-mode-requires
-    gsum-requires
-    add-result
-    returns
-    adding-requires
-    gsum-requires-2
-    add-result-2
-    returns-2
-    gfm-requires
-    wide-requires
-    add-result-3
-    returns-3
-    dac-number-requires
-    mul-result
-    add-result-4
-    gfm-requires-2
-    wide-requires-2
-    add-result-5
-    returns-4
-    returns-5)
+    (tie.spec run-mode-requires gsum-requires (λ c. search needs) returns adding-requires gsum-requires-2 add-result-2
+    returns-2 gfm-requires wide-requires (λ c. search needs) returns-3 dac-number-requires (λ c. search needs)
+    (λ c. search needs) gfm-requires-2 wide-requires-2 (λ c. search needs) returns-4 returns-5)

@@ -22,10 +22,7 @@ returns c =
 read-lines-requires : tie.Need-read-lines-requires
 read-lines-requires c κs = sym (c .before .ended .ensures) ∙ not-false _ (c .if1 .left)
 
-returns-2 : tie.Need-returns-2
-returns-2 c = search needs
-
 pub read-spec : {M : Type 1} → statement M
 read-spec =
     tie.close
-    (tie.spec ended-requires no-order-file-requires returns read-lines-requires returns-2)
+    (tie.spec ended-requires no-order-file-requires returns read-lines-requires (λ c. search needs))

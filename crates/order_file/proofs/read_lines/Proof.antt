@@ -47,23 +47,11 @@ find-requires c κs = search needs
 add-read-entry : tie.Need-add-read-entry Inv-loop μ-loop
 add-read-entry c = omega (arith, short (c .before .before), line-end c)
 
-sub-read-entry : tie.Need-sub-read-entry Inv-loop μ-loop
-sub-read-entry c = omega arith
-
-part-read-entry-start : tie.Need-part-read-entry-start Inv-loop μ-loop
-part-read-entry-start c = omega arith
-
 part-read-entry-end : tie.Need-part-read-entry-end Inv-loop μ-loop
 part-read-entry-end c = omega (arith, line-end c)
 
 read-entry-requires : tie.Need-read-entry-requires Inv-loop μ-loop
 read-entry-requires c κs = search needs
-
-enum-known-g : tie.Need-enum-known-g Inv-loop μ-loop
-enum-known-g c = search needs
-
-enum-told : tie.Need-enum-told Inv-loop μ-loop
-enum-told c = search needs
 
 no-order-file-requires : tie.Need-no-order-file-requires Inv-loop μ-loop
 no-order-file-requires c κs = search needs
@@ -103,15 +91,6 @@ returns-2 c =
     (turn .loop-test .taken)
     (found .find .ensures ∙ ap (bytesBefore (code "\n")) (found .before .after .ensures))
     (full .if1 .taken)
-
-mul-entries : tie.Need-mul-entries Inv-loop μ-loop
-mul-entries c = omega arith
-
-array-write-entries : tie.Need-array-write-entries Inv-loop μ-loop
-array-write-entries c = omega arith
-
-add-count : tie.Need-add-count Inv-loop μ-loop
-add-count c = omega arith
 
 add-at : tie.Need-add-at Inv-loop μ-loop
 add-at c =
@@ -154,28 +133,7 @@ returns-3 c = lines.ends _ (c .before .loop .inv) (c .loop-test .left)
 pub read-lines-spec : {M : Type 1} → statement M
 read-lines-spec =
     tie.close
-    (tie.spec
-    Inv-loop
-    μ-loop
-    loop-holds
-    after-requires
-    find-requires
-    add-read-entry
-    sub-read-entry
-    part-read-entry-start
-    part-read-entry-end
-    read-entry-requires
-    enum-known-g
-    enum-told
-    no-order-file-requires
-    returns
-    no-order-file-requires-2
-    returns-2
-    mul-entries
-    array-write-entries
-    add-count
-    add-at
-    add-at-2
-    loop-less
-    loop-again
-    returns-3)
+    (tie.spec Inv-loop μ-loop loop-holds after-requires find-requires add-read-entry (λ c. omega arith)
+    (λ c. omega arith) part-read-entry-end read-entry-requires (λ c. search needs) (λ c. search needs)
+    no-order-file-requires returns no-order-file-requires-2 returns-2 (λ c. omega arith) (λ c. omega arith)
+    (λ c. omega arith) add-at add-at-2 loop-less loop-again returns-3)

@@ -51,9 +51,6 @@ returns-2 c =
     no-replaced (a .m .now) sides (a .last .now) (a .marks .now) (a .g) (mode .run-mode .ensures) (sym (on .adding .ensures) ∙ not-false _ (adds .if1 .left))
     (word .gsum .ensures) (last .wide .ensures) (c .if2 .taken)
 
-sub-same-side : tie.Need-sub-same-side
-sub-same-side c = search needs
-
 same-side-requires : tie.Need-same-side-requires
 same-side-requires c κs =
     let last = c .before in
@@ -101,17 +98,5 @@ returns-4 c =
 pub adder-spec : {M : Type 1} → statement M
 adder-spec =
     tie.close
-    (tie.spec
-    run-mode-requires
-    adding-requires
-    returns
-    gsum-requires
-    mul-wide
-    element-copy-out-wide
-    wide-requires
-    returns-2
-    sub-same-side
-    same-side-requires
-    returns-3
-    element-write-marks
-    returns-4)
+    (tie.spec run-mode-requires adding-requires returns gsum-requires mul-wide element-copy-out-wide wide-requires
+    returns-2 (λ c. search needs) same-side-requires returns-3 element-write-marks returns-4)

@@ -31,12 +31,6 @@ adder-requires c κs =
     let b = z .before .before .before in
     (b .pre .0, (b .pre .1 .0, omega (arith, z .before .ticks .ensures, b .pre .0 .ticks)))
 
-add-g : tie.Need-add-g Inv-loop μ-loop
-add-g c = omega arith
-
-loop-less : tie.Need-loop-less Inv-loop μ-loop
-loop-less c = omega arith
-
 loop-again : tie.Need-loop-again Inv-loop μ-loop
 loop-again c =
     let z = c .before .before .before in
@@ -55,13 +49,5 @@ returns c =
 pub adders-spec : {M : Type 1} → statement M
 adders-spec =
     tie.close
-    (tie.spec
-    Inv-loop
-    μ-loop
-    ticks-requires
-    loop-holds
-    adder-requires
-    add-g
-    loop-less
-    loop-again
+    (tie.spec Inv-loop μ-loop ticks-requires loop-holds adder-requires (λ c. omega arith) (λ c. omega arith) loop-again
     returns)

@@ -40,12 +40,6 @@ returns c =
     (sym (c .before .neighbour-same .ensures) ∙ not-true _ (c .if1 .taken)))
     ∙ neighbours-held (a .m .now) (a .first .now) (a .second .now) (b .pre .0) (b .pre .1 .0) (b .pre .1 .1)
 
-add-g : tie.Need-add-g Inv-loop μ-loop
-add-g c = omega arith
-
-loop-less : tie.Need-loop-less Inv-loop μ-loop
-loop-less c = omega arith
-
 loop-again : tie.Need-loop-again Inv-loop μ-loop
 loop-again c =
     let z = c .before .before .before in
@@ -68,14 +62,5 @@ returns-2 c =
 pub neighbour-point-spec : {M : Type 1} → statement M
 neighbour-point-spec =
     tie.close
-    (tie.spec
-    Inv-loop
-    μ-loop
-    ticks-requires
-    loop-holds
-    neighbour-same-requires
-    returns
-    add-g
-    loop-less
-    loop-again
-    returns-2)
+    (tie.spec Inv-loop μ-loop ticks-requires loop-holds neighbour-same-requires returns (λ c. omega arith)
+    (λ c. omega arith) loop-again returns-2)

@@ -35,12 +35,6 @@ returns c =
     sym (failing-here (wordBy first second (a .marks .now)) (z .loop .w) quadrantWords (omega arith) (z .loop .inv .1)
     (sym (c .before .word-same .ensures) ∙ not-true _ (c .if1 .taken)))
 
-add-w : tie.Need-add-w Inv-loop μ-loop
-add-w c = omega arith
-
-loop-less : tie.Need-loop-less Inv-loop μ-loop
-loop-less c = omega arith
-
 loop-again : tie.Need-loop-again Inv-loop μ-loop
 loop-again c =
     let z = c .before .before .before in
@@ -60,13 +54,5 @@ returns-2 c =
 pub words-spec : {M : Type 1} → statement M
 words-spec =
     tie.close
-    (tie.spec
-    Inv-loop
-    μ-loop
-    loop-holds
-    word-same-requires
-    returns
-    add-w
-    loop-less
-    loop-again
+    (tie.spec Inv-loop μ-loop loop-holds word-same-requires returns (λ c. omega arith) (λ c. omega arith) loop-again
     returns-2)

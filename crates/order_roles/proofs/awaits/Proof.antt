@@ -19,9 +19,6 @@ returns-2 c =
     let a = some .before .before .args in
     no-wait (a .m .now) (a .g) (some .if1 .left) (mode .run-mode .ensures) (c .if2 .taken)
 
-sub-run-mode : tie.Need-sub-run-mode
-sub-run-mode c = search needs
-
 run-mode-requires-2 : tie.Need-run-mode-requires-2
 run-mode-requires-2 c κs = search needs
 
@@ -40,11 +37,4 @@ returns-3 c =
 pub awaits-spec : {M : Type 1} → statement M
 awaits-spec =
     tie.close
-    (tie.spec
-    returns
-    run-mode-requires
-    returns-2
-    sub-run-mode
-    run-mode-requires-2
-    triggering-requires
-    returns-3)
+    (tie.spec returns run-mode-requires returns-2 (λ c. search needs) run-mode-requires-2 triggering-requires returns-3)

@@ -5,17 +5,11 @@ use borrow.Author.Needs.{needs}
 use Rattle.order_rule.proofs.alike.Statement.{statement}
 use Rattle.order_rule.proofs.alike.Tie as tie
 
-element-copy-out-result : tie.Need-element-copy-out-result
-element-copy-out-result c = search needs
-
 feeders-share-requires : tie.Need-feeders-share-requires
 feeders-share-requires c κs = search needs
 
 share-one-requires : tie.Need-share-one-requires
 share-one-requires c κs = search needs
-
-element-copy-out-result-2 : tie.Need-element-copy-out-result-2
-element-copy-out-result-2 c = search needs
 
 words-apart-requires : tie.Need-words-apart-requires
 words-apart-requires c κs = search needs
@@ -30,10 +24,5 @@ returns c =
 pub alike-spec : {M : Type 1} → statement M
 alike-spec =
     tie.close
-    (tie.spec
-    element-copy-out-result
-    feeders-share-requires
-    share-one-requires
-    element-copy-out-result-2
-    words-apart-requires
+    (tie.spec (λ c. search needs) feeders-share-requires share-one-requires (λ c. search needs) words-apart-requires
     returns)

@@ -20,12 +20,6 @@ abbrev μ-loop : tie.MeasureT-loop
 loop-holds : tie.Need-loop-holds Inv-loop μ-loop
 loop-holds c = (omega arith, λ j l. absurd (omega arith))
 
-mul-share-one : tie.Need-mul-share-one Inv-loop μ-loop
-mul-share-one c = omega arith
-
-add-share-one : tie.Need-add-share-one Inv-loop μ-loop
-add-share-one c = omega arith
-
 share-one-requires : tie.Need-share-one-requires Inv-loop μ-loop
 share-one-requires c κs = omega arith
 
@@ -34,12 +28,6 @@ returns c =
     let asked = c .before in
     let z = asked .before .before in
     fed-apart (z .before .args .counts .now) (z .loop .d) (omega arith) (sym (asked .share-one .ensures) ∙ not-true _ (c .if1 .taken))
-
-add-d : tie.Need-add-d Inv-loop μ-loop
-add-d c = omega arith
-
-loop-less : tie.Need-loop-less Inv-loop μ-loop
-loop-less c = omega arith
 
 loop-again : tie.Need-loop-again Inv-loop μ-loop
 loop-again c =
@@ -54,15 +42,5 @@ returns-2 c = let z = c .before in fed-alike (z .before .args .counts .now) (z .
 pub feeders-share-spec : {M : Type 1} → statement M
 feeders-share-spec =
     tie.close
-    (tie.spec
-    Inv-loop
-    μ-loop
-    loop-holds
-    mul-share-one
-    add-share-one
-    share-one-requires
-    returns
-    add-d
-    loop-less
-    loop-again
-    returns-2)
+    (tie.spec Inv-loop μ-loop loop-holds (λ c. omega arith) (λ c. omega arith) share-one-requires returns
+    (λ c. omega arith) (λ c. omega arith) loop-again returns-2)

@@ -39,12 +39,6 @@ returns c =
     sym (failing-here (adderOn (a .m .now) sides (a .w) (a .l)) (z .loop .g) (ticksOf (a .m .now)) (omega (arith, z .before .ticks .ensures)) (z .loop .inv .1)
     (sym (asked .adder-same .ensures) ∙ not-true _ (c .if1 .taken)))
 
-add-g : tie.Need-add-g Inv-loop μ-loop
-add-g c = omega arith
-
-loop-less : tie.Need-loop-less Inv-loop μ-loop
-loop-less c = omega arith
-
 loop-again : tie.Need-loop-again Inv-loop μ-loop
 loop-again c =
     let asked = c .before in
@@ -66,14 +60,5 @@ returns-2 c =
 pub adder-point-spec : {M : Type 1} → statement M
 adder-point-spec =
     tie.close
-    (tie.spec
-    Inv-loop
-    μ-loop
-    ticks-requires
-    loop-holds
-    adder-same-requires
-    returns
-    add-g
-    loop-less
-    loop-again
-    returns-2)
+    (tie.spec Inv-loop μ-loop ticks-requires loop-holds adder-same-requires returns (λ c. omega arith)
+    (λ c. omega arith) loop-again returns-2)

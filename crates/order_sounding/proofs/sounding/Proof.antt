@@ -7,12 +7,6 @@ use Rattle.order_sounding.proofs.FailingWord.{some-last, last-within, a
 use Rattle.order_sounding.proofs.sounding.Statement.{statement}
 use Rattle.order_sounding.proofs.sounding.Tie as tie
 
-mul-wide : tie.Need-mul-wide
-mul-wide c = search needs
-
-element-copy-out-wide : tie.Need-element-copy-out-wide
-element-copy-out-wide c = search needs
-
 wide-requires : tie.Need-wide-requires
 wide-requires c κs = search needs
 
@@ -25,18 +19,6 @@ sub-l c =
     let held = b .pre .1 .1 .1 in
     some-last (a .m .now) (a .first .now) (a .second .now) (b .pre .0) (b .pre .1 .0) {r₁ = first} {r₂ = second} (held .0) (a .w) (held .1) (c .wide .ensures)
 
-mul-if1 : tie.Need-mul-if1
-mul-if1 c = search needs
-
-element-copy-out-if1 : tie.Need-element-copy-out-if1
-element-copy-out-if1 c = search needs
-
-mul-if1-2 : tie.Need-mul-if1-2
-mul-if1-2 c = search needs
-
-element-copy-out-if1-2 : tie.Need-element-copy-out-if1-2
-element-copy-out-if1-2 c = search needs
-
 returns : tie.Need-returns
 returns c =
     let l = c .before .before .before in
@@ -46,18 +28,6 @@ returns c =
     let second : Replaced = record { last = a .last2 .now; among = a .among2 .now } in
     let held = b .pre .1 .1 .1 in
     another-last (a .m .now) (a .first .now) (a .second .now) (b .pre .0) (b .pre .1 .0) {r₁ = first} {r₂ = second} (held .0) (a .w) (held .1) (l .wide .ensures) (c .if1 .taken)
-
-mul-if2 : tie.Need-mul-if2
-mul-if2 c = search needs
-
-element-copy-out-if2 : tie.Need-element-copy-out-if2
-element-copy-out-if2 c = search needs
-
-mul-if2-2 : tie.Need-mul-if2-2
-mul-if2-2 c = search needs
-
-element-copy-out-if2-2 : tie.Need-element-copy-out-if2-2
-element-copy-out-if2-2 c = search needs
 
 returns-2 : tie.Need-returns-2
 returns-2 c =
@@ -95,20 +65,6 @@ returns-3 c =
 pub sounding-spec : {M : Type 1} → statement M
 sounding-spec =
     tie.close
-    (tie.spec
-    mul-wide
-    element-copy-out-wide
-    wide-requires
-    sub-l
-    mul-if1
-    element-copy-out-if1
-    mul-if1-2
-    element-copy-out-if1-2
-    returns
-    mul-if2
-    element-copy-out-if2
-    mul-if2-2
-    element-copy-out-if2-2
-    returns-2
-    adder-point-requires
-    returns-3)
+    (tie.spec (λ c. search needs) (λ c. search needs) wide-requires sub-l (λ c. search needs) (λ c. search needs)
+    (λ c. search needs) (λ c. search needs) returns (λ c. search needs) (λ c. search needs) (λ c. search needs)
+    (λ c. search needs) returns-2 adder-point-requires returns-3)

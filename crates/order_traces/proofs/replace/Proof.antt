@@ -9,12 +9,6 @@ use Rattle.order_traces.proofs.replace.Tie as tie
 gsum-requires : tie.Need-gsum-requires
 gsum-requires c κs = search needs
 
-add-last : tie.Need-add-last
-add-last c = search needs
-
-cast-last : tie.Need-cast-last
-cast-last c = search needs
-
 mul-last : tie.Need-mul-last
 mul-last c =
     let b = c .before .before in
@@ -24,9 +18,6 @@ element-write-last : tie.Need-element-write-last
 element-write-last c =
     let b = c .before .before in
     omega (arith, c .gsum .ensures, b .pre .0 .gsums (b .args .g) (b .pre .1 .0))
-
-cast-among : tie.Need-cast-among
-cast-among c = search needs
 
 mul-among : tie.Need-mul-among
 mul-among c =
@@ -44,13 +35,5 @@ returns c = rw (c .gsum .ensures) refl
 pub replace-spec : {M : Type 1} → statement M
 replace-spec =
     tie.close
-    (tie.spec
-    gsum-requires
-    add-last
-    cast-last
-    mul-last
-    element-write-last
-    cast-among
-    mul-among
-    element-write-among
-    returns)
+    (tie.spec gsum-requires (λ c. search needs) (λ c. search needs) mul-last element-write-last (λ c. search needs)
+    mul-among element-write-among returns)

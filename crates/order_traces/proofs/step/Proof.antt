@@ -6,12 +6,6 @@ use Rattle.order_traces.proofs.Steps.{step-feeds, step-writes, step-rep
 use Rattle.order_traces.proofs.step.Statement.{statement}
 use Rattle.order_traces.proofs.step.Tie as tie
 
-cast-place : tie.Need-cast-place
-cast-place c = search needs
-
-element-write-place : tie.Need-element-write-place
-element-write-place c = search needs
-
 run-mode-requires : tie.Need-run-mode-requires
 run-mode-requires c κs = search needs
 
@@ -20,12 +14,6 @@ dac-number-requires c κs = search needs
 
 gfm-requires : tie.Need-gfm-requires
 gfm-requires c κs = search needs
-
-mul-fed : tie.Need-mul-fed
-mul-fed c = search needs
-
-element-write-fed : tie.Need-element-write-fed
-element-write-fed c = search needs
 
 returns : tie.Need-returns
 returns c =
@@ -39,15 +27,6 @@ returns c =
 gfm-requires-2 : tie.Need-gfm-requires-2
 gfm-requires-2 c κs = search needs
 
-mul-written : tie.Need-mul-written
-mul-written c = search needs
-
-element-write-written : tie.Need-element-write-written
-element-write-written c = search needs
-
-add-t23 : tie.Need-add-t23
-add-t23 c = search needs
-
 returns-2 : tie.Need-returns-2
 returns-2 c =
     let taken = c .before in
@@ -58,9 +37,6 @@ returns-2 c =
 
 replace-requires : tie.Need-replace-requires
 replace-requires c κs = search needs
-
-add-t29 : tie.Need-add-t29
-add-t29 c = search needs
 
 returns-3 : tie.Need-returns-3
 returns-3 c =
@@ -82,21 +58,6 @@ returns-4 c =
 pub step-spec : {M : Type 1} → statement M
 step-spec =
     tie.close
-    (tie.spec
-    cast-place
-    element-write-place
-    run-mode-requires
-    dac-number-requires
-    gfm-requires
-    mul-fed
-    element-write-fed
-    returns
-    gfm-requires-2
-    mul-written
-    element-write-written
-    add-t23
-    returns-2
-    replace-requires
-    add-t29
-    returns-3
-    returns-4)
+    (tie.spec (λ c. search needs) (λ c. search needs) run-mode-requires dac-number-requires gfm-requires
+    (λ c. search needs) (λ c. search needs) returns gfm-requires-2 (λ c. search needs) (λ c. search needs)
+    (λ c. search needs) returns-2 replace-requires (λ c. search needs) returns-3 returns-4)

@@ -25,12 +25,6 @@ loop-holds c =
     let b = c .before .before in
     (omega arith, traced-none (b .args .m .now) (b .args .order .now) (b .pre .1 .1), omega arith, omega arith)
 
-mul-wide : tie.Need-mul-wide Inv-loop μ-loop
-mul-wide c = omega arith
-
-shared-slice-read-wide : tie.Need-shared-slice-read-wide Inv-loop μ-loop
-shared-slice-read-wide c = omega arith
-
 wide-requires : tie.Need-wide-requires Inv-loop μ-loop
 wide-requires c κs = tt
 
@@ -48,12 +42,6 @@ step-requires c κs =
         omega (arith, z .loop .inv .3, b .pre .0 .ticks, b .pre .1 .0 .entries),
       ),
     )
-
-add-i : tie.Need-add-i Inv-loop μ-loop
-add-i c = omega arith
-
-loop-less : tie.Need-loop-less Inv-loop μ-loop
-loop-less c = omega arith
 
 loop-again : tie.Need-loop-again Inv-loop μ-loop
 loop-again c =
@@ -81,15 +69,5 @@ returns c =
 pub trace-spec : {M : Type 1} → statement M
 trace-spec =
     tie.close
-    (tie.spec
-    Inv-loop
-    μ-loop
-    loop-holds
-    mul-wide
-    shared-slice-read-wide
-    wide-requires
-    step-requires
-    add-i
-    loop-less
-    loop-again
-    returns)
+    (tie.spec Inv-loop μ-loop loop-holds (λ c. omega arith) (λ c. omega arith) wide-requires step-requires
+    (λ c. omega arith) (λ c. omega arith) loop-again returns)

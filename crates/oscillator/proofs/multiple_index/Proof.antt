@@ -11,11 +11,9 @@ use Rattle.oscillator.proofs.multiple_index.Tie as tie
 mul-result : tie.Need-mul-result
 mul-result c = omega (arith, product-fits (c .pre .0) (c .pre .1))
 
-mul-result-2 : tie.Need-mul-result-2
-mul-result-2 c = search needs
-
 returns : tie.Need-returns
 returns c = ap (λ (n : ℕ). 2 * n) (multiple-is _ _ (c .pre .0))
 
 pub multiple-index-spec : {M : Type 1} → statement M
-multiple-index-spec = tie.close (tie.spec mul-result mul-result-2 returns)
+multiple-index-spec = tie.close
+    (tie.spec mul-result (λ c. search needs) returns)

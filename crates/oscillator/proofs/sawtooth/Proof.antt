@@ -11,12 +11,10 @@ returns : tie.Need-returns
 unfolding valueOf
 returns c = record { is = saw-low _ (c .before .pre) (c .if1 .taken); bit = omega arith; low = omega arith }
 
-sub-t3 : tie.Need-sub-t3
-sub-t3 c = search needs
-
 returns-2 : tie.Need-returns-2
 unfolding valueOf
 returns-2 c = record { is = saw-high _ (c .before .pre) (c .if1 .left); bit = omega arith; low = omega arith }
 
 pub sawtooth-spec : {M : Type 1} → statement M
-sawtooth-spec = tie.close (tie.spec returns sub-t3 returns-2)
+sawtooth-spec = tie.close
+    (tie.spec returns (λ c. search needs) returns-2)

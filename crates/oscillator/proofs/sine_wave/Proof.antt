@@ -9,9 +9,6 @@ use Rattle.oscillator.proofs.sine_wave.Tie as tie
 magnitude-requires : tie.Need-magnitude-requires
 magnitude-requires c κs = search needs
 
-shr-magnitude : tie.Need-shr-magnitude
-shr-magnitude c = search needs
-
 sign-requires : tie.Need-sign-requires
 sign-requires c κs = search needs
 
@@ -25,4 +22,5 @@ returns c =
     }
 
 pub sine-wave-spec : {M : Type 1} → statement M
-sine-wave-spec = tie.close (tie.spec magnitude-requires shr-magnitude sign-requires returns)
+sine-wave-spec = tie.close
+    (tie.spec magnitude-requires (λ c. search needs) sign-requires returns)

@@ -16,9 +16,6 @@ magnitude-requires c κs = (c .before .pre .0, rw (c .multiple-index .ensures) (
 magnitude-requires-2 : tie.Need-magnitude-requires-2
 magnitude-requires-2 c κs = search needs
 
-shl-below : tie.Need-shl-below
-shl-below c = search needs
-
 smaller-requires : tie.Need-smaller-requires
 smaller-requires c κs = search needs
 
@@ -60,15 +57,5 @@ returns c =
 pub sum-of-cosines-spec : {M : Type 1} → statement M
 sum-of-cosines-spec =
     tie.close
-    (tie.spec
-    multiple-index-requires
-    magnitude-requires
-    magnitude-requires-2
-    shl-below
-    smaller-requires
-    mul-magnitude
-    div-magnitude
-    sign-requires
-    sign-requires-2
-    add-sign
-    returns)
+    (tie.spec multiple-index-requires magnitude-requires magnitude-requires-2 (λ c. search needs) smaller-requires
+    mul-magnitude div-magnitude sign-requires sign-requires-2 add-sign returns)

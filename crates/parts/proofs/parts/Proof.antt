@@ -9,12 +9,6 @@ use Rattle.parts.proofs.parts.Tie as tie
 refusal-requires : tie.Need-refusal-requires
 refusal-requires c κs = search needs
 
-same-length : tie.Need-same-length
-same-length c = search needs
-
-same-length-2 : tie.Need-same-length-2
-same-length-2 c = search needs
-
 returns : tie.Need-returns
 returns c =
     let asked = c .before in
@@ -29,12 +23,6 @@ first-point-requires c κs =
     let a = known .before .before .args in
     let p = is-ready (a .m .now) (a .first .now) (a .second .now) (a .contents .now) (a .items .now) (sym (asked .refusal .ensures) ∙ c .if1 .left) in
     (p .traceable, p .ordered)
-
-same-length-3 : tie.Need-same-length-3
-same-length-3 c = search needs
-
-same-length-4 : tie.Need-same-length-4
-same-length-4 c = search needs
 
 returns-2 : tie.Need-returns-2
 returns-2 c =
@@ -73,12 +61,6 @@ items-requires c κs =
     let p = is-ready (a .m .now) (a .first .now) (a .second .now) (a .contents .now) (a .items .now) (sym (asked .refusal .ensures) ∙ passed .if1 .left) in
     rw (counted .in-modes .ensures .0) (p .items-enough)
 
-same-length-5 : tie.Need-same-length-5
-same-length-5 c = search needs
-
-same-length-6 : tie.Need-same-length-6
-same-length-6 c = search needs
-
 returns-3 : tie.Need-returns-3
 returns-3 c =
     let listed = c .before .before in
@@ -96,18 +78,6 @@ returns-3 c =
 pub parts-spec : {M : Type 1} → statement M
 parts-spec =
     tie.close
-    (tie.spec
-    refusal-requires
-    same-length
-    same-length-2
-    returns
-    first-point-requires
-    same-length-3
-    same-length-4
-    returns-2
-    in-modes-requires
-    contents-requires
-    items-requires
-    same-length-5
-    same-length-6
-    returns-3)
+    (tie.spec refusal-requires (λ c. search needs) (λ c. search needs) returns first-point-requires (λ c. search needs)
+    (λ c. search needs) returns-2 in-modes-requires contents-requires items-requires (λ c. search needs)
+    (λ c. search needs) returns-3)

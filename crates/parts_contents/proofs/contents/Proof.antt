@@ -9,9 +9,6 @@ use Rattle.parts_contents.proofs.contents.Tie as tie
 triggering-requires : tie.Need-triggering-requires
 triggering-requires c κs = search needs
 
-same-length : tie.Need-same-length
-same-length c = search needs
-
 returns : tie.Need-returns
 unfolding contentsFor
 returns c =
@@ -20,9 +17,6 @@ returns c =
 
 sounding-requires : tie.Need-sounding-requires
 sounding-requires c κs = search needs
-
-same-length-2 : tie.Need-same-length-2
-same-length-2 c = search needs
 
 returns-2 : tie.Need-returns-2
 unfolding contentsFor
@@ -34,9 +28,6 @@ returns-2 c =
 sending-requires : tie.Need-sending-requires
 sending-requires c κs = search needs
 
-same-length-3 : tie.Need-same-length-3
-same-length-3 c = search needs
-
 returns-3 : tie.Need-returns-3
 unfolding contentsFor
 returns-3 c =
@@ -47,13 +38,5 @@ returns-3 c =
 pub contents-spec : {M : Type 1} → statement M
 contents-spec =
     tie.close
-    (tie.spec
-    triggering-requires
-    same-length
-    returns
-    sounding-requires
-    same-length-2
-    returns-2
-    sending-requires
-    same-length-3
-    returns-3)
+    (tie.spec triggering-requires (λ c. search needs) returns sounding-requires (λ c. search needs) returns-2
+    sending-requires (λ c. search needs) returns-3)

@@ -8,14 +8,8 @@ use Rattle.parts_contents.proofs.inactive.Tie as tie
 copy-requires : tie.Need-copy-requires
 copy-requires c κs = search needs
 
-add-fill : tie.Need-add-fill
-add-fill c = search needs
-
 fill-requires : tie.Need-fill-requires
 fill-requires c κs = search needs
-
-same-length : tie.Need-same-length
-same-length c = search needs
 
 returns : tie.Need-returns
 unfolding inactiveModifiers
@@ -25,4 +19,5 @@ returns c =
     rw (← (copied .copy .ensures)) (filled .fill .ensures)
 
 pub inactive-spec : {M : Type 1} → statement M
-inactive-spec = tie.close (tie.spec copy-requires add-fill fill-requires same-length returns)
+inactive-spec = tie.close
+    (tie.spec copy-requires (λ c. search needs) fill-requires (λ c. search needs) returns)

@@ -9,9 +9,6 @@ use Rattle.parts_contents.proofs.items.Tie as tie
 number-requires : tie.Need-number-requires
 number-requires c κs = search needs
 
-same-length : tie.Need-same-length
-same-length c = search needs
-
 returns : tie.Need-returns
 returns c =
     let numbered = c .before .before in
@@ -22,9 +19,6 @@ returns c =
 fill-requires : tie.Need-fill-requires
 fill-requires c κs = search needs
 
-same-length-2 : tie.Need-same-length-2
-same-length-2 c = search needs
-
 returns-2 : tie.Need-returns-2
 returns-2 c =
     let filled = c .before .before in
@@ -34,4 +28,5 @@ returns-2 c =
 
 pub items-spec : {M : Type 1} → statement M
 items-spec =
-    tie.close (tie.spec number-requires same-length returns fill-requires same-length-2 returns-2)
+    tie.close
+    (tie.spec number-requires (λ c. search needs) returns fill-requires (λ c. search needs) returns-2)

@@ -14,9 +14,6 @@ fill-requires c κs = search needs
 fill-requires-2 : tie.Need-fill-requires-2
 fill-requires-2 c κs = search needs
 
-same-length : tie.Need-same-length
-same-length c = search needs
-
 returns : tie.Need-returns
 unfolding onesLast
 returns c =
@@ -27,4 +24,5 @@ returns c =
 
 pub ones-spec : {M : Type 1} → statement M
 ones-spec =
-    tie.close (tie.spec inactive-requires fill-requires fill-requires-2 same-length returns)
+    tie.close
+    (tie.spec inactive-requires fill-requires fill-requires-2 (λ c. search needs) returns)

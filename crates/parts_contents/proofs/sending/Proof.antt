@@ -14,9 +14,6 @@ number-requires c κs = search needs
 number-requires-2 : tie.Need-number-requires-2
 number-requires-2 c κs = search needs
 
-same-length : tie.Need-same-length
-same-length c = search needs
-
 returns : tie.Need-returns
 returns c =
     let second = c .before .before in
@@ -26,4 +23,5 @@ returns c =
 
 pub sending-spec : {M : Type 1} → statement M
 sending-spec =
-    tie.close (tie.spec inactive-requires number-requires number-requires-2 same-length returns)
+    tie.close
+    (tie.spec inactive-requires number-requires number-requires-2 (λ c. search needs) returns)

@@ -26,9 +26,6 @@ fill-requires-4 c κs = search needs
 fill-requires-5 : tie.Need-fill-requires-5
 fill-requires-5 c κs = search needs
 
-same-length : tie.Need-same-length
-same-length c = search needs
-
 returns : tie.Need-returns
 unfolding soundingContents
 returns c =
@@ -45,13 +42,5 @@ returns c =
 pub sounding-spec : {M : Type 1} → statement M
 sounding-spec =
     tie.close
-    (tie.spec
-    ones-requires
-    levels-requires
-    fill-requires
-    fill-requires-2
-    fill-requires-3
-    fill-requires-4
-    fill-requires-5
-    same-length
-    returns)
+    (tie.spec ones-requires levels-requires fill-requires fill-requires-2 fill-requires-3 fill-requires-4
+    fill-requires-5 (λ c. search needs) returns)

@@ -11,14 +11,8 @@ inactive-requires c κs = search needs
 fill-requires : tie.Need-fill-requires
 fill-requires c κs = search needs
 
-sub-fill : tie.Need-sub-fill
-sub-fill c = search needs
-
 fill-requires-2 : tie.Need-fill-requires-2
 fill-requires-2 c κs = search needs
-
-same-length : tie.Need-same-length
-same-length c = search needs
 
 returns : tie.Need-returns
 unfolding triggeringContents
@@ -31,4 +25,4 @@ returns c =
 pub triggering-spec : {M : Type 1} → statement M
 triggering-spec =
     tie.close
-    (tie.spec inactive-requires fill-requires sub-fill fill-requires-2 same-length returns)
+    (tie.spec inactive-requires fill-requires (λ c. search needs) fill-requires-2 (λ c. search needs) returns)

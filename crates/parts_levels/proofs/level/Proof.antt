@@ -6,23 +6,8 @@ use Rattle.parts_levels.proofs.SilentLevels.{sounds-here, silent-here}
 use Rattle.parts_levels.proofs.level.Statement.{statement}
 use Rattle.parts_levels.proofs.level.Tie as tie
 
-mul-silent-level : tie.Need-mul-silent-level
-mul-silent-level c = search needs
-
-add-silent-level : tie.Need-add-silent-level
-add-silent-level c = search needs
-
-mul-silent-level-2 : tie.Need-mul-silent-level-2
-mul-silent-level-2 c = search needs
-
-shared-slice-read-silent-level : tie.Need-shared-slice-read-silent-level
-shared-slice-read-silent-level c = search needs
-
 silent-level-requires : tie.Need-silent-level-requires
 silent-level-requires c κs = search needs
-
-add-result : tie.Need-add-result
-add-result c = omega (arith, c .before .silent-level .ensures .1)
 
 returns : tie.Need-returns
 returns c =
@@ -39,12 +24,5 @@ returns-2 c =
 pub level-spec : {M : Type 1} → statement M
 level-spec =
     tie.close
-    (tie.spec
-    mul-silent-level
-    add-silent-level
-    mul-silent-level-2
-    shared-slice-read-silent-level
-    silent-level-requires
-    add-result
-    returns
-    returns-2)
+    (tie.spec (λ c. search needs) (λ c. search needs) (λ c. search needs) (λ c. search needs) silent-level-requires
+    (λ c. omega (arith, c .before .silent-level .ensures .1)) returns returns-2)

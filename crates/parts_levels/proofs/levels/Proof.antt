@@ -27,12 +27,6 @@ level-requires c κs =
     let z = c .before in
     (z .before .before .before .pre .0, omega arith)
 
-mul-run : tie.Need-mul-run Inv-loop μ-loop
-mul-run c = omega arith
-
-add-run : tie.Need-add-run Inv-loop μ-loop
-add-run c = omega arith
-
 mul-run-2 : tie.Need-mul-run-2 Inv-loop μ-loop
 mul-run-2 c =
     let z = c .before .before in
@@ -43,12 +37,6 @@ slice-write-run c =
     let z = c .before .before in
     omega (arith, z .loop .inv .2, z .before .before .before .pre .1)
 
-add-g : tie.Need-add-g Inv-loop μ-loop
-add-g c = omega arith
-
-loop-less : tie.Need-loop-less Inv-loop μ-loop
-loop-less c = omega arith
-
 loop-again : tie.Need-loop-again Inv-loop μ-loop
 loop-again c =
     let z = c .before .before in
@@ -57,9 +45,6 @@ loop-again c =
       rw (c .level .ensures) (filled-next GL generatorWords (z .loop .g) (soundingLevel (a .m .now) (a .s)) (a .run .now) (z .loop .inv .1)),
       length-set (z .loop .run) (GL + generatorWords * z .loop .g) _ ∙ z .loop .inv .2,
     )
-
-same-length : tie.Need-same-length Inv-loop μ-loop
-same-length c = c .before .loop .inv .2
 
 returns : tie.Need-returns Inv-loop μ-loop
 returns c =
@@ -70,17 +55,5 @@ returns c =
 pub levels-spec : {M : Type 1} → statement M
 levels-spec =
     tie.close
-    (tie.spec
-    Inv-loop
-    μ-loop
-    loop-holds
-    level-requires
-    mul-run
-    add-run
-    mul-run-2
-    slice-write-run
-    add-g
-    loop-less
-    loop-again
-    same-length
-    returns)
+    (tie.spec Inv-loop μ-loop loop-holds level-requires (λ c. omega arith) (λ c. omega arith) mul-run-2 slice-write-run
+    (λ c. omega arith) (λ c. omega arith) loop-again (λ c. c .before .loop .inv .2) returns)

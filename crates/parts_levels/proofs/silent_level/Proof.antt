@@ -6,14 +6,9 @@ use Rattle.parts_levels.proofs.SilentLevels.{linear-level}
 use Rattle.parts_levels.proofs.silent_level.Statement.{statement}
 use Rattle.parts_levels.proofs.silent_level.Tie as tie
 
-returns : tie.Need-returns
-returns c = search needs
-
-returns-2 : tie.Need-returns-2
-returns-2 c = search needs
-
 returns-3 : tie.Need-returns-3
 returns-3 c = (linear-level (c .before .before .args .mode) (c .before .before .pre) (c .before .if1 .left) (c .if2 .left), lit< tt)
 
 pub silent-level-spec : {M : Type 1} → statement M
-silent-level-spec = tie.close (tie.spec returns returns-2 returns-3)
+silent-level-spec = tie.close
+    (tie.spec (λ c. search needs) (λ c. search needs) returns-3)

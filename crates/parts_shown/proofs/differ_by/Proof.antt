@@ -10,29 +10,11 @@ use borrow.Author.Needs.{needs}
 use Rattle.parts_shown.proofs.differ_by.Statement.{statement}
 use Rattle.parts_shown.proofs.differ_by.Tie as tie
 
-slice-aggregate-pass-by : tie.Need-slice-aggregate-pass-by
-slice-aggregate-pass-by c = search needs
-
-slice-aggregate-pass-by-2 : tie.Need-slice-aggregate-pass-by-2
-slice-aggregate-pass-by-2 c = search needs
-
 pass-by-requires : tie.Need-pass-by-requires
 pass-by-requires c κs = search needs
 
-slice-aggregate-pass-by-3 : tie.Need-slice-aggregate-pass-by-3
-slice-aggregate-pass-by-3 c = search needs
-
-slice-aggregate-pass-by-4 : tie.Need-slice-aggregate-pass-by-4
-slice-aggregate-pass-by-4 c = search needs
-
 pass-by-requires-2 : tie.Need-pass-by-requires-2
 pass-by-requires-2 c κs = search needs
-
-slice-aggregate-first-different : tie.Need-slice-aggregate-first-different
-slice-aggregate-first-different c = search needs
-
-slice-aggregate-first-different-2 : tie.Need-slice-aggregate-first-different-2
-slice-aggregate-first-different-2 c = search needs
 
 first-different-requires : tie.Need-first-different-requires
 first-different-requires c κs = search needs
@@ -107,20 +89,7 @@ returns-2 c =
 pub differ-by-spec : {M : Type 1} → statement M
 differ-by-spec =
     tie.close
-    (tie.spec
-    slice-aggregate-pass-by
-    slice-aggregate-pass-by-2
-    pass-by-requires
-    slice-aggregate-pass-by-3
-    slice-aggregate-pass-by-4
-    pass-by-requires-2
-    slice-aggregate-first-different
-    slice-aggregate-first-different-2
-    first-different-requires
-    returns
-    array-share-prefix-places
-    slice-aggregate-first-different-3
-    array-share-prefix-other-places
-    slice-aggregate-first-different-4
-    first-different-requires-2
-    returns-2)
+    (tie.spec (λ c. search needs) (λ c. search needs) pass-by-requires (λ c. search needs) (λ c. search needs)
+    pass-by-requires-2 (λ c. search needs) (λ c. search needs) first-different-requires returns
+    array-share-prefix-places slice-aggregate-first-different-3 array-share-prefix-other-places
+    slice-aggregate-first-different-4 first-different-requires-2 returns-2)

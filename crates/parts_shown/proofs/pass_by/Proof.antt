@@ -10,17 +10,8 @@ use Rattle.parts_shown.proofs.pass_by.Tie as tie
 copy-requires : tie.Need-copy-requires
 copy-requires c κs = search needs
 
-slice-aggregate-pass : tie.Need-slice-aggregate-pass
-slice-aggregate-pass c = search needs
-
 pass-requires : tie.Need-pass-requires
 pass-requires c κs = search needs
-
-same-length : tie.Need-same-length
-same-length c = search needs
-
-same-length-2 : tie.Need-same-length-2
-same-length-2 c = search needs
 
 returns : tie.Need-returns
 unfolding zeros
@@ -34,4 +25,4 @@ returns c =
 pub pass-by-spec : {M : Type 1} → statement M
 pass-by-spec =
     tie.close
-    (tie.spec copy-requires slice-aggregate-pass pass-requires same-length same-length-2 returns)
+    (tie.spec copy-requires (λ c. search needs) pass-requires (λ c. search needs) (λ c. search needs) returns)

@@ -12,15 +12,6 @@ use Rattle.pass.proofs.pass.Tie as tie
 refusal-requires : tie.Need-refusal-requires
 refusal-requires c κs = search needs
 
-same-length : tie.Need-same-length
-same-length c = search needs
-
-same-length-2 : tie.Need-same-length-2
-same-length-2 c = search needs
-
-same-length-3 : tie.Need-same-length-3
-same-length-3 c = search needs
-
 returns : tie.Need-returns
 unfolding passOf refused zeros
 returns c = rw (← (c .before .refusal .ensures), ne-eqb _ 0 (c .if1 .taken))
@@ -45,15 +36,6 @@ run-requires c κs =
     let p = passes m call (sym (asked .refusal .ensures) ∙ let-through .if1 .left) in
     (is-ready m (p .whole), (are-numbers m o (p .whole) (p .ordered), (few-ticks m o (p .whole), (sine .table .ensures, decay .table2 .ensures))))
 
-same-length-4 : tie.Need-same-length-4
-same-length-4 c = c .before .before .before .before .before .before .run .kept .0
-
-same-length-5 : tie.Need-same-length-5
-same-length-5 c = c .before .before .before .before .before .before .run .kept .1 .1 .1 .0
-
-same-length-6 : tie.Need-same-length-6
-same-length-6 c = c .before .before .before .before .before .before .run .kept .1 .1 .1 .1 .0
-
 returns-2 : tie.Need-returns-2
 unfolding passOf
 returns-2 c =
@@ -66,16 +48,7 @@ returns-2 c =
 pub pass-spec : {M : Type 1} → statement M
 pass-spec =
     tie.close
-    (tie.spec
-    refusal-requires
-    same-length
-    same-length-2
-    same-length-3
-    returns
-    table-requires
-    table-requires-2
-    run-requires
-    same-length-4
-    same-length-5
-    same-length-6
-    returns-2)
+    (tie.spec refusal-requires (λ c. search needs) (λ c. search needs) (λ c. search needs) returns table-requires
+    table-requires-2 run-requires (λ c. c .before .before .before .before .before .before .run .kept .0)
+    (λ c. c .before .before .before .before .before .before .run .kept .1 .1 .1 .0)
+    (λ c. c .before .before .before .before .before .before .run .kept .1 .1 .1 .1 .0) returns-2)

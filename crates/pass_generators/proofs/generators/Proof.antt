@@ -38,12 +38,6 @@ loop-holds c =
     let start = c .before .before .before .before .before in
     (omega arith, refl, refl, start .pre .0, omega arith, omega arith, refl, refl)
 
-mul-wide : tie.Need-mul-wide Inv-loop μ-loop
-mul-wide c = omega arith
-
-shared-slice-read-wide : tie.Need-shared-slice-read-wide Inv-loop μ-loop
-shared-slice-read-wide c = omega arith
-
 wide-requires : tie.Need-wide-requires Inv-loop μ-loop
 wide-requires c κs = search needs
 
@@ -64,12 +58,6 @@ step-requires c κs =
         ),
       ),
     )
-
-add-i : tie.Need-add-i Inv-loop μ-loop
-add-i c = omega arith
-
-loop-less : tie.Need-loop-less Inv-loop μ-loop
-loop-less c = omega arith
 
 loop-again : tie.Need-loop-again Inv-loop μ-loop
 loop-again c =
@@ -95,12 +83,6 @@ loop-again c =
       marks-on items _ s _ _ _ more (entry .wide .ensures) (taken .step .ensures .0) (taken .step .ensures .1) ∙ l .inv .7,
     )
 
-same-length : tie.Need-same-length Inv-loop μ-loop
-same-length c = c .before .loop .inv .1
-
-same-length-2 : tie.Need-same-length-2 Inv-loop μ-loop
-same-length-2 c = c .before .loop .inv .2
-
 returns : tie.Need-returns Inv-loop μ-loop
 returns c =
     let z = c .before in
@@ -109,18 +91,6 @@ returns c =
 pub generators-spec : {M : Type 1} → statement M
 generators-spec =
     tie.close
-    (tie.spec
-    Inv-loop
-    μ-loop
-    table-requires
-    loop-holds
-    mul-wide
-    shared-slice-read-wide
-    wide-requires
-    step-requires
-    add-i
-    loop-less
-    loop-again
-    same-length
-    same-length-2
-    returns)
+    (tie.spec Inv-loop μ-loop table-requires loop-holds (λ c. omega arith) (λ c. omega arith) wide-requires
+    step-requires (λ c. omega arith) (λ c. omega arith) loop-again (λ c. c .before .loop .inv .1)
+    (λ c. c .before .loop .inv .2) returns)

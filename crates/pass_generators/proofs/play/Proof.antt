@@ -24,9 +24,6 @@ hear-requires c κs =
     let start = played .before .before .before in
     (start .pre .1 .0 .gsum-low, rw (played .play .ensures) (p-low _ _), start .pre .1 .1 .1 .1 .2)
 
-same-length : tie.Need-same-length
-same-length c = search needs
-
 returns : tie.Need-returns
 returns c =
     let mark = c .before .before .before in
@@ -38,10 +35,4 @@ returns c =
 pub play-spec : {M : Type 1} → statement M
 play-spec =
     tie.close
-    (tie.spec
-    play-requires
-    put-generator-at-requires
-    mark-requires
-    hear-requires
-    same-length
-    returns)
+    (tie.spec play-requires put-generator-at-requires mark-requires hear-requires (λ c. search needs) returns)

@@ -13,9 +13,6 @@ use Rattle.pass_generators.proofs.step.Tie as tie
 generator-at-requires : tie.Need-generator-at-requires
 generator-at-requires c κs = search needs
 
-same-length : tie.Need-same-length
-same-length c = search needs
-
 returns : tie.Need-returns
 returns c =
     let unit = c .before .before in
@@ -52,9 +49,6 @@ play-requires c κs =
       ),
     )
 
-same-length-2 : tie.Need-same-length-2
-same-length-2 c = search needs
-
 returns-2 : tie.Need-returns-2
 returns-2 c =
     let played = c .before .before in
@@ -86,9 +80,6 @@ wait-requires c κs =
       ),
     )
 
-same-length-3 : tie.Need-same-length-3
-same-length-3 c = search needs
-
 returns-3 : tie.Need-returns-3
 returns-3 c =
     let wait = c .before .before in
@@ -110,12 +101,6 @@ send-requires c κs =
     let start = unit .before .before .before .before .before in
     (start .pre .0, start .pre .1 .1 .1 .2)
 
-same-length-4 : tie.Need-same-length-4
-same-length-4 c = search needs
-
-same-length-5 : tie.Need-same-length-5
-same-length-5 c = search needs
-
 returns-4 : tie.Need-returns-4
 returns-4 c =
     let send = c .before .before .before .before in
@@ -134,19 +119,6 @@ returns-4 c =
 pub step-spec : {M : Type 1} → statement M
 step-spec =
     tie.close
-    (tie.spec
-    generator-at-requires
-    same-length
-    returns
-    f-at-requires
-    switches-of-requires
-    play-requires
-    same-length-2
-    returns-2
-    wait-requires
-    same-length-3
-    returns-3
-    send-requires
-    same-length-4
-    same-length-5
-    returns-4)
+    (tie.spec generator-at-requires (λ c. search needs) returns f-at-requires switches-of-requires play-requires
+    (λ c. search needs) returns-2 wait-requires (λ c. search needs) returns-3 send-requires (λ c. search needs)
+    (λ c. search needs) returns-4)

@@ -12,9 +12,6 @@ wait-requires c κs = search needs
 put-generator-at-requires : tie.Need-put-generator-at-requires
 put-generator-at-requires c κs = search needs
 
-same-length : tie.Need-same-length
-same-length c = search needs
-
 returns : tie.Need-returns
 returns c =
     let put = c .before .before in
@@ -23,4 +20,5 @@ returns c =
 
 pub wait-spec : {M : Type 1} → statement M
 wait-spec =
-    tie.close (tie.spec told-requires wait-requires put-generator-at-requires same-length returns)
+    tie.close
+    (tie.spec told-requires wait-requires put-generator-at-requires (λ c. search needs) returns)

@@ -18,12 +18,6 @@ Inv-loop m₀ s₀ memory₀ t n early₀ first msums₀ lefts₀ k₀ m s memor
 abbrev μ-loop : tie.MeasureT-loop
 μ-loop m₀ s₀ memory₀ t n early₀ first msums₀ lefts₀ k₀ m s memory early msums lefts k = n - k
 
-element-copy-out-early : tie.Need-element-copy-out-early Inv-loop μ-loop
-element-copy-out-early c = search needs
-
-array-read-first : tie.Need-array-read-first Inv-loop μ-loop
-array-read-first c = search needs
-
 loop-holds : tie.Need-loop-holds Inv-loop μ-loop
 unfolding lagged
 loop-holds c = (omega arith, refl, refl, refl)
@@ -33,12 +27,6 @@ step-requires c κs =
     let called = c .before .before .before in
     let z = called .before .before .before .before in
     (same-reach (z .loop .inv .1) (z .before .before .before .before .pre .0), omega arith)
-
-add-k : tie.Need-add-k Inv-loop μ-loop
-add-k c = search needs
-
-loop-less : tie.Need-loop-less Inv-loop μ-loop
-loop-less c = search needs
 
 loop-again : tie.Need-loop-again Inv-loop μ-loop
 loop-again c =
@@ -52,12 +40,6 @@ loop-again c =
       lagged-on (a .t) (record { words = a .m .now; memory = a .memory .now }) (a .s .now) (z .loop .k) (p .step .ensures) (z .loop .inv .3),
     )
 
-same-length : tie.Need-same-length Inv-loop μ-loop
-same-length c = search needs
-
-same-length-2 : tie.Need-same-length-2 Inv-loop μ-loop
-same-length-2 c = search needs
-
 returns : tie.Need-returns Inv-loop μ-loop
 returns c =
     let z = c .before in
@@ -67,16 +49,5 @@ returns c =
 pub modifiers-spec : {M : Type 1} → statement M
 modifiers-spec =
     tie.close
-    (tie.spec
-    Inv-loop
-    μ-loop
-    element-copy-out-early
-    array-read-first
-    loop-holds
-    step-requires
-    add-k
-    loop-less
-    loop-again
-    same-length
-    same-length-2
-    returns)
+    (tie.spec Inv-loop μ-loop (λ c. search needs) (λ c. search needs) loop-holds step-requires (λ c. search needs)
+    (λ c. search needs) loop-again (λ c. search needs) (λ c. search needs) returns)

@@ -11,13 +11,11 @@ turned-requires c κs = search needs
 put-modifier-at-requires : tie.Need-put-modifier-at-requires
 put-modifier-at-requires c κs = search needs
 
-same-length : tie.Need-same-length
-same-length c = search needs
-
 returns : tie.Need-returns
 returns c =
     let p = c .before .before in
     rw (p .put-modifier-at .ensures, p .before .before .before .turned .ensures) (refl, refl)
 
 pub plain-spec : {M : Type 1} → statement M
-plain-spec = tie.close (tie.spec turned-requires put-modifier-at-requires same-length returns)
+plain-spec = tie.close
+    (tie.spec turned-requires put-modifier-at-requires (λ c. search needs) returns)

@@ -24,24 +24,6 @@ put-requires c κs =
     let u = t .before .before .before .before .before in
     rw (t .taken .ensures .0, u .modifier-at .ensures) (turn-seen-low _ _ _ _ _ _ .s-low)
 
-mul-msums : tie.Need-mul-msums
-mul-msums c = search needs
-
-element-write-msums : tie.Need-element-write-msums
-element-write-msums c = search needs
-
-mul-lefts : tie.Need-mul-lefts
-mul-lefts c = search needs
-
-element-write-lefts : tie.Need-element-write-lefts
-element-write-lefts c = search needs
-
-same-length : tie.Need-same-length
-same-length c = search needs
-
-same-length-2 : tie.Need-same-length-2
-same-length-2 c = search needs
-
 returns : tie.Need-returns
 unfolding lagStep
 returns c =
@@ -52,15 +34,5 @@ returns c =
 pub step-spec : {M : Type 1} → statement M
 step-spec =
     tie.close
-    (tie.spec
-    catch-up-requires
-    modifier-at-requires
-    taken-requires
-    put-requires
-    mul-msums
-    element-write-msums
-    mul-lefts
-    element-write-lefts
-    same-length
-    same-length-2
-    returns)
+    (tie.spec catch-up-requires modifier-at-requires taken-requires put-requires (λ c. search needs) (λ c. search needs)
+    (λ c. search needs) (λ c. search needs) (λ c. search needs) (λ c. search needs) returns)

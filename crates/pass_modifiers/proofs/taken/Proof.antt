@@ -11,9 +11,6 @@ function-requires c κs = search needs
 invoking-requires : tie.Need-invoking-requires
 invoking-requires c κs = search needs
 
-index-1-late : tie.Need-index-1-late
-index-1-late c = search needs
-
 look-requires : tie.Need-look-requires
 look-requires c κs = search needs
 
@@ -27,12 +24,6 @@ invoked-requires c κs =
       (start .pre .1 .0, (start .pre .1 .1, (is-invoking (start .args .u) (i .before .function .ensures) (i .invoking .ensures) (t .if1 .taken), l .look .ensures .low))),
     )
 
-same-length : tie.Need-same-length
-same-length c = search needs
-
-same-length-2 : tie.Need-same-length-2
-same-length-2 c = search needs
-
 returns : tie.Need-returns
 returns c =
     let d = c .before .before .before .before in
@@ -45,9 +36,6 @@ returns c =
 plain-requires : tie.Need-plain-requires
 plain-requires c κs = search needs
 
-same-length-3 : tie.Need-same-length-3
-same-length-3 c = search needs
-
 returns-2 : tie.Need-returns-2
 returns-2 c =
     let p = c .before .before in
@@ -59,15 +47,5 @@ returns-2 c =
 pub taken-spec : {M : Type 1} → statement M
 taken-spec =
     tie.close
-    (tie.spec
-    function-requires
-    invoking-requires
-    index-1-late
-    look-requires
-    invoked-requires
-    same-length
-    same-length-2
-    returns
-    plain-requires
-    same-length-3
-    returns-2)
+    (tie.spec function-requires invoking-requires (λ c. search needs) look-requires invoked-requires (λ c. search needs)
+    (λ c. search needs) returns plain-requires (λ c. search needs) returns-2)

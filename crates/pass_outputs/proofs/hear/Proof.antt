@@ -33,9 +33,6 @@ leaves20-requires c κs = search needs
 mark-left-requires-2 : tie.Need-mark-left-requires-2
 mark-left-requires-2 c κs = search needs
 
-add-result : tie.Need-add-result
-add-result c = search needs
-
 returns-2 : tie.Need-returns-2
 unfolding heard heardLeaves
 returns-2 c =
@@ -52,14 +49,5 @@ returns-2 c =
 pub hear-spec : {M : Type 1} → statement M
 hear-spec =
     tie.close
-    (tie.spec
-    add-requires
-    mark-left-requires
-    returns
-    word-at-requires
-    add20-requires
-    replace-requires
-    leaves20-requires
-    mark-left-requires-2
-    add-result
-    returns-2)
+    (tie.spec add-requires mark-left-requires returns word-at-requires add20-requires replace-requires leaves20-requires
+    mark-left-requires-2 (λ c. search needs) returns-2)

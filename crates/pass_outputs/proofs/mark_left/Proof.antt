@@ -7,12 +7,6 @@ use borrow.Author.Needs.{needs}
 use Rattle.pass_outputs.proofs.mark_left.Statement.{statement}
 use Rattle.pass_outputs.proofs.mark_left.Tie as tie
 
-cast-i : tie.Need-cast-i
-cast-i c = search needs
-
-element-write-clipped : tie.Need-element-write-clipped
-element-write-clipped c = search needs
-
 returns : tie.Need-returns
 unfolding markedAt
 returns c =
@@ -25,4 +19,5 @@ unfolding markedAt
 returns-2 c = rw (c .if1 .left)
 
 pub mark-left-spec : {M : Type 1} → statement M
-mark-left-spec = tie.close (tie.spec cast-i element-write-clipped returns returns-2)
+mark-left-spec = tie.close
+    (tie.spec (λ c. search needs) (λ c. search needs) returns returns-2)

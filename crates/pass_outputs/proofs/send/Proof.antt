@@ -6,33 +6,12 @@ use borrow.Author.Needs.{needs}
 use Rattle.pass_outputs.proofs.send.Statement.{statement}
 use Rattle.pass_outputs.proofs.send.Tie as tie
 
-add-at : tie.Need-add-at
-add-at c = search needs
-
-cast-at : tie.Need-cast-at
-cast-at c = search needs
-
-mul-m : tie.Need-mul-m
-mul-m c = search needs
-
-slice-write-m : tie.Need-slice-write-m
-slice-write-m c = search needs
-
-same-length : tie.Need-same-length
-same-length c = search needs
-
 returns : tie.Need-returns
 unfolding sent
 returns c = rw (c .before .if1 .taken)
 
 put-requires : tie.Need-put-requires
 put-requires c κs = search needs
-
-add-result : tie.Need-add-result
-add-result c = search needs
-
-same-length-2 : tie.Need-same-length-2
-same-length-2 c = search needs
 
 returns-2 : tie.Need-returns-2
 unfolding sent
@@ -47,15 +26,5 @@ returns-3 c = rw (ne-eqb _ 2 (c .before .if1 .left), ne-eqb _ 3 (c .if2 .left))
 pub send-spec : {M : Type 1} → statement M
 send-spec =
     tie.close
-    (tie.spec
-    cast-at
-    add-at
-    mul-m
-    slice-write-m
-    same-length
-    returns
-    put-requires
-    add-result
-    same-length-2
-    returns-2
-    returns-3)
+    (tie.spec (λ c. search needs) (λ c. search needs) (λ c. search needs) (λ c. search needs) (λ c. search needs)
+    returns put-requires (λ c. search needs) (λ c. search needs) returns-2 returns-3)

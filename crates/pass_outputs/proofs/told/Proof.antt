@@ -9,12 +9,10 @@ returns : tie.Need-returns
 unfolding told
 returns c = rw (lt-leb 1 _ (c .if1 .taken))
 
-element-copy-out-result : tie.Need-element-copy-out-result
-element-copy-out-result c = search needs
-
 returns-2 : tie.Need-returns-2
 unfolding told
 returns-2 c = rw (le-leb 1 _ (c .before .if1 .left))
 
 pub told-spec : {M : Type 1} → statement M
-told-spec = tie.close (tie.spec returns element-copy-out-result returns-2)
+told-spec = tie.close
+    (tie.spec returns (λ c. search needs) returns-2)

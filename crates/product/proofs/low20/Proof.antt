@@ -28,11 +28,9 @@ cast-result : tie.Need-cast-result
 cast-result c =
     subst⁻¹ (λ (z : ℤ). T (nonNeg z) × Fits w64 (natAbs z)) (number-is c) (tt, record { fits = omega (arith, up-le (c .args .z)) })
 
-cast-result-2 : tie.Need-cast-result-2
-cast-result-2 c = search needs
-
 returns : tie.Need-returns
 returns c = ap (λ (z : ℤ). natAbs z % 2 ^ 20) (number-is c) ∙ low-offset 20 (2 ^ 22) (c .args .z) (c .pre)
 
 pub low20-spec : {M : Type 1} → statement M
-low20-spec = tie.close (tie.spec add-result cast-result cast-result-2 returns)
+low20-spec = tie.close
+    (tie.spec add-result cast-result (λ c. search needs) returns)

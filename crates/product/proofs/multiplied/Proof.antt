@@ -5,12 +5,6 @@ use Rattle.product.proofs.Integers.{is-fits, kept, scale, exact, at-sca
 use Rattle.product.proofs.multiplied.Statement.{statement}
 use Rattle.product.proofs.multiplied.Tie as tie
 
-cast-k : tie.Need-cast-k
-cast-k c = search needs
-
-shl-k : tie.Need-shl-k
-shl-k c = search needs
-
 cast-k-2 : tie.Need-cast-k-2
 cast-k-2 c = is-fits (scale _ (c .pre .0)) tt
 
@@ -39,4 +33,6 @@ returns c =
     tt .same
 
 pub multiplied-spec : {M : Type 1} → statement M
-multiplied-spec = tie.close (tie.spec cast-k shl-k cast-k-2 value20-requires value20-requires-2 mul-result mul-result-2 returns)
+multiplied-spec = tie.close
+    (tie.spec (λ c. search needs) (λ c. search needs) cast-k-2 value20-requires value20-requires-2 mul-result
+    mul-result-2 returns)

@@ -8,9 +8,6 @@ use Rattle.product.proofs.value20.Tie as tie
 biased20-requires : tie.Need-biased20-requires
 biased20-requires c κs = search needs
 
-cast-result : tie.Need-cast-result
-cast-result c = search needs
-
 sub-result : tie.Need-sub-result
 sub-result c = is-fits (unbiased _ _ (c .before .pre) (c .biased20 .ensures .0) (c .biased20 .ensures .1)) tt
 
@@ -18,4 +15,5 @@ returns : tie.Need-returns
 returns c = kept (unbiased _ _ (c .before .pre) (c .biased20 .ensures .0) (c .biased20 .ensures .1)) tt .same
 
 pub value20-spec : {M : Type 1} → statement M
-value20-spec = tie.close (tie.spec biased20-requires cast-result sub-result returns)
+value20-spec = tie.close
+    (tie.spec biased20-requires (λ c. search needs) sub-result returns)

@@ -15,45 +15,21 @@ read-requires c κs = search needs
 refuse-requires : tie.Need-refuse-requires
 refuse-requires c κs = search needs
 
-returns : tie.Need-returns
-returns c = search needs
-
 slice-aggregate-ring-all : tie.Need-slice-aggregate-ring-all
 slice-aggregate-ring-all c =
     let file = c .before .before .before in
     read-whole (file .before .before .before .before .args .text .now) (replicate machineLength 0) (replicate commandPlaces 0) (length-replicate {A = ℕ} machineLength 0) (file .read .ensures)
-
-sub-ring-all : tie.Need-sub-ring-all
-sub-ring-all c = search needs
-
-part-ring-all-start : tie.Need-part-ring-all-start
-part-ring-all-start c = search needs
 
 part-ring-all-end : tie.Need-part-ring-all-end
 part-ring-all-end c =
     let file = c .before .before .before .before in
     read-within (file .before .before .before .before .args .text .now) (replicate machineLength 0) (replicate commandPlaces 0) (length-replicate {A = ℕ} commandPlaces 0) (file .read .ensures)
 
-slice-aggregate-ring-all-2 : tie.Need-slice-aggregate-ring-all-2
-slice-aggregate-ring-all-2 c = search needs
-
 ring-all-requires : tie.Need-ring-all-requires
 ring-all-requires c κs = search needs
-
-returns-2 : tie.Need-returns-2
-returns-2 c = search needs
 
 pub ring-spec : {M : Type 1} → statement M
 ring-spec =
     tie.close
-    (tie.spec
-    read-requires
-    refuse-requires
-    returns
-    slice-aggregate-ring-all
-    sub-ring-all
-    part-ring-all-start
-    part-ring-all-end
-    slice-aggregate-ring-all-2
-    ring-all-requires
-    returns-2)
+    (tie.spec read-requires refuse-requires (λ c. search needs) slice-aggregate-ring-all (λ c. search needs)
+    (λ c. search needs) part-ring-all-end (λ c. search needs) ring-all-requires (λ c. search needs))

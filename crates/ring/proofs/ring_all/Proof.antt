@@ -30,9 +30,6 @@ same-length-2 c =
     let part = c .before .before .before .before .before .before in
     part .ring-part .kept .1 .1 .1 .0 ∙ part .before .before .before .before .before .loop .inv .1
 
-returns : tie.Need-returns Inv-loop μ-loop
-returns c = search needs
-
 loop-less : tie.Need-loop-less Inv-loop μ-loop
 loop-less c =
     let next = c .before in
@@ -48,28 +45,8 @@ loop-again c =
     let turn = part .before .before .before .before .before in
     (part .ring-part .kept .1 .0 ∙ turn .loop .inv .0, part .ring-part .kept .1 .1 .1 .0 ∙ turn .loop .inv .1)
 
-same-length-3 : tie.Need-same-length-3 Inv-loop μ-loop
-same-length-3 c = c .before .before .loop .inv .0
-
-same-length-4 : tie.Need-same-length-4 Inv-loop μ-loop
-same-length-4 c = c .before .before .loop .inv .1
-
-returns-2 : tie.Need-returns-2 Inv-loop μ-loop
-returns-2 c = search needs
-
 pub ring-all-spec : {M : Type 1} → statement M
 ring-all-spec =
     tie.close
-    (tie.spec
-    Inv-loop
-    μ-loop
-    loop-holds
-    ring-part-requires
-    same-length
-    same-length-2
-    returns
-    loop-less
-    loop-again
-    same-length-3
-    same-length-4
-    returns-2)
+    (tie.spec Inv-loop μ-loop loop-holds ring-part-requires same-length same-length-2 (λ c. search needs) loop-less
+    loop-again (λ c. c .before .before .loop .inv .0) (λ c. c .before .before .loop .inv .1) (λ c. search needs))

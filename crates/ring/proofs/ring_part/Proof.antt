@@ -7,17 +7,8 @@ use borrow.Author.Needs.{needs}
 use Rattle.ring.proofs.ring_part.Statement.{statement}
 use Rattle.ring.proofs.ring_part.Tie as tie
 
-slice-aggregate-gather : tie.Need-slice-aggregate-gather
-slice-aggregate-gather c = search needs
-
 gather-requires : tie.Need-gather-requires
 gather-requires c κs = search needs
-
-sub-write-all : tie.Need-sub-write-all
-sub-write-all c = search needs
-
-part-write-all-start : tie.Need-part-write-all-start
-part-write-all-start c = search needs
 
 part-write-all-end : tie.Need-part-write-all-end
 part-write-all-end c =
@@ -29,25 +20,8 @@ part-write-all-end c =
 write-all-requires : tie.Need-write-all-requires
 write-all-requires c κs = search needs
 
-same-length : tie.Need-same-length
-same-length c = search needs
-
-same-length-2 : tie.Need-same-length-2
-same-length-2 c = search needs
-
-returns : tie.Need-returns
-returns c = search needs
-
 pub ring-part-spec : {M : Type 1} → statement M
 ring-part-spec =
     tie.close
-    (tie.spec
-    slice-aggregate-gather
-    gather-requires
-    sub-write-all
-    part-write-all-start
-    part-write-all-end
-    write-all-requires
-    same-length
-    same-length-2
-    returns)
+    (tie.spec (λ c. search needs) gather-requires (λ c. search needs) (λ c. search needs) part-write-all-end
+    write-all-requires (λ c. search needs) (λ c. search needs) (λ c. search needs))

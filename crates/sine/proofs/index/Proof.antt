@@ -5,17 +5,9 @@ use Rattle.sine.proofs.Fold.{fold-index}
 use Rattle.sine.proofs.index.Statement.{statement}
 use Rattle.sine.proofs.index.Tie as tie
 
-cast-j : tie.Need-cast-j
-cast-j c = search needs
-
-cast-backwards : tie.Need-cast-backwards
-cast-backwards c = search needs
-
-mul-result : tie.Need-mul-result
-mul-result c = search needs
-
 returns : tie.Need-returns
 returns c = fold-index _ (c .pre)
 
 pub index-spec : {M : Type 1} → statement M
-index-spec = tie.close (tie.spec cast-j cast-backwards mul-result returns)
+index-spec = tie.close
+    (tie.spec (λ c. search needs) (λ c. search needs) (λ c. search needs) returns)

@@ -9,12 +9,6 @@ use Rattle.sorted.proofs.print.Tie as tie
 findings-requires : tie.Need-findings-requires
 findings-requires c κs = search needs
 
-sub-write-all : tie.Need-sub-write-all
-sub-write-all c = search needs
-
-part-write-all-start : tie.Need-part-write-all-start
-part-write-all-start c = search needs
-
 part-write-all-end : tie.Need-part-write-all-end
 part-write-all-end c =
     let found = c .before in
@@ -24,16 +18,8 @@ part-write-all-end c =
 write-all-requires : tie.Need-write-all-requires
 write-all-requires c κs = search needs
 
-returns : tie.Need-returns
-returns c = search needs
-
 pub print-spec : {M : Type 1} → statement M
 print-spec =
     tie.close
-    (tie.spec
-    findings-requires
-    sub-write-all
-    part-write-all-start
-    part-write-all-end
-    write-all-requires
-    returns)
+    (tie.spec findings-requires (λ c. search needs) (λ c. search needs) part-write-all-end write-all-requires
+    (λ c. search needs))

@@ -6,26 +6,11 @@ use borrow.Author.Needs.{needs}
 use Rattle.sorted.proofs.sort.Statement.{statement}
 use Rattle.sorted.proofs.sort.Tie as tie
 
-slice-aggregate-read-all : tie.Need-slice-aggregate-read-all
-slice-aggregate-read-all c = search needs
-
 read-all-requires : tie.Need-read-all-requires
 read-all-requires c κs = search needs
 
-enum-known-input : tie.Need-enum-known-input
-enum-known-input c = search needs
-
-enum-told : tie.Need-enum-told
-enum-told c = search needs
-
-slice-aggregate-write-all : tie.Need-slice-aggregate-write-all
-slice-aggregate-write-all c = search needs
-
 write-all-requires : tie.Need-write-all-requires
 write-all-requires c κs = search needs
-
-returns : tie.Need-returns
-returns c = search needs
 
 array-share-prefix-text : tie.Need-array-share-prefix-text
 array-share-prefix-text c =
@@ -41,33 +26,12 @@ slice-aggregate-print c =
 print-requires : tie.Need-print-requires
 print-requires c κs = search needs
 
-slice-aggregate-write-all-2 : tie.Need-slice-aggregate-write-all-2
-slice-aggregate-write-all-2 c = search needs
-
 write-all-requires-2 : tie.Need-write-all-requires-2
 write-all-requires-2 c κs = search needs
-
-returns-2 : tie.Need-returns-2
-returns-2 c = search needs
-
-returns-3 : tie.Need-returns-3
-returns-3 c = search needs
 
 pub sort-spec : {M : Type 1} → statement M
 sort-spec =
     tie.close
-    (tie.spec
-    slice-aggregate-read-all
-    read-all-requires
-    enum-known-input
-    enum-told
-    slice-aggregate-write-all
-    write-all-requires
-    returns
-    array-share-prefix-text
-    slice-aggregate-print
-    print-requires
-    slice-aggregate-write-all-2
-    write-all-requires-2
-    returns-2
-    returns-3)
+    (tie.spec (λ c. search needs) read-all-requires (λ c. search needs) (λ c. search needs) (λ c. search needs)
+    write-all-requires (λ c. search needs) array-share-prefix-text slice-aggregate-print print-requires
+    (λ c. search needs) write-all-requires-2 (λ c. search needs) (λ c. search needs))

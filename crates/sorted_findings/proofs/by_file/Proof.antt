@@ -35,12 +35,6 @@ returns-2 c =
     let order = file-compared (a .m .now) (a .text .now) (file .read .ensures) (named .if1 .left) in
     rw (order, first-asked (a .m .now) _ (asked .refusal .ensures) (refused .if2 .taken)) (c .put-refusal .ensures)
 
-sub-compared : tie.Need-sub-compared
-sub-compared c = search needs
-
-part-compared-start : tie.Need-part-compared-start
-part-compared-start c = search needs
-
 part-compared-end : tie.Need-part-compared-end
 part-compared-end c =
     let named = c .before .before .before in
@@ -62,15 +56,5 @@ returns-3 c =
 pub by-file-spec : {M : Type 1} → statement M
 by-file-spec =
     tie.close
-    (tie.spec
-    read-requires
-    put-order-refusal-requires
-    returns
-    refusal-requires
-    put-refusal-requires
-    returns-2
-    sub-compared
-    part-compared-start
-    part-compared-end
-    compared-requires
-    returns-3)
+    (tie.spec read-requires put-order-refusal-requires returns refusal-requires put-refusal-requires returns-2
+    (λ c. search needs) (λ c. search needs) part-compared-end compared-requires returns-3)

@@ -38,12 +38,6 @@ ticks-requires c κs =
     let ready = is-traceable m (sym (asked .refusal .ensures) ∙ passed .if1 .left) in
     ready .reaches
 
-sub-compared : tie.Need-sub-compared
-sub-compared c = search needs
-
-part-compared-start : tie.Need-part-compared-start
-part-compared-start c = search needs
-
 part-compared-end : tie.Need-part-compared-end
 part-compared-end c =
     let ticks = c .before in
@@ -70,14 +64,5 @@ returns-2 c =
 pub by-pitch-spec : {M : Type 1} → statement M
 by-pitch-spec =
     tie.close
-    (tie.spec
-    refusal-requires
-    put-refusal-requires
-    returns
-    by-pitch-requires
-    ticks-requires
-    sub-compared
-    part-compared-start
-    part-compared-end
-    compared-requires
-    returns-2)
+    (tie.spec refusal-requires put-refusal-requires returns by-pitch-requires ticks-requires (λ c. search needs)
+    (λ c. search needs) part-compared-end compared-requires returns-2)

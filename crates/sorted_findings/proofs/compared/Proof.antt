@@ -12,12 +12,6 @@ by-number-requires c κs = search needs
 ticks-requires : tie.Need-ticks-requires
 ticks-requires c κs = let start = c .before .before .before .before in is-traceable (start .args .m .now) (start .pre) .reaches
 
-sub-put-compared : tie.Need-sub-put-compared
-sub-put-compared c = search needs
-
-part-put-compared-start : tie.Need-part-put-compared-start
-part-put-compared-start c = search needs
-
 part-put-compared-end : tie.Need-part-put-compared-end
 part-put-compared-end c =
     let ticks = c .before in
@@ -34,17 +28,8 @@ put-compared-requires c κs =
     let m = start .args .m .now in
     numbers-part m (is-traceable m (start .pre) .ticks) (numbers .by-number .ensures) (ticks .ticks .ensures)
 
-returns : tie.Need-returns
-returns c = search needs
-
 pub compared-spec : {M : Type 1} → statement M
 compared-spec =
     tie.close
-    (tie.spec
-    by-number-requires
-    ticks-requires
-    sub-put-compared
-    part-put-compared-start
-    part-put-compared-end
-    put-compared-requires
-    returns)
+    (tie.spec by-number-requires ticks-requires (λ c. search needs) (λ c. search needs) part-put-compared-end
+    put-compared-requires (λ c. search needs))

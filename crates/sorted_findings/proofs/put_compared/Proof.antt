@@ -6,12 +6,6 @@ use borrow.Author.Needs.{needs}
 use Rattle.sorted_findings.proofs.put_compared.Statement.{statement}
 use Rattle.sorted_findings.proofs.put_compared.Tie as tie
 
-slice-aggregate-parts : tie.Need-slice-aggregate-parts
-slice-aggregate-parts c = search needs
-
-slice-aggregate-parts-2 : tie.Need-slice-aggregate-parts-2
-slice-aggregate-parts-2 c = search needs
-
 parts-requires : tie.Need-parts-requires
 parts-requires c κs = search needs
 
@@ -34,9 +28,6 @@ order-lines-requires c κs =
     let a = start .args in
     omega (arith, lines-room (a .m .now) (a .second .now) (start .pre) (made .parts .ensures) (passed .if1 .left))
 
-slice-aggregate-put-found : tie.Need-slice-aggregate-put-found
-slice-aggregate-put-found c = search needs
-
 put-found-requires : tie.Need-put-found-requires
 put-found-requires c κs =
     let lines = c .before .before .before in
@@ -58,13 +49,5 @@ returns-2 c =
 pub put-compared-spec : {M : Type 1} → statement M
 put-compared-spec =
     tie.close
-    (tie.spec
-    slice-aggregate-parts
-    slice-aggregate-parts-2
-    parts-requires
-    put-refusal-requires
-    returns
-    order-lines-requires
-    slice-aggregate-put-found
-    put-found-requires
-    returns-2)
+    (tie.spec (λ c. search needs) (λ c. search needs) parts-requires put-refusal-requires returns order-lines-requires
+    (λ c. search needs) put-found-requires returns-2)

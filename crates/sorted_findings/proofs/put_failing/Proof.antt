@@ -11,12 +11,6 @@ use Rattle.sorted_findings.proofs.put_failing.Tie as tie
 failing-line-requires : tie.Need-failing-line-requires
 failing-line-requires c κs = search needs
 
-sub-put : tie.Need-sub-put
-sub-put c = search needs
-
-part-put-start : tie.Need-part-put-start
-part-put-start c = search needs
-
 part-put-end : tie.Need-part-put-end
 part-put-end c =
     let made = c .before .before in
@@ -45,4 +39,4 @@ returns c =
 pub put-failing-spec : {M : Type 1} → statement M
 put-failing-spec =
     tie.close
-    (tie.spec failing-line-requires sub-put part-put-start part-put-end put-requires returns)
+    (tie.spec failing-line-requires (λ c. search needs) (λ c. search needs) part-put-end put-requires returns)

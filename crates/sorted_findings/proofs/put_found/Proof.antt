@@ -7,9 +7,6 @@ use borrow.Author.Needs.{needs}
 use Rattle.sorted_findings.proofs.put_found.Statement.{statement}
 use Rattle.sorted_findings.proofs.put_found.Tie as tie
 
-slice-aggregate-put : tie.Need-slice-aggregate-put
-slice-aggregate-put c = search needs
-
 put-requires : tie.Need-put-requires
 put-requires c κs = search needs
 
@@ -42,10 +39,4 @@ returns-2 c =
 pub put-found-spec : {M : Type 1} → statement M
 put-found-spec =
     tie.close
-    (tie.spec
-    slice-aggregate-put
-    put-requires
-    returns
-    differ-by-requires
-    put-failing-requires
-    returns-2)
+    (tie.spec (λ c. search needs) put-requires returns differ-by-requires put-failing-requires returns-2)

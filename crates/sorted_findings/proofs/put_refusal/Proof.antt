@@ -11,12 +11,6 @@ use Rattle.sorted_findings.proofs.put_refusal.Tie as tie
 refusal-line-requires : tie.Need-refusal-line-requires
 refusal-line-requires c κs = search needs
 
-sub-put : tie.Need-sub-put
-sub-put c = search needs
-
-part-put-start : tie.Need-part-put-start
-part-put-start c = search needs
-
 part-put-end : tie.Need-part-put-end
 part-put-end c =
     let made = c .before .before in
@@ -38,4 +32,4 @@ returns c =
 pub put-refusal-spec : {M : Type 1} → statement M
 put-refusal-spec =
     tie.close
-    (tie.spec refusal-line-requires sub-put part-put-start part-put-end put-requires returns)
+    (tie.spec refusal-line-requires (λ c. search needs) (λ c. search needs) part-put-end put-requires returns)

@@ -8,14 +8,8 @@ use borrow.Author.Needs.{needs}
 use Rattle.sorted_lines.proofs.entry_line.Statement.{statement}
 use Rattle.sorted_lines.proofs.entry_line.Tie as tie
 
-slice-aggregate-put-named : tie.Need-slice-aggregate-put-named
-slice-aggregate-put-named c = search needs
-
 put-named-requires : tie.Need-put-named-requires
 put-named-requires c κs = search needs
-
-slice-aggregate-put : tie.Need-slice-aggregate-put
-slice-aggregate-put c = search needs
 
 put-requires : tie.Need-put-requires
 put-requires c κs = omega (arith, named-end _ _ _ (c .before .before .put-named .ensures .0))
@@ -29,9 +23,4 @@ returns c =
 pub entry-line-spec : {M : Type 1} → statement M
 entry-line-spec =
     tie.close
-    (tie.spec
-    slice-aggregate-put-named
-    put-named-requires
-    slice-aggregate-put
-    put-requires
-    returns)
+    (tie.spec (λ c. search needs) put-named-requires (λ c. search needs) put-requires returns)

@@ -22,14 +22,8 @@ difference-ends c =
     let pointed = placed .before .before .before in
     omega (arith, difference-end _ (pointed .before .before .before .args .difference) (c .put-difference .ensures .0), place-ends placed)
 
-slice-aggregate-put-named : tie.Need-slice-aggregate-put-named
-slice-aggregate-put-named c = search needs
-
 put-named-requires : tie.Need-put-named-requires
 put-named-requires c κs = search needs
-
-slice-aggregate-put-named-2 : tie.Need-slice-aggregate-put-named-2
-slice-aggregate-put-named-2 c = search needs
 
 put-named-requires-2 : tie.Need-put-named-requires-2
 put-named-requires-2 c κs = omega (arith, point-ends (c .before .before))
@@ -39,9 +33,6 @@ put-difference-requires c κs =
     let placed = c .before in
     let pointed = placed .before .before .before in
     (omega (arith, place-ends placed), pointed .before .before .before .pre)
-
-slice-aggregate-put : tie.Need-slice-aggregate-put
-slice-aggregate-put c = search needs
 
 put-requires : tie.Need-put-requires
 put-requires c κs = omega (arith, difference-ends (c .before .before))
@@ -65,12 +56,5 @@ returns c =
 pub failing-line-spec : {M : Type 1} → statement M
 failing-line-spec =
     tie.close
-    (tie.spec
-    slice-aggregate-put-named
-    put-named-requires
-    slice-aggregate-put-named-2
-    put-named-requires-2
-    put-difference-requires
-    slice-aggregate-put
-    put-requires
-    returns)
+    (tie.spec (λ c. search needs) put-named-requires (λ c. search needs) put-named-requires-2 put-difference-requires
+    (λ c. search needs) put-requires returns)

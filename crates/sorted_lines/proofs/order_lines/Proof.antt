@@ -16,23 +16,11 @@ abbrev μ-loop : tie.MeasureT-loop
 loop-holds : tie.Need-loop-holds Inv-loop μ-loop
 loop-holds c = let start = c .before .before in lining-starts (start .args .out .now) (start .args .order .now)
 
-mul-put-entry : tie.Need-mul-put-entry Inv-loop μ-loop
-mul-put-entry c = omega arith
-
-shared-slice-read-put-entry : tie.Need-shared-slice-read-put-entry Inv-loop μ-loop
-shared-slice-read-put-entry c = c .before .before .loop-test .taken
-
 put-entry-requires : tie.Need-put-entry-requires Inv-loop μ-loop
 put-entry-requires c κs =
     let inside = c .before .before in
     let start = inside .before .before .before .before in
     lining-room (start .args .out .now) (start .args .order .now) (inside .before .loop .inv) (start .pre) (inside .loop-test .taken)
-
-add-i : tie.Need-add-i Inv-loop μ-loop
-add-i c = omega arith
-
-loop-less : tie.Need-loop-less Inv-loop μ-loop
-loop-less c = omega arith
 
 loop-again : tie.Need-loop-again Inv-loop μ-loop
 loop-again c =
@@ -40,9 +28,6 @@ loop-again c =
     let inside = puts .before .before .before in
     let start = inside .before .before .before .before in
     lining-goes (start .args .out .now) (start .args .order .now) (inside .before .loop .inv) (inside .loop-test .taken) (puts .put-entry .ensures)
-
-same-length : tie.Need-same-length Inv-loop μ-loop
-same-length c = c .before .loop .inv .room
 
 returns : tie.Need-returns Inv-loop μ-loop
 returns c =
@@ -52,15 +37,5 @@ returns c =
 pub order-lines-spec : {M : Type 1} → statement M
 order-lines-spec =
     tie.close
-    (tie.spec
-    Inv-loop
-    μ-loop
-    loop-holds
-    mul-put-entry
-    shared-slice-read-put-entry
-    put-entry-requires
-    add-i
-    loop-less
-    loop-again
-    same-length
-    returns)
+    (tie.spec Inv-loop μ-loop loop-holds (λ c. omega arith) (λ c. c .before .before .loop-test .taken)
+    put-entry-requires (λ c. omega arith) (λ c. omega arith) loop-again (λ c. c .before .loop .inv .room) returns)

@@ -5,12 +5,6 @@ use borrow.Author.Needs.{needs}
 use Rattle.sorted_lines.proofs.put_difference.Statement.{statement}
 use Rattle.sorted_lines.proofs.put_difference.Tie as tie
 
-enum-known-difference : tie.Need-enum-known-difference
-enum-known-difference c = search needs
-
-slice-aggregate-put-named : tie.Need-slice-aggregate-put-named
-slice-aggregate-put-named c = search needs
-
 cast-put-named : tie.Need-cast-put-named
 cast-put-named c =
     let told = c .before .before .before in
@@ -19,12 +13,6 @@ cast-put-named c =
 
 put-named-requires : tie.Need-put-named-requires
 put-named-requires c κs = search needs
-
-enum-known-difference-2 : tie.Need-enum-known-difference-2
-enum-known-difference-2 c = search needs
-
-slice-aggregate-put-named-2 : tie.Need-slice-aggregate-put-named-2
-slice-aggregate-put-named-2 c = search needs
 
 cast-put-named-2 : tie.Need-cast-put-named-2
 cast-put-named-2 c =
@@ -44,14 +32,5 @@ returns-2 c = rw (c .before .before .before .before .difference2 .given .1) (c .
 pub put-difference-spec : {M : Type 1} → statement M
 put-difference-spec =
     tie.close
-    (tie.spec
-    enum-known-difference
-    slice-aggregate-put-named
-    cast-put-named
-    put-named-requires
-    enum-known-difference-2
-    slice-aggregate-put-named-2
-    cast-put-named-2
-    put-named-requires-2
-    returns
-    returns-2)
+    (tie.spec (λ c. search needs) (λ c. search needs) cast-put-named put-named-requires (λ c. search needs)
+    (λ c. search needs) cast-put-named-2 put-named-requires-2 returns returns-2)

@@ -11,12 +11,6 @@ use Rattle.sorted_lines.proofs.put_entry.Tie as tie
 entry-line-requires : tie.Need-entry-line-requires
 entry-line-requires c κs = search needs
 
-sub-put : tie.Need-sub-put
-sub-put c = search needs
-
-part-put-start : tie.Need-part-put-start
-part-put-start c = search needs
-
 part-put-end : tie.Need-part-put-end
 part-put-end c =
     let made = c .before .before in
@@ -30,9 +24,6 @@ put-requires c κs =
     let g = start .args .g in
     part-fits (entryLine g) _ (omega (arith, entry-line-length g)) (made .entry-line .ensures) (start .args .at) _ (omega (arith, start .pre, entry-line-length g))
 
-same-length : tie.Need-same-length
-same-length c = search needs
-
 returns : tie.Need-returns
 returns c =
     let puts = c .before .before in
@@ -43,11 +34,5 @@ returns c =
 pub put-entry-spec : {M : Type 1} → statement M
 put-entry-spec =
     tie.close
-    (tie.spec
-    entry-line-requires
-    sub-put
-    part-put-start
-    part-put-end
-    put-requires
-    same-length
+    (tie.spec entry-line-requires (λ c. search needs) (λ c. search needs) part-put-end put-requires (λ c. search needs)
     returns)

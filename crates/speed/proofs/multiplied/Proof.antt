@@ -6,9 +6,6 @@ use borrow.Author.Needs.{needs}
 use Rattle.speed.proofs.multiplied.Statement.{statement}
 use Rattle.speed.proofs.multiplied.Tie as tie
 
-mul-wrapping-add-u32 : tie.Need-mul-wrapping-add-u32
-mul-wrapping-add-u32 c = search needs
-
 wrapping-add-u32-requires : tie.Need-wrapping-add-u32-requires
 wrapping-add-u32-requires c κs = search needs
 
@@ -25,9 +22,4 @@ returns c = rw (c .add20 .ensures) (low-lt 20 _)
 pub multiplied-spec : {M : Type 1} → statement M
 multiplied-spec =
     tie.close
-    (tie.spec
-    mul-wrapping-add-u32
-    wrapping-add-u32-requires
-    multiply-requires
-    add20-requires
-    returns)
+    (tie.spec (λ c. search needs) wrapping-add-u32-requires multiply-requires add20-requires returns)

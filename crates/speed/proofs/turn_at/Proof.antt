@@ -26,12 +26,6 @@ generator-at-requires c κs = search needs
 switches-of-requires : tie.Need-switches-of-requires
 switches-of-requires c κs = search needs
 
-same-length : tie.Need-same-length
-same-length c = search needs
-
-returns : tie.Need-returns
-returns c = search needs
-
 sound-at-requires : tie.Need-sound-at-requires
 sound-at-requires c κs =
     let b = c .before .before .before .before in
@@ -39,20 +33,8 @@ sound-at-requires c κs =
     let pre = b .before .before .before .before .before .pre in
     (pre .0, (b .before .before .generator-at .ensures, ((on, envelope-on _ on (c .before .before .if1 .left)), (pre .1 .0, pre .1 .1))))
 
-same-length-2 : tie.Need-same-length-2
-same-length-2 c = search needs
-
-returns-2 : tie.Need-returns-2
-returns-2 c = search needs
-
 pub turn-at-spec : {M : Type 1} → statement M
 turn-at-spec =
     tie.close
-    (tie.spec
-    generator-at-requires
-    switches-of-requires
-    same-length
-    returns
-    sound-at-requires
-    same-length-2
-    returns-2)
+    (tie.spec generator-at-requires switches-of-requires (λ c. search needs) (λ c. search needs) sound-at-requires
+    (λ c. search needs) (λ c. search needs))

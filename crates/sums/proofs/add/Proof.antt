@@ -6,23 +6,11 @@ use Rattle.sums.proofs.Memory.{add-code, leaves-code}
 use Rattle.sums.proofs.add.Statement.{statement}
 use Rattle.sums.proofs.add.Tie as tie
 
-cast-i : tie.Need-cast-i
-cast-i c = search needs
-
 quadrant-word-requires : tie.Need-quadrant-word-requires
 quadrant-word-requires c κs = search needs
 
 add20-requires : tie.Need-add20-requires
 add20-requires c κs = search needs
-
-mul-s : tie.Need-mul-s
-mul-s c = search needs
-
-index-1-s : tie.Need-index-1-s
-index-1-s c = search needs
-
-index-2-s : tie.Need-index-2-s
-index-2-s c = search needs
 
 leaves20-requires : tie.Need-leaves20-requires
 leaves20-requires c κs = search needs
@@ -36,4 +24,5 @@ returns c =
 pub add-spec : {M : Type 1} → statement M
 add-spec =
     tie.close
-    (tie.spec cast-i quadrant-word-requires add20-requires mul-s index-1-s index-2-s leaves20-requires returns)
+    (tie.spec (λ c. search needs) quadrant-word-requires add20-requires (λ c. search needs) (λ c. search needs)
+    (λ c. search needs) leaves20-requires returns)

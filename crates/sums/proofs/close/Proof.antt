@@ -8,23 +8,14 @@ use Rattle.sums.proofs.close.Tie as tie
 put-quadrant-at-requires : tie.Need-put-quadrant-at-requires
 put-quadrant-at-requires c κs = search needs
 
-index-1-put-quadrant-at : tie.Need-index-1-put-quadrant-at
-index-1-put-quadrant-at c = search needs
-
 put-quadrant-at-requires-2 : tie.Need-put-quadrant-at-requires-2
 put-quadrant-at-requires-2 c κs = search needs
 
 put-quadrant-at-requires-3 : tie.Need-put-quadrant-at-requires-3
 put-quadrant-at-requires-3 c κs = search needs
 
-index-1-put-quadrant-at-2 : tie.Need-index-1-put-quadrant-at-2
-index-1-put-quadrant-at-2 c = search needs
-
 put-quadrant-at-requires-4 : tie.Need-put-quadrant-at-requires-4
 put-quadrant-at-requires-4 c κs = search needs
-
-same-length : tie.Need-same-length
-same-length c = search needs
 
 returns : tie.Need-returns
 returns c =
@@ -39,12 +30,5 @@ returns c =
 pub close-spec : {M : Type 1} → statement M
 close-spec =
     tie.close
-    (tie.spec
-    put-quadrant-at-requires
-    index-1-put-quadrant-at
-    put-quadrant-at-requires-2
-    put-quadrant-at-requires-3
-    index-1-put-quadrant-at-2
-    put-quadrant-at-requires-4
-    same-length
-    returns)
+    (tie.spec put-quadrant-at-requires (λ c. search needs) put-quadrant-at-requires-2 put-quadrant-at-requires-3
+    (λ c. search needs) put-quadrant-at-requires-4 (λ c. search needs) returns)

@@ -6,9 +6,6 @@ use Rattle.sums.specs.Sums.{fAt}
 use Rattle.sums.proofs.f_at.Statement.{statement}
 use Rattle.sums.proofs.f_at.Tie as tie
 
-cast-i : tie.Need-cast-i
-cast-i c = search needs
-
 quadrant-word-requires : tie.Need-quadrant-word-requires
 quadrant-word-requires c κs = search needs
 
@@ -25,4 +22,5 @@ returns-2 c = rw (ne-eqb _ 0 (c .before .if1 .left)) (c .quadrant-word2 .ensures
 
 pub f-at-spec : {M : Type 1} → statement M
 f-at-spec =
-    tie.close (tie.spec cast-i quadrant-word-requires returns quadrant-word-requires-2 returns-2)
+    tie.close
+    (tie.spec (λ c. search needs) quadrant-word-requires returns quadrant-word-requires-2 returns-2)

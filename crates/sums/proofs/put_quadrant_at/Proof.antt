@@ -6,23 +6,8 @@ use Rattle.sums.proofs.Blocks.{part-back}
 use Rattle.sums.proofs.put_quadrant_at.Statement.{statement}
 use Rattle.sums.proofs.put_quadrant_at.Tie as tie
 
-mul-put-quadrant : tie.Need-mul-put-quadrant
-mul-put-quadrant c = search needs
-
-sub-put-quadrant : tie.Need-sub-put-quadrant
-sub-put-quadrant c = search needs
-
-part-put-quadrant-start : tie.Need-part-put-quadrant-start
-part-put-quadrant-start c = search needs
-
-part-put-quadrant-end : tie.Need-part-put-quadrant-end
-part-put-quadrant-end c = search needs
-
 put-quadrant-requires : tie.Need-put-quadrant-requires
 put-quadrant-requires c κs = search needs
-
-same-length : tie.Need-same-length
-same-length c = search needs
 
 returns : tie.Need-returns
 returns c =
@@ -32,11 +17,5 @@ returns c =
 pub put-quadrant-at-spec : {M : Type 1} → statement M
 put-quadrant-at-spec =
     tie.close
-    (tie.spec
-    mul-put-quadrant
-    sub-put-quadrant
-    part-put-quadrant-start
-    part-put-quadrant-end
-    put-quadrant-requires
-    same-length
-    returns)
+    (tie.spec (λ c. search needs) (λ c. search needs) (λ c. search needs) (λ c. search needs) put-quadrant-requires
+    (λ c. search needs) returns)

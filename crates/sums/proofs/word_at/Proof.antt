@@ -5,14 +5,9 @@ use Rattle.sums.proofs.Memory.{word-code}
 use Rattle.sums.proofs.word_at.Statement.{statement}
 use Rattle.sums.proofs.word_at.Tie as tie
 
-mul-result : tie.Need-mul-result
-mul-result c = search needs
-
-element-copy-out-result : tie.Need-element-copy-out-result
-element-copy-out-result c = search needs
-
 returns : tie.Need-returns
 returns c = word-code _ _
 
 pub word-at-spec : {M : Type 1} → statement M
-word-at-spec = tie.close (tie.spec mul-result element-copy-out-result returns)
+word-at-spec = tie.close
+    (tie.spec (λ c. search needs) (λ c. search needs) returns)

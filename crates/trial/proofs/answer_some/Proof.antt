@@ -12,26 +12,11 @@ large-buffer-requires c κs = search needs
 large-buffer-requires-2 : tie.Need-large-buffer-requires-2
 large-buffer-requires-2 c κs = search needs
 
-slice-aggregate-read-full : tie.Need-slice-aggregate-read-full
-slice-aggregate-read-full c = search needs
-
 read-full-requires : tie.Need-read-full-requires
 read-full-requires c κs = search needs
 
-slice-aggregate-answer-all : tie.Need-slice-aggregate-answer-all
-slice-aggregate-answer-all c = search needs
-
-slice-aggregate-answer-all-2 : tie.Need-slice-aggregate-answer-all-2
-slice-aggregate-answer-all-2 c = search needs
-
 answer-all-requires : tie.Need-answer-all-requires
 answer-all-requires c κs = search needs
-
-mul-output : tie.Need-mul-output
-mul-output c = search needs
-
-array-share-prefix-output : tie.Need-array-share-prefix-output
-array-share-prefix-output c = search needs
 
 slice-aggregate-write-all : tie.Need-slice-aggregate-write-all
 slice-aggregate-write-all c = simp length-take (omega arith)
@@ -39,26 +24,9 @@ slice-aggregate-write-all c = simp length-take (omega arith)
 write-all-requires : tie.Need-write-all-requires
 write-all-requires c κs = search needs
 
-returns : tie.Need-returns
-returns c = search needs
-
-returns-2 : tie.Need-returns-2
-returns-2 c = search needs
-
 pub answer-some-spec : {M : Type 1} → statement M
 answer-some-spec =
     tie.close
-    (tie.spec
-    large-buffer-requires
-    large-buffer-requires-2
-    slice-aggregate-read-full
-    read-full-requires
-    slice-aggregate-answer-all
-    slice-aggregate-answer-all-2
-    answer-all-requires
-    mul-output
-    array-share-prefix-output
-    slice-aggregate-write-all
-    write-all-requires
-    returns
-    returns-2)
+    (tie.spec large-buffer-requires large-buffer-requires-2 (λ c. search needs) read-full-requires (λ c. search needs)
+    (λ c. search needs) answer-all-requires (λ c. search needs) (λ c. search needs) slice-aggregate-write-all
+    write-all-requires (λ c. search needs) (λ c. search needs))

@@ -5,15 +5,6 @@ use borrow.Author.Needs.{needs}
 use Rattle.trial.proofs.generator_of.Statement.{statement}
 use Rattle.trial.proofs.generator_of.Tie as tie
 
-sub-load : tie.Need-sub-load
-sub-load c = search needs
-
-part-load-start : tie.Need-part-load-start
-part-load-start c = search needs
-
-part-load-end : tie.Need-part-load-end
-part-load-end c = search needs
-
 load-requires : tie.Need-load-requires
 load-requires c κs = search needs
 
@@ -22,4 +13,5 @@ returns c = rw (c .load .ensures) (ranged _)
 
 pub generator-of-spec : {M : Type 1} → statement M
 generator-of-spec =
-    tie.close (tie.spec sub-load part-load-start part-load-end load-requires returns)
+    tie.close
+    (tie.spec (λ c. search needs) (λ c. search needs) (λ c. search needs) load-requires returns)

@@ -13,9 +13,6 @@ generator-of-requires c κs = search needs
 switches-of-requires : tie.Need-switches-of-requires
 switches-of-requires c κs = search needs
 
-element-copy-out-f : tie.Need-element-copy-out-f
-element-copy-out-f c = search needs
-
 sounded-requires : tie.Need-sounded-requires
 sounded-requires c κs =
     let b = c .before .before .before in
@@ -23,39 +20,17 @@ sounded-requires c κs =
     let pre = b .before .before .before .before .pre in
     (b .before .before .generator-of .ensures, (search needs, ((on, sym (envelope-tells _) ∙ rw (← on) (eq-eqb _ _ (c .if1 .taken))), (pre .0, pre .1))))
 
-returns : tie.Need-returns
-returns c = search needs
-
-element-copy-out-wait : tie.Need-element-copy-out-wait
-element-copy-out-wait c = search needs
-
 wait-requires : tie.Need-wait-requires
 wait-requires c κs = search needs
 
 registers-requires : tie.Need-registers-requires
 registers-requires c κs = search needs
 
-returns-2 : tie.Need-returns-2
-returns-2 c = search needs
-
 registers-requires-2 : tie.Need-registers-requires-2
 registers-requires-2 c κs = search needs
-
-returns-3 : tie.Need-returns-3
-returns-3 c = search needs
 
 pub generator-turn-spec : {M : Type 1} → statement M
 generator-turn-spec =
     tie.close
-    (tie.spec
-    generator-of-requires
-    switches-of-requires
-    element-copy-out-f
-    sounded-requires
-    returns
-    element-copy-out-wait
-    wait-requires
-    registers-requires
-    returns-2
-    registers-requires-2
-    returns-3)
+    (tie.spec generator-of-requires switches-of-requires (λ c. search needs) sounded-requires (λ c. search needs)
+    (λ c. search needs) wait-requires registers-requires (λ c. search needs) registers-requires-2 (λ c. search needs))

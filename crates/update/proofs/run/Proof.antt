@@ -18,17 +18,8 @@ abbrev μ-loop : tie.MeasureT-loop
 loop-holds : tie.Need-loop-holds Inv-loop μ-loop
 loop-holds c = begins _ _ _
 
-same-length : tie.Need-same-length Inv-loop μ-loop
-same-length c = c .before .before .loop .inv .size
-
 returns : tie.Need-returns Inv-loop μ-loop
 returns c = (omega arith, ends-empty (c .before .before .loop .inv) (c .if1 .taken))
-
-mul-take : tie.Need-mul-take Inv-loop μ-loop
-mul-take c = search needs
-
-shared-slice-read-take : tie.Need-shared-slice-read-take Inv-loop μ-loop
-shared-slice-read-take c = search needs
 
 take-requires : tie.Need-take-requires Inv-loop μ-loop
 take-requires c κs =
@@ -48,9 +39,6 @@ returns-2 c =
     let q = t .take .ensures in
     (omega (arith, g .here), ends-refused g (e .before .loop-test .taken) (e .if1 .left) (q .0) (q .1) (q .2) (c .if2 .taken))
 
-add-result : tie.Need-add-result Inv-loop μ-loop
-add-result c = search needs
-
 same-length-3 : tie.Need-same-length-3 Inv-loop μ-loop
 same-length-3 c =
     let t = c .before .before .before .before .before in
@@ -64,12 +52,6 @@ returns-3 c =
     let q = t .take .ensures in
     (omega arith, ends-waiting g (e .before .loop-test .taken) (e .if1 .left) (q .0) (q .1) (q .2) (c .before .if2 .left) (c .if3 .taken))
 
-add-i : tie.Need-add-i Inv-loop μ-loop
-add-i c = search needs
-
-loop-less : tie.Need-loop-less Inv-loop μ-loop
-loop-less c = search needs
-
 loop-again : tie.Need-loop-again Inv-loop μ-loop
 loop-again c =
     let t = c .before .before .before .before .before in
@@ -77,9 +59,6 @@ loop-again c =
     let g = e .before .before .loop .inv in
     let q = t .take .ensures in
     goes-on g (e .before .loop-test .taken) (e .if1 .left) (q .0) (q .1) (q .2) (c .before .if2 .left) (c .if3 .left) (t .take .kept .0)
-
-same-length-4 : tie.Need-same-length-4 Inv-loop μ-loop
-same-length-4 c = c .before .loop .inv .size
 
 returns-4 : tie.Need-returns-4 Inv-loop μ-loop
 returns-4 c =
@@ -89,22 +68,6 @@ returns-4 c =
 pub run-spec : {M : Type 1} → statement M
 run-spec =
     tie.close
-    (tie.spec
-    Inv-loop
-    μ-loop
-    loop-holds
-    same-length
-    returns
-    mul-take
-    shared-slice-read-take
-    take-requires
-    same-length-2
-    returns-2
-    add-result
-    same-length-3
-    returns-3
-    add-i
-    loop-less
-    loop-again
-    same-length-4
-    returns-4)
+    (tie.spec Inv-loop μ-loop loop-holds (λ c. c .before .before .loop .inv .size) returns (λ c. search needs)
+    (λ c. search needs) take-requires same-length-2 returns-2 (λ c. search needs) same-length-3 returns-3
+    (λ c. search needs) (λ c. search needs) loop-again (λ c. c .before .loop .inv .size) returns-4)

@@ -13,9 +13,6 @@ use Rattle.update.proofs.take_commands.Tie as tie
 still-lingering-requires : tie.Need-still-lingering-requires
 still-lingering-requires c κs = passes-reach _ (c .before .before .before .pre)
 
-same-length : tie.Need-same-length
-same-length c = search needs
-
 returns : tie.Need-returns
 returns c =
     let test = c .before in
@@ -65,13 +62,5 @@ returns-2 c =
 pub take-commands-spec : {M : Type 1} → statement M
 take-commands-spec =
     tie.close
-    (tie.spec
-    still-lingering-requires
-    same-length
-    returns
-    slice-read-wide
-    wide-requires
-    slice-write-m
-    run-requires
-    same-length-2
-    returns-2)
+    (tie.spec still-lingering-requires (λ c. search needs) returns slice-read-wide wide-requires slice-write-m
+    run-requires same-length-2 returns-2)

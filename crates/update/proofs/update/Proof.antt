@@ -8,9 +8,6 @@ use Rattle.update.proofs.update.Tie as tie
 refusal-requires : tie.Need-refusal-requires
 refusal-requires c κs = search needs
 
-same-length : tie.Need-same-length
-same-length c = search needs
-
 returns : tie.Need-returns
 returns c =
     let asked = c .before in
@@ -20,21 +17,6 @@ returns c =
 
 take-commands-requires : tie.Need-take-commands-requires
 take-commands-requires c κs = search needs
-
-mul-result : tie.Need-mul-result
-mul-result c = search needs
-
-sub-result : tie.Need-sub-result
-sub-result c = search needs
-
-part-result-start : tie.Need-part-result-start
-part-result-start c = search needs
-
-part-result-end : tie.Need-part-result-end
-part-result-end c = search needs
-
-same-length-2 : tie.Need-same-length-2
-same-length-2 c = search needs
 
 returns-2 : tie.Need-returns-2
 returns-2 c =
@@ -46,14 +28,5 @@ returns-2 c =
 pub update-spec : {M : Type 1} → statement M
 update-spec =
     tie.close
-    (tie.spec
-    refusal-requires
-    same-length
-    returns
-    take-commands-requires
-    mul-result
-    sub-result
-    part-result-start
-    part-result-end
-    same-length-2
-    returns-2)
+    (tie.spec refusal-requires (λ c. search needs) returns take-commands-requires (λ c. search needs)
+    (λ c. search needs) (λ c. search needs) (λ c. search needs) (λ c. search needs) returns-2)

@@ -11,15 +11,6 @@ wave-requires c κs = search needs
 refuse-requires : tie.Need-refuse-requires
 refuse-requires c κs = search needs
 
-returns : tie.Need-returns
-returns c = search needs
-
-sub-write-all : tie.Need-sub-write-all
-sub-write-all c = search needs
-
-part-write-all-start : tie.Need-part-write-all-start
-part-write-all-start c = search needs
-
 part-write-all-end : tie.Need-part-write-all-end
 part-write-all-end c =
     let made = c .before .before .before in
@@ -28,18 +19,8 @@ part-write-all-end c =
 write-all-requires : tie.Need-write-all-requires
 write-all-requires c κs = search needs
 
-returns-2 : tie.Need-returns-2
-returns-2 c = search needs
-
 pub sound-spec : {M : Type 1} → statement M
 sound-spec =
     tie.close
-    (tie.spec
-    wave-requires
-    refuse-requires
-    returns
-    sub-write-all
-    part-write-all-start
-    part-write-all-end
-    write-all-requires
-    returns-2)
+    (tie.spec wave-requires refuse-requires (λ c. search needs) (λ c. search needs) (λ c. search needs)
+    part-write-all-end write-all-requires (λ c. search needs))

@@ -6,17 +6,11 @@ use borrow.Author.Needs.{needs}
 use Rattle.wave_format.proofs.put_data_head.Statement.{statement}
 use Rattle.wave_format.proofs.put_data_head.Tie as tie
 
-slice-aggregate-put : tie.Need-slice-aggregate-put
-slice-aggregate-put c = search needs
-
 put-requires : tie.Need-put-requires
 put-requires c κs = search needs
 
 put-number-requires : tie.Need-put-number-requires
 put-number-requires c κs = search needs
-
-same-length : tie.Need-same-length
-same-length c = search needs
 
 returns : tie.Need-returns
 returns c =
@@ -28,9 +22,4 @@ returns c =
 pub put-data-head-spec : {M : Type 1} → statement M
 put-data-head-spec =
     tie.close
-    (tie.spec
-    slice-aggregate-put
-    put-requires
-    put-number-requires
-    same-length
-    returns)
+    (tie.spec (λ c. search needs) put-requires put-number-requires (λ c. search needs) returns)

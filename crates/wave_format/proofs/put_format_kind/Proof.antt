@@ -6,9 +6,6 @@ use borrow.Author.Needs.{needs}
 use Rattle.wave_format.proofs.put_format_kind.Statement.{statement}
 use Rattle.wave_format.proofs.put_format_kind.Tie as tie
 
-slice-aggregate-put : tie.Need-slice-aggregate-put
-slice-aggregate-put c = search needs
-
 put-requires : tie.Need-put-requires
 put-requires c κs = search needs
 
@@ -20,9 +17,6 @@ put-number-requires-2 c κs = search needs
 
 put-number-requires-3 : tie.Need-put-number-requires-3
 put-number-requires-3 c κs = search needs
-
-same-length : tie.Need-same-length
-same-length c = search needs
 
 returns : tie.Need-returns
 returns c =
@@ -36,11 +30,5 @@ returns c =
 pub put-format-kind-spec : {M : Type 1} → statement M
 put-format-kind-spec =
     tie.close
-    (tie.spec
-    slice-aggregate-put
-    put-requires
-    put-number-requires
-    put-number-requires-2
-    put-number-requires-3
-    same-length
-    returns)
+    (tie.spec (λ c. search needs) put-requires put-number-requires put-number-requires-2 put-number-requires-3
+    (λ c. search needs) returns)

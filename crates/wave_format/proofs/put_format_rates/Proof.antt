@@ -8,9 +8,6 @@ use Rattle.wave_format.proofs.put_format_rates.Tie as tie
 put-number-requires : tie.Need-put-number-requires
 put-number-requires c κs = search needs
 
-mul-put-number : tie.Need-mul-put-number
-mul-put-number c = search needs
-
 put-number-requires-2 : tie.Need-put-number-requires-2
 put-number-requires-2 c κs = search needs
 
@@ -19,9 +16,6 @@ put-number-requires-3 c κs = search needs
 
 put-number-requires-4 : tie.Need-put-number-requires-4
 put-number-requires-4 c κs = search needs
-
-same-length : tie.Need-same-length
-same-length c = search needs
 
 returns : tie.Need-returns
 returns c =
@@ -35,11 +29,5 @@ returns c =
 pub put-format-rates-spec : {M : Type 1} → statement M
 put-format-rates-spec =
     tie.close
-    (tie.spec
-    put-number-requires
-    mul-put-number
-    put-number-requires-2
-    put-number-requires-3
-    put-number-requires-4
-    same-length
-    returns)
+    (tie.spec put-number-requires (λ c. search needs) put-number-requires-2 put-number-requires-3 put-number-requires-4
+    (λ c. search needs) returns)

@@ -5,20 +5,11 @@ use borrow.Author.Needs.{needs}
 use Rattle.wave_format.proofs.put_frame.Statement.{statement}
 use Rattle.wave_format.proofs.put_frame.Tie as tie
 
-mul-put-number : tie.Need-mul-put-number
-mul-put-number c = search needs
-
 put-number-requires : tie.Need-put-number-requires
 put-number-requires c κs = search needs
 
-mul-put-number-2 : tie.Need-mul-put-number-2
-mul-put-number-2 c = search needs
-
 put-number-requires-2 : tie.Need-put-number-requires-2
 put-number-requires-2 c κs = search needs
-
-same-length : tie.Need-same-length
-same-length c = search needs
 
 returns : tie.Need-returns
 returns c =
@@ -30,10 +21,5 @@ returns c =
 pub put-frame-spec : {M : Type 1} → statement M
 put-frame-spec =
     tie.close
-    (tie.spec
-    mul-put-number
-    put-number-requires
-    mul-put-number-2
-    put-number-requires-2
-    same-length
+    (tie.spec (λ c. search needs) put-number-requires (λ c. search needs) put-number-requires-2 (λ c. search needs)
     returns)

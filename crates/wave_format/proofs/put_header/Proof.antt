@@ -17,9 +17,6 @@ put-format-rates-requires c κs = search needs
 put-data-head-requires : tie.Need-put-data-head-requires
 put-data-head-requires c κs = search needs
 
-same-length : tie.Need-same-length
-same-length c = search needs
-
 returns : tie.Need-returns
 returns c =
     let fourth = c .before .before in
@@ -32,10 +29,5 @@ returns c =
 pub put-header-spec : {M : Type 1} → statement M
 put-header-spec =
     tie.close
-    (tie.spec
-    put-riff-requires
-    put-format-kind-requires
-    put-format-rates-requires
-    put-data-head-requires
-    same-length
-    returns)
+    (tie.spec put-riff-requires put-format-kind-requires put-format-rates-requires put-data-head-requires
+    (λ c. search needs) returns)

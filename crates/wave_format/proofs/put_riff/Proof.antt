@@ -6,26 +6,14 @@ use borrow.Author.Needs.{needs}
 use Rattle.wave_format.proofs.put_riff.Statement.{statement}
 use Rattle.wave_format.proofs.put_riff.Tie as tie
 
-slice-aggregate-put : tie.Need-slice-aggregate-put
-slice-aggregate-put c = search needs
-
 put-requires : tie.Need-put-requires
 put-requires c κs = search needs
-
-add-put-number : tie.Need-add-put-number
-add-put-number c = search needs
 
 put-number-requires : tie.Need-put-number-requires
 put-number-requires c κs = search needs
 
-slice-aggregate-put-2 : tie.Need-slice-aggregate-put-2
-slice-aggregate-put-2 c = search needs
-
 put-requires-2 : tie.Need-put-requires-2
 put-requires-2 c κs = search needs
-
-same-length : tie.Need-same-length
-same-length c = search needs
 
 returns : tie.Need-returns
 returns c =
@@ -38,12 +26,5 @@ returns c =
 pub put-riff-spec : {M : Type 1} → statement M
 put-riff-spec =
     tie.close
-    (tie.spec
-    slice-aggregate-put
-    put-requires
-    add-put-number
-    put-number-requires
-    slice-aggregate-put-2
-    put-requires-2
-    same-length
-    returns)
+    (tie.spec (λ c. search needs) put-requires (λ c. search needs) put-number-requires (λ c. search needs)
+    put-requires-2 (λ c. search needs) returns)

@@ -6,11 +6,9 @@ use Rattle.words.proofs.Ranges.{bias}
 use Rattle.words.proofs.biased20.Statement.{statement}
 use Rattle.words.proofs.biased20.Tie as tie
 
-add-result : tie.Need-add-result
-add-result c = search needs
-
 returns : tie.Need-returns
 returns c = (search needs, bias 20 _ refl (c .pre))
 
 pub biased20-spec : {M : Type 1} → statement M
-biased20-spec = tie.close (tie.spec add-result returns)
+biased20-spec = tie.close
+    (tie.spec (λ c. search needs) returns)

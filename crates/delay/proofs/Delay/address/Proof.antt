@@ -20,9 +20,6 @@ add-argument c =
     let a = c .before .before .before .args in
     omega (arith, c .before .shifted .ensures, shr-le (a .w) (a .self .z % 2 ^ 4), c .rounding .ensures, rounding-low (a .self) (a .w))
 
-add-wide : tie.Need-add-wide
-add-wide c = search needs
-
 wide-requires : tie.Need-wide-requires
 wide-requires c κs = search needs
 
@@ -33,4 +30,4 @@ returns c = rw (c .wide .ensures, c .before .before .before .shifted .ensures, c
 pub address-spec : {M : Type 1} → statement M
 address-spec =
     tie.close
-    (tie.spec shifted-requires rounding-requires add-argument add-wide wide-requires returns)
+    (tie.spec shifted-requires rounding-requires add-argument (λ c. search needs) wide-requires returns)

@@ -20,9 +20,6 @@ stepped-requires c κs = search needs
 updated-requires : tie.Need-updated-requires
 updated-requires c κs = search needs
 
-same-length : tie.Need-same-length
-same-length c = search needs
-
 returns : tie.Need-returns
 unfolding lineTurn
 returns c =
@@ -33,11 +30,4 @@ returns c =
 pub line-turn-spec : {M : Type 1} → statement M
 line-turn-spec =
     tie.close
-    (tie.spec
-    slot-requires
-    word-at-requires
-    put-requires
-    stepped-requires
-    updated-requires
-    same-length
-    returns)
+    (tie.spec slot-requires word-at-requires put-requires stepped-requires updated-requires (λ c. search needs) returns)

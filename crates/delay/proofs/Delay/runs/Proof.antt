@@ -6,9 +6,6 @@ use Rattle.delay.specs.Delay.{runs}
 use Rattle.delay.proofs.Delay.runs.Statement.{statement}
 use Rattle.delay.proofs.Delay.runs.Tie as tie
 
-sub-result : tie.Need-sub-result
-sub-result c = search needs
-
 returns : tie.Need-returns
 unfolding runs
 returns c = rw (eq-eqb _ _ (c .if1 .taken))
@@ -22,4 +19,5 @@ unfolding runs
 returns-3 c = rw (ne-eqb _ _ (c .before .if1 .left), le-leb _ _ (c .if2 .left))
 
 pub runs-spec : {M : Type 1} → statement M
-runs-spec = tie.close (tie.spec returns returns-2 sub-result returns-3)
+runs-spec = tie.close
+    (tie.spec returns returns-2 (λ c. search needs) returns-3)

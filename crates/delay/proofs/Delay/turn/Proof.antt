@@ -9,18 +9,12 @@ use Rattle.delay.proofs.Delay.turn.Tie as tie
 line-turn-requires : tie.Need-line-turn-requires
 line-turn-requires c κs = search needs
 
-same-length : tie.Need-same-length
-same-length c = search needs
-
 returns : tie.Need-returns
 unfolding turnOf
 returns c = rw (eq-eqb _ _ (c .before .before .before .before .if1 .taken)) (c .before .before .line-turn .ensures)
 
 table-turn-requires : tie.Need-table-turn-requires
 table-turn-requires c κs = search needs
-
-same-length-2 : tie.Need-same-length-2
-same-length-2 c = search needs
 
 returns-2 : tie.Need-returns-2
 unfolding turnOf
@@ -29,4 +23,4 @@ returns-2 c = rw (ne-eqb _ _ (c .before .before .if1 .left)) (c .table-turn .ens
 pub turn-spec : {M : Type 1} → statement M
 turn-spec =
     tie.close
-    (tie.spec line-turn-requires same-length returns table-turn-requires same-length-2 returns-2)
+    (tie.spec line-turn-requires (λ c. search needs) returns table-turn-requires (λ c. search needs) returns-2)

@@ -7,8 +7,6 @@ use Rattle.generator.proofs.Generator.decay.Tie as tie
 decayed-requires : tie.Need-decayed-requires
 decayed-requires c κs = search needs
 
-returns : tie.Need-returns
-returns c = rw (c .decayed .ensures)
-
 pub decay-spec : {M : Type 1} → statement M
-decay-spec = tie.close (tie.spec decayed-requires returns)
+decay-spec = tie.close
+    (tie.spec decayed-requires (λ c. rw (c .decayed .ensures)))

@@ -7,8 +7,6 @@ use Rattle.generator.proofs.Generator.sweep.Tie as tie
 into28-requires : tie.Need-into28-requires
 into28-requires c κs = search needs
 
-returns : tie.Need-returns
-returns c = rw (c .into28 .ensures)
-
 pub sweep-spec : {M : Type 1} → statement M
-sweep-spec = tie.close (tie.spec into28-requires returns)
+sweep-spec = tie.close
+    (tie.spec into28-requires (λ c. rw (c .into28 .ensures)))

@@ -7,8 +7,6 @@ use Rattle.generator.proofs.Generator.turn.Tie as tie
 add20-requires : tie.Need-add20-requires
 add20-requires c κs = search needs
 
-returns : tie.Need-returns
-returns c = rw (c .add20 .ensures)
-
 pub turn-spec : {M : Type 1} → statement M
-turn-spec = tie.close (tie.spec add20-requires returns)
+turn-spec = tie.close
+    (tie.spec add20-requires (λ c. rw (c .add20 .ensures)))
