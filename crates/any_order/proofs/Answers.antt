@@ -7,6 +7,7 @@ use mathlib.Core.List.{[], _∷_}
 use Prim.Native.Nat.{ℕ}
 use borrow.Author.Tests.{ne-eqb}
 use Rattle.layout.specs.Machine.{Machine}
+use Rattle.texts.specs.declared.Text.the-variants.{Of1978}
 use Rattle.questions.specs.Questions.{asked}
 use Rattle.machine.specs.Questions.{question1, question2}
 use Rattle.machine.proofs.Asked.{machine-passes}
@@ -17,36 +18,36 @@ use Rattle.order_counts.specs.KeptCounts.{Countable}
 use Rattle.any_order.specs.AnyOrder.{Answer, anyOrderRefusal, anyOrderOf}
 
 -- The generators of a machine that passes questions 1 and 2 can be counted.
-pub is-countable : (m : Machine) → asked (question1 m ∷ question2 m ∷ []) ≡ 0 → Countable m
+pub is-countable : (m : Machine) → asked (question1 m ∷ question2 Of1978 m ∷ []) ≡ 0 → Countable m
 is-countable m e =
-    let passed = machine-passes m e in
+    let passed = machine-passes Of1978 m e in
     record {
       reaches = reaches m (passed .0);
-      ticks = sound-controls m (passed .1) .tHigh;
-      gsums = λ g h. sound-generator m (passed .1) g h .gsum;
-      gfms = λ g h. sound-generator m (passed .1) g h .gfm;
+      ticks = sound-controls Of1978 m (passed .1) .tHigh;
+      gsums = λ g h. sound-generator Of1978 m (passed .1) g h .gsum;
+      gfms = λ g h. sound-generator Of1978 m (passed .1) g h .gfm;
     }
 
 module _ (m : Machine) where
   -- One that is not refused is answered by the rule, and a refused one no.
-  pub any-number : anyOrderOf m .number ≡ asked (question1 m ∷ question2 m ∷ [])
+  pub any-number : anyOrderOf m .number ≡ asked (question1 m ∷ question2 Of1978 m ∷ [])
   unfolding anyOrderOf anyOrderRefusal
   any-number = refl
 
-  pub any-rule : asked (question1 m ∷ question2 m ∷ []) ≡ 0 → anyOrderOf m .alike ≡ alike (countsIn (settingsOf m))
+  pub any-rule : asked (question1 m ∷ question2 Of1978 m ∷ []) ≡ 0 → anyOrderOf m .alike ≡ alike (countsIn (settingsOf Of1978 m))
   unfolding anyOrderOf anyOrderRefusal
   any-rule e = rw e
 
-  pub any-refused : asked (question1 m ∷ question2 m ∷ []) ≢ 0 → anyOrderOf m .alike ≡ false
+  pub any-refused : asked (question1 m ∷ question2 Of1978 m ∷ []) ≢ 0 → anyOrderOf m .alike ≡ false
   unfolding anyOrderOf anyOrderRefusal
-  any-refused n = rw (ne-eqb (asked (question1 m ∷ question2 m ∷ [])) 0 n)
+  any-refused n = rw (ne-eqb (asked (question1 m ∷ question2 Of1978 m ∷ [])) 0 n)
 
   -- The answer by the number that the code finds.
-  module _ {number : ℕ} (is : number ≡ asked (question1 m ∷ question2 m ∷ [])) where
+  module _ {number : ℕ} (is : number ≡ asked (question1 m ∷ question2 Of1978 m ∷ [])) where
     pub says-no : number ≢ 0 → _≡_ {A = Answer} (record { number = number; alike = false }) (anyOrderOf m)
     unfolding anyOrderOf anyOrderRefusal
     says-no h = rw (← is, ne-eqb number 0 h)
 
-    pub says-rule : number ≡ 0 → {holds : Bool} → holds ≡ alike (countsIn (settingsOf m)) → _≡_ {A = Answer} (record { number = 0; alike = holds }) (anyOrderOf m)
+    pub says-rule : number ≡ 0 → {holds : Bool} → holds ≡ alike (countsIn (settingsOf Of1978 m)) → _≡_ {A = Answer} (record { number = 0; alike = holds }) (anyOrderOf m)
     unfolding anyOrderOf anyOrderRefusal
     says-rule h e = rw (← is, h, e)

@@ -5,6 +5,7 @@ use mathlib.Core.Bool.{Bool, false, cond}
 use mathlib.Core.List.{[], _∷_}
 use lib.Dec.{eqb}
 use Rattle.layout.specs.Machine.{Machine}
+use Rattle.texts.specs.declared.Text.the-variants.{Of1978}
 use Rattle.questions.specs.Questions.{asked}
 use Rattle.machine.specs.Questions.{question1, question2}
 use Rattle.order_agreement.specs.Agreement.{settingsOf}
@@ -17,10 +18,10 @@ pub record Answer : Type 0 where
 
 -- The questions of the call: 1 and 2.
 unfoldable pub anyOrderRefusal : Machine → ℕ
-anyOrderRefusal m = asked (question1 m ∷ question2 m ∷ [])
+anyOrderRefusal m = asked (question1 m ∷ question2 Of1978 m ∷ [])
 
 -- Whether every order leaves the same, by the rule.
 unfoldable pub anyOrderOf : Machine → Answer
 anyOrderOf m =
     let n = anyOrderRefusal m in
-    record { number = n; alike = cond (eqb n 0) (alike (countsIn (settingsOf m))) false }
+    record { number = n; alike = cond (eqb n 0) (alike (countsIn (settingsOf Of1978 m))) false }

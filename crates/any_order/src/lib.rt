@@ -4,6 +4,8 @@ ghost use Rattle.order_agreement.specs.Agreement.{settingsOf};
 ghost use Rattle.order_alike.specs.Alike.{countsIn, alike};
 ghost use Rattle.order_counts.specs.KeptCounts.{Countable};
 ghost use Rattle.any_order.specs.AnyOrder.{anyOrderOf};
+ghost use Rattle.texts.specs.declared.Text.the-variants.{Of1978};
+use texts::Text;
 
 // What the call answers: the number of the refusing question or 0, and whether every order leaves the same.
 pub struct AnyOrder {
@@ -14,7 +16,7 @@ pub struct AnyOrder {
 // Whether the rule holds.
 fn holds(m: &[u32]) -> bool
     requires { ⌜ Countable (now m) ⌝ }
-    ensures { λ r. ⌜ r ≡ alike (countsIn (settingsOf (now (m .entry)))) ⌝ }
+    ensures { λ r. ⌜ r ≡ alike (countsIn (settingsOf Of1978 (now (m .entry)))) ⌝ }
 {
     let mut counts = [0u32; order_counts::COUNTS];
     order_counts::count(m, &mut counts);
@@ -25,7 +27,7 @@ fn holds(m: &[u32]) -> bool
 pub fn any_order(m: &[u32]) -> AnyOrder
     ensures { λ r. ⌜ record { number = r .number; alike = r .alike } ≡ anyOrderOf (now (m .entry)) ⌝ }
 {
-    let number = machine::refusal(m);
+    let number = machine::refusal(Text::Of1978, m);
     if number != 0 {
         return AnyOrder {
             number,

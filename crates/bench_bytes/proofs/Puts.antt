@@ -28,15 +28,15 @@ then d at a b p q =
     record { ends = omega (arith, p .ends, q .ends, length-append a b); leaves = q .leaves ∙ rw (p .ends, p .leaves) (sets-append d at a b) }
 
 -- One more byte of a text at its place.
-pub sets-next : (d : List ℕ) (at : ℕ) (text : List ℕ) (i : ℕ) → i < length text →
-    sets d (at + i) (drop i text) ≡ sets (set d (at + i) (getD text i 0)) (at + (i + 1)) (drop (i + 1) text)
-sets-next d at text i h =
+pub sets-next : (d : List ℕ) (at : ℕ) (bytes : List ℕ) (i : ℕ) → i < length bytes →
+    sets d (at + i) (drop i bytes) ≡ sets (set d (at + i) (getD bytes i 0)) (at + (i + 1)) (drop (i + 1) bytes)
+sets-next d at bytes i h =
     let e : at + (i + 1) ≡ suc (at + i) = omega arith in
     let f : i + 1 ≡ suc i = omega arith in
-    rw (e, f, drop-cons text i 0 h)
+    rw (e, f, drop-cons bytes i 0 h)
 
 -- What was put at the start of a buffer is its first part.
-pub first-part : (text out : List ℕ) → length text ≤ length out → take (length text) (sets out 0 text) ≡ text
-first-part text out h =
-    let n : 0 + length text ≤ length out = omega arith in
-    ap (take (length text)) (sets-eq text out 0 n) ∙ take-append-seam text (drop (0 + length text) out)
+pub first-part : (bytes out : List ℕ) → length bytes ≤ length out → take (length bytes) (sets out 0 bytes) ≡ bytes
+first-part bytes out h =
+    let n : 0 + length bytes ≤ length out = omega arith in
+    ap (take (length bytes)) (sets-eq bytes out 0 n) ∙ take-append-seam bytes (drop (0 + length bytes) out)

@@ -15,71 +15,71 @@ use Rattle.bench_bytes.specs.Bytes.{startsWith, bytesBefore}
 use Rattle.lists.proofs.Choices.{of-cond}
 
 -- What is left of a text is its next byte and what is left then.
-pub next : (text : List ℕ) (i : ℕ) → i < length text → drop i text ≡ getD text i 0 ∷ drop (i + 1) text
-next text i h = rw (add-one, drop-cons text i 0)
+pub next : (bytes : List ℕ) (i : ℕ) → i < length bytes → drop i bytes ≡ getD bytes i 0 ∷ drop (i + 1) bytes
+next bytes i h = rw (add-one, drop-cons bytes i 0)
 
 -- The search for a byte: none is left, it stands next, or another does.
-module _ (text : List ℕ) (i x : ℕ) where
-  pub before-none : length text ≤ i → bytesBefore x (drop i text) ≡ 0
+module _ (bytes : List ℕ) (i x : ℕ) where
+  pub before-none : length bytes ≤ i → bytesBefore x (drop i bytes) ≡ 0
   unfolding bytesBefore
-  before-none h = rw (drop-of-length-le text h)
+  before-none h = rw (drop-of-length-le bytes h)
 
-  module _ (h : i < length text) where
-    pub before-hit : getD text i 0 ≡ x → bytesBefore x (drop i text) ≡ 0
+  module _ (h : i < length bytes) where
+    pub before-hit : getD bytes i 0 ≡ x → bytesBefore x (drop i bytes) ≡ 0
     unfolding bytesBefore
-    before-hit e = rw (next text i h, eq-eqb (getD text i 0) x e)
+    before-hit e = rw (next bytes i h, eq-eqb (getD bytes i 0) x e)
 
-    pub before-miss : (getD text i 0 ≡ x → ⊥) → bytesBefore x (drop i text) ≡ bytesBefore x (drop (i + 1) text) + 1
+    pub before-miss : (getD bytes i 0 ≡ x → ⊥) → bytesBefore x (drop i bytes) ≡ bytesBefore x (drop (i + 1) bytes) + 1
     unfolding bytesBefore
-    before-miss e = rw (next text i h, ne-eqb (getD text i 0) x e) (omega arith)
+    before-miss e = rw (next bytes i h, ne-eqb (getD bytes i 0) x e) (omega arith)
 
 -- An x at j bounds where the first x stands.
-before-at : (x : ℕ) (text : List ℕ) (j : ℕ) → j < length text → getD text j 0 ≡ x → bytesBefore x text ≤ j
+before-at : (x : ℕ) (bytes : List ℕ) (j : ℕ) → j < length bytes → getD bytes j 0 ≡ x → bytesBefore x bytes ≤ j
 unfolding bytesBefore
 before-at x [] j h e = omega arith
-before-at x (b ∷ text) zero h e = rw (eq-eqb b x e) (omega arith)
-before-at x (b ∷ text) (suc j) h e =
-    of-cond (λ k. k ≤ suc j) (eqb b x) {x = 0} {y = suc (bytesBefore x text)} (omega arith) (let g = before-at x text j (omega arith) e in omega arith)
+before-at x (b ∷ bytes) zero h e = rw (eq-eqb b x e) (omega arith)
+before-at x (b ∷ bytes) (suc j) h e =
+    of-cond (λ k. k ≤ suc j) (eqb b x) {x = 0} {y = suc (bytesBefore x bytes)} (omega arith) (let g = before-at x bytes j (omega arith) e in omega arith)
 
 -- From any place of a text that ends in x there is an x.
-pub before-within : (x : ℕ) (text : List ℕ) (i : ℕ) → i < length text → getD text (length text - 1) 0 ≡ x → bytesBefore x (drop i text) < length text - i
-before-within x text i h e =
-    let j : i + (length text - 1 - i) ≡ length text - 1 = omega arith in
-    let g : getD (drop i text) (length text - 1 - i) 0 ≡ x = getD-drop i text (length text - 1 - i) 0 ∙ ap (λ (k : ℕ). getD text k 0) j ∙ e in
-    let w = before-at x (drop i text) (length text - 1 - i) (rw length-drop (omega arith)) g in
+pub before-within : (x : ℕ) (bytes : List ℕ) (i : ℕ) → i < length bytes → getD bytes (length bytes - 1) 0 ≡ x → bytesBefore x (drop i bytes) < length bytes - i
+before-within x bytes i h e =
+    let j : i + (length bytes - 1 - i) ≡ length bytes - 1 = omega arith in
+    let g : getD (drop i bytes) (length bytes - 1 - i) 0 ≡ x = getD-drop i bytes (length bytes - 1 - i) 0 ∙ ap (λ (k : ℕ). getD bytes k 0) j ∙ e in
+    let w = before-at x (drop i bytes) (length bytes - 1 - i) (rw length-drop (omega arith)) g in
     omega arith
 
 -- A text's start: none is left of it, the text is shorter, a byte differs, or it is the same.
-module _ (text start : List ℕ) (i : ℕ) where
-  pub starts-all : length start ≤ i → startsWith (drop i text) (drop i start) ≡ true
+module _ (bytes start : List ℕ) (i : ℕ) where
+  pub starts-all : length start ≤ i → startsWith (drop i bytes) (drop i start) ≡ true
   unfolding startsWith
-  starts-all h = rw (drop-of-length-le start h) (any (drop i text))
+  starts-all h = rw (drop-of-length-le start h) (any (drop i bytes))
     where
       any : (l : List ℕ) → startsWith l [] ≡ true
       any [] = refl
       any (b ∷ l) = refl
 
   module _ (h : i < length start) where
-    pub starts-short : length text ≤ i → startsWith (drop i text) (drop i start) ≡ false
+    pub starts-short : length bytes ≤ i → startsWith (drop i bytes) (drop i start) ≡ false
     unfolding startsWith
-    starts-short s = rw (drop-of-length-le text s, next start i h)
+    starts-short s = rw (drop-of-length-le bytes s, next start i h)
 
-    pub starts-differ : i < length text → (getD text i 0 ≡ getD start i 0 → ⊥) → startsWith (drop i text) (drop i start) ≡ false
+    pub starts-differ : i < length bytes → (getD bytes i 0 ≡ getD start i 0 → ⊥) → startsWith (drop i bytes) (drop i start) ≡ false
     unfolding startsWith
-    starts-differ s e = rw (next text i s, next start i h, ne-eqb (getD text i 0) (getD start i 0) e)
+    starts-differ s e = rw (next bytes i s, next start i h, ne-eqb (getD bytes i 0) (getD start i 0) e)
 
-    pub starts-same : i < length text → getD text i 0 ≡ getD start i 0 → startsWith (drop i text) (drop i start) ≡ startsWith (drop (i + 1) text) (drop (i + 1) start)
+    pub starts-same : i < length bytes → getD bytes i 0 ≡ getD start i 0 → startsWith (drop i bytes) (drop i start) ≡ startsWith (drop (i + 1) bytes) (drop (i + 1) start)
     unfolding startsWith
-    starts-same s e = rw (next text i s, next start i h, eq-eqb (getD text i 0) (getD start i 0) e)
+    starts-same s e = rw (next bytes i s, next start i h, eq-eqb (getD bytes i 0) (getD start i 0) e)
 
 -- A text that starts with another is at least as long.
-pub starts-long : (text start : List ℕ) → startsWith text start ≡ true → length start ≤ length text
+pub starts-long : (bytes start : List ℕ) → startsWith bytes start ≡ true → length start ≤ length bytes
 unfolding startsWith
-starts-long text [] e = omega arith
+starts-long bytes [] e = omega arith
 starts-long [] (p ∷ start) e = let z : _≡_ {A = ℕ} 0 1 = cc in omega arith
-starts-long (b ∷ text) (p ∷ start) e =
-    let h = starts-long text start (and-second (eqb b p) (startsWith text start) e) in
+starts-long (b ∷ bytes) (p ∷ start) e =
+    let h = starts-long bytes start (and-second (eqb b p) (startsWith bytes start) e) in
     omega arith
 
-pub rest-of : (text : List ℕ) (n : ℕ) → take (length text - n) (drop n text) ≡ drop n text
-rest-of text n = take-all (length text - n) (drop n text) (omega (arith, length-drop n text))
+pub rest-of : (bytes : List ℕ) (n : ℕ) → take (length bytes - n) (drop n bytes) ≡ drop n bytes
+rest-of bytes n = take-all (length bytes - n) (drop n bytes) (omega (arith, length-drop n bytes))

@@ -11,15 +11,15 @@ use lib.Dec.{eqb}
 -- The bytes of a text in ASCII: each character's code.
 abbrev pub ascii : String → List ℕ
 ascii string.[] = []
-ascii (string._∷_ c text) = code c ∷ ascii text
+ascii (string._∷_ c bytes) = code c ∷ ascii bytes
 
 -- Whether a text starts with another.
 unfoldable pub startsWith : List ℕ → List ℕ → Bool
-startsWith text [] = true
+startsWith bytes [] = true
 startsWith [] (p ∷ start) = false
-startsWith (b ∷ text) (p ∷ start) = eqb b p && startsWith text start
+startsWith (b ∷ bytes) (p ∷ start) = eqb b p && startsWith bytes start
 
 -- How many bytes stand before the first byte x; all of them where there is none.
 unfoldable pub bytesBefore : ℕ → List ℕ → ℕ
 bytesBefore x [] = 0
-bytesBefore x (b ∷ text) = cond (eqb b x) 0 (suc (bytesBefore x text))
+bytesBefore x (b ∷ bytes) = cond (eqb b x) 0 (suc (bytesBefore x bytes))

@@ -6,29 +6,29 @@ ghost use lib.Seq.{sets};
 ghost use Rattle.bench_bytes.specs.Bytes.{startsWith, bytesBefore};
 
 // Puts a text into a buffer from a place on, and answers the place after it.
-pub fn put(out: &mut [u8], at: usize, text: &[u8]) -> usize
-    requires { ⌜ at + length (now text) ≤ length (now out) ⌝ }
-    ensures { λ r. ⌜ r ≡ at + length (now (text .entry)) ⌝ }
-    ensures { λ _. ⌜ now (out .exit) ≡ sets (now (out .entry)) at (now (text .entry)) ⌝ }
+pub fn put(out: &mut [u8], at: usize, bytes: &[u8]) -> usize
+    requires { ⌜ at + length (now bytes) ≤ length (now out) ⌝ }
+    ensures { λ r. ⌜ r ≡ at + length (now (bytes .entry)) ⌝ }
+    ensures { λ _. ⌜ now (out .exit) ≡ sets (now (out .entry)) at (now (bytes .entry)) ⌝ }
 {
     let mut i: usize = 0;
-    while i < text.len() {
-        out[at + i] = text[i];
+    while i < bytes.len() {
+        out[at + i] = bytes[i];
         i += 1;
     }
     at + i
 }
 
 // Whether a text starts with another.
-pub fn starts(text: &[u8], start: &[u8]) -> bool
-    ensures { λ r. ⌜ r ≡ startsWith (now (text .entry)) (now (start .entry)) ⌝ }
+pub fn starts(bytes: &[u8], start: &[u8]) -> bool
+    ensures { λ r. ⌜ r ≡ startsWith (now (bytes .entry)) (now (start .entry)) ⌝ }
 {
     let mut i = 0;
     while i < start.len() {
-        if text.len() <= i {
+        if bytes.len() <= i {
             return false;
         }
-        if text[i] != start[i] {
+        if bytes[i] != start[i] {
             return false;
         }
         i += 1;
@@ -37,12 +37,12 @@ pub fn starts(text: &[u8], start: &[u8]) -> bool
 }
 
 // How many bytes stand before the first byte x.
-pub fn find(text: &[u8], x: u8) -> usize
-    ensures { λ r. ⌜ r ≡ bytesBefore x (now (text .entry)) ⌝ }
+pub fn find(bytes: &[u8], x: u8) -> usize
+    ensures { λ r. ⌜ r ≡ bytesBefore x (now (bytes .entry)) ⌝ }
 {
     let mut i = 0;
-    while i < text.len() {
-        if text[i] == x {
+    while i < bytes.len() {
+        if bytes[i] == x {
             return i;
         }
         i += 1;
@@ -51,9 +51,9 @@ pub fn find(text: &[u8], x: u8) -> usize
 }
 
 // The bytes from n on.
-pub fn after(text: &[u8], n: usize) -> &[u8]
-    requires { ⌜ n ≤ length (now text) ⌝ }
-    ensures { λ r. ⌜ now r ≡ drop n (now (text .entry)) ⌝ }
+pub fn after(bytes: &[u8], n: usize) -> &[u8]
+    requires { ⌜ n ≤ length (now bytes) ⌝ }
+    ensures { λ r. ⌜ now r ≡ drop n (now (bytes .entry)) ⌝ }
 {
-    &text[n..]
+    &bytes[n..]
 }

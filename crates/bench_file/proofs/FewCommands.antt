@@ -19,7 +19,7 @@ use Rattle.bench_lines.specs.Lines.{mostPasses, passesStart, wordStart, command
 use Rattle.bench_lines.specs.declared.Line.{Line}
 use Rattle.bench_lines.specs.declared.Line.the-variants.{Passes, Command, Other}
 use Rattle.bench_lines.proofs.LineKinds.{word-kind}
-use Rattle.bench_lines.proofs.TextLines.{ended-is}
+use Rattle.bench_lines.proofs.FileLines.{ended-is}
 use Rattle.bench_file.specs.BenchFile.{commandsOf, fileOf, isBenchFile, commandPlaces}
 use Rattle.bench_file.specs.Sweeps.{allCommands}
 use Rattle.bench_file.proofs.WholeFile.{bench-file-ended, bench-file-fit, file-commands}
@@ -37,21 +37,21 @@ enough-other : (n : ℕ) → Enough n Other
 unfolding Enough
 enough-other n = omega arith
 
-enough-word : (n : ℕ) (text : List ℕ) → Enough n (wordLine text)
+enough-word : (n : ℕ) (file : List ℕ) → Enough n (wordLine file)
 unfolding Enough
-enough-word n text = word-kind text (Enough n) (omega arith) (λ i v. omega arith)
+enough-word n file = word-kind file (Enough n) (omega arith) (λ i v. omega arith)
 
 -- Eight capitals have eight bytes.
-enough-command : (n : ℕ) (text : List ℕ) → length commandStart + length text ≤ n → Enough n (lineBy (hexadecimalIn text) (λ c. Command c))
+enough-command : (n : ℕ) (file : List ℕ) → length commandStart + length file ≤ n → Enough n (lineBy (hexadecimalIn file) (λ c. Command c))
 unfolding hexadecimalIn Enough
-enough-command n text h = by (eqb (length text) 8) refl
+enough-command n file h = by (eqb (length file) 8) refl
   where
-    some : 8 ≤ length text → (a : Number) → Enough n (lineBy a (λ c. Command c))
+    some : 8 ≤ length file → (a : Number) → Enough n (lineBy a (λ c. Command c))
     some l (Is c) = omega (arith, l, h)
     some l No = omega arith
 
-    by : (b : Bool) → eqb (length text) 8 ≡ b → Enough n (lineBy (cond b (numberIn 16 (2 ^ 32) text) No) (λ c. Command c))
-    by true e = let l = eqb-true (length text) 8 e in some (omega arith) (numberIn 16 (2 ^ 32) text)
+    by : (b : Bool) → eqb (length file) 8 ≡ b → Enough n (lineBy (cond b (numberIn 16 (2 ^ 32) file) No) (λ c. Command c))
+    by true e = let l = eqb-true (length file) 8 e in some (omega arith) (numberIn 16 (2 ^ 32) file)
     by false e = omega arith
 
 enough-line : (l : List ℕ) → Enough (length l) (lineOf l)
@@ -84,17 +84,17 @@ unfolding bytes prepended
 bytes-prepended b [] n h = omega arith
 bytes-prepended b (l ∷ ls) n h = omega arith
 
-bytes-lines : (text : List ℕ) → bytes (linesOf text) ≤ length text + 1
+bytes-lines : (file : List ℕ) → bytes (linesOf file) ≤ length file + 1
 unfolding bytes linesOf
 bytes-lines [] = omega arith
-bytes-lines (b ∷ text) =
-    let h = bytes-lines text in
-    of-cond (λ ls. bytes ls ≤ suc (length text) + 1) (eqb b (code "\n")) {x = [] ∷ linesOf text} {y = prepended b (linesOf text)}
-    (omega (arith, h)) (bytes-prepended b (linesOf text) (length text) h)
+bytes-lines (b ∷ file) =
+    let h = bytes-lines file in
+    of-cond (λ ls. bytes ls ≤ suc (length file) + 1) (eqb b (code "\n")) {x = [] ∷ linesOf file} {y = prepended b (linesOf file)}
+    (omega (arith, h)) (bytes-prepended b (linesOf file) (length file) h)
 
-pub few-commands : (text : List ℕ) → isBenchFile text ≡ true → length (fileOf text .commands) ≤ commandPlaces
-few-commands text f =
-    let e = ended-is text (bench-file-ended text f) in
-    let a = enough-lines (linesOf text) in
-    let b = bytes-lines text in
-    rw (file-commands text (bench-file-fit text f)) (omega (arith, a, b, e .short))
+pub few-commands : (file : List ℕ) → isBenchFile file ≡ true → length (fileOf file .commands) ≤ commandPlaces
+few-commands file f =
+    let e = ended-is file (bench-file-ended file f) in
+    let a = enough-lines (linesOf file) in
+    let b = bytes-lines file in
+    rw (file-commands file (bench-file-fit file f)) (omega (arith, a, b, e .short))

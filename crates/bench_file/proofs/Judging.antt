@@ -13,7 +13,7 @@ use Rattle.lists.proofs.Choices.{of-cond}
 use Rattle.bench_lines.specs.Lines.{lineOf, linesOf}
 use Rattle.bench_lines.specs.declared.Line.{Line}
 use Rattle.bench_lines.specs.declared.Line.the-variants.{Passes, Word, Command, Other}
-use Rattle.bench_lines.proofs.TextLines.{Ended, within, lines-next, lines-end}
+use Rattle.bench_lines.proofs.FileLines.{Ended, within, lines-next, lines-end}
 use Rattle.bench_phases.specs.Phases.{phaseAfter, isFit}
 use Rattle.bench_phases.specs.declared.Phase.{Phase}
 use Rattle.bench_phases.specs.declared.Phase.the-variants.{Start, Unfit}
@@ -67,27 +67,27 @@ outline-lines r [] = refl
 outline-lines r (l ∷ ls) = outline-lines (withLine r (lineOf l)) ls ∙ ap (λ (f : File). judgedLines f ls) (outline-line r (lineOf l))
 
 -- The sweep under way: the lines that are left make the whole file's outline.
-pub record Judging (text : List ℕ) (at : ℕ) (f : File) : Type 0 where
-  pub here : at ≤ length text
+pub record Judging (file : List ℕ) (at : ℕ) (f : File) : Type 0 where
+  pub here : at ≤ length file
   pub few : f .count ≤ at
-  pub rest : judgedLines f (linesOf (drop at text)) ≡ outline (fileOf text)
+  pub rest : judgedLines f (linesOf (drop at file)) ≡ outline (fileOf file)
 
-pub begins : (text : List ℕ) → Judging text 0 (record { phase = Start; passes = 0; count = 0 })
+pub begins : (file : List ℕ) → Judging file 0 (record { phase = Start; passes = 0; count = 0 })
 unfolding fileOf
-begins text = record { here = omega arith; few = omega arith; rest = sym (outline-lines unread (linesOf text)) }
+begins file = record { here = omega arith; few = omega arith; rest = sym (outline-lines unread (linesOf file)) }
 
-pub ends : (text : List ℕ) (at : ℕ) (f : File) → Judging text at f → length text ≤ at → f ≡ outline (fileOf text)
+pub ends : (file : List ℕ) (at : ℕ) (f : File) → Judging file at f → length file ≤ at → f ≡ outline (fileOf file)
 unfolding judgedLines
-ends text at f j h = sym (ap (judgedLines f) (lines-end text at h)) ∙ j .rest
+ends file at f j h = sym (ap (judgedLines f) (lines-end file at h)) ∙ j .rest
 
-pub goes-on : (text : List ℕ) (end : Ended text) (at : ℕ) (f : File) → Judging text at f → (h : at < length text) → {k : ℕ} (e : k ≡ bytesBefore (code "\n") (drop at text)) → {g : File}
-    → g ≡ judgedLine f (lineOf (take k (drop at text))) → Judging text (at + k + 1) g
+pub goes-on : (file : List ℕ) (end : Ended file) (at : ℕ) (f : File) → Judging file at f → (h : at < length file) → {k : ℕ} (e : k ≡ bytesBefore (code "\n") (drop at file)) → {g : File}
+    → g ≡ judgedLine f (lineOf (take k (drop at file))) → Judging file (at + k + 1) g
 unfolding judgedLines
-goes-on text end at f j h {k = k} e {g = g} s =
-    let w = within text end at h e in
-    let c = judged-count f (lineOf (take k (drop at text))) in
+goes-on file end at f j h {k = k} e {g = g} s =
+    let w = within file end at h e in
+    let c = judged-count f (lineOf (take k (drop at file))) in
     record {
       here = omega arith;
       few = rw s (omega (arith, j .few));
-      rest = rw s (sym (ap (judgedLines f) (lines-next text end at h e)) ∙ j .rest);
+      rest = rw s (sym (ap (judgedLines f) (lines-next file end at h e)) ∙ j .rest);
     }

@@ -13,7 +13,7 @@ use Rattle.bench_bytes.proofs.Puts.{sets-append}
 use Rattle.bench_lines.specs.Lines.{lineOf, linesOf}
 use Rattle.bench_lines.specs.declared.Line.{Line}
 use Rattle.bench_lines.specs.declared.Line.the-variants.{Passes, Word, Command, Other}
-use Rattle.bench_lines.proofs.TextLines.{Ended, within, lines-next, lines-end}
+use Rattle.bench_lines.proofs.FileLines.{Ended, within, lines-next, lines-end}
 use Rattle.bench_file.specs.BenchFile.{withWord, commandsOf}
 use Rattle.bench_file.specs.Sweeps.{withWords, allCommands}
 use Rattle.bench_file.proofs.Judging.{one-command}
@@ -38,30 +38,30 @@ module _ (l : Line) (count : ℕ) (m room : List ℕ) where
   load-other e = rw e (sym (add-zero count), (refl, refl))
 
 -- The sweep under way: the lines that are left set what all lines set.
-pub record Loading (text m₀ room₀ : List ℕ) (at count : ℕ) (m room : List ℕ) : Type 0 where
-  pub here : at ≤ length text
+pub record Loading (file m₀ room₀ : List ℕ) (at count : ℕ) (m room : List ℕ) : Type 0 where
+  pub here : at ≤ length file
   pub few : count ≤ at
-  pub words : withWords m (linesOf (drop at text)) ≡ withWords m₀ (linesOf text)
-  pub commands : sets room count (allCommands (linesOf (drop at text))) ≡ sets room₀ 0 (allCommands (linesOf text))
+  pub words : withWords m (linesOf (drop at file)) ≡ withWords m₀ (linesOf file)
+  pub commands : sets room count (allCommands (linesOf (drop at file))) ≡ sets room₀ 0 (allCommands (linesOf file))
 
-pub begins : (text m room : List ℕ) → Loading text m room 0 0 m room
-begins text m room = record { here = omega arith; few = omega arith; words = refl; commands = refl }
+pub begins : (file m room : List ℕ) → Loading file m room 0 0 m room
+begins file m room = record { here = omega arith; few = omega arith; words = refl; commands = refl }
 
-module _ (text : List ℕ) {m₀ room₀ : List ℕ} {at count : ℕ} {m room : List ℕ} (j : Loading text m₀ room₀ at count m room) where
-  pub ends : length text ≤ at → (m ≡ withWords m₀ (linesOf text)) × (room ≡ sets room₀ 0 (allCommands (linesOf text)))
+module _ (file : List ℕ) {m₀ room₀ : List ℕ} {at count : ℕ} {m room : List ℕ} (j : Loading file m₀ room₀ at count m room) where
+  pub ends : length file ≤ at → (m ≡ withWords m₀ (linesOf file)) × (room ≡ sets room₀ 0 (allCommands (linesOf file)))
   unfolding withWords allCommands
   ends h =
-      (sym (ap (withWords m) (lines-end text at h)) ∙ j .words, sym (ap (λ (ls : List (List ℕ)). sets room count (allCommands ls)) (lines-end text at h)) ∙ j .commands)
+      (sym (ap (withWords m) (lines-end file at h)) ∙ j .words, sym (ap (λ (ls : List (List ℕ)). sets room count (allCommands ls)) (lines-end file at h)) ∙ j .commands)
 
-  pub goes-on : (end : Ended text) (h : at < length text) {k : ℕ} (e : k ≡ bytesBefore (code "\n") (drop at text)) {count′ : ℕ} {m′ room′ : List ℕ}
-      → Leaves (lineOf (take k (drop at text))) count m room count′ m′ room′ → Loading text m₀ room₀ (at + k + 1) count′ m′ room′
+  pub goes-on : (end : Ended file) (h : at < length file) {k : ℕ} (e : k ≡ bytesBefore (code "\n") (drop at file)) {count′ : ℕ} {m′ room′ : List ℕ}
+      → Leaves (lineOf (take k (drop at file))) count m room count′ m′ room′ → Loading file m₀ room₀ (at + k + 1) count′ m′ room′
   unfolding withWords allCommands
   goes-on end h {k = k} e s =
-      let w = within text end at h e in
-      let l = lineOf (take k (drop at text)) in
+      let w = within file end at h e in
+      let l = lineOf (take k (drop at file)) in
       let o = one-command l in
-      let ls = linesOf (drop (at + k + 1) text) in
-      let n = lines-next text end at h e in
+      let ls = linesOf (drop (at + k + 1) file) in
+      let n = lines-next file end at h e in
       record {
         here = omega arith;
         few = omega (arith, s .0, o, j .few);

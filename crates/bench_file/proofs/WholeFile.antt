@@ -1,4 +1,4 @@
--- The two sweeps together read a file: a bench file is what its words and commands make, and another text changes nothing.
+-- The two sweeps together read a file: a bench file is what its words and commands make, and another file changes nothing.
 -- Assumes nothing.
 use mathlib.Core.Path.{_≡_, refl, ap, sym, _∙_}
 use mathlib.Core.List.{List, [], _∷_, _++_, append-nil, append-assoc}
@@ -61,43 +61,43 @@ lines-hold r (l ∷ ls) h =
     )
 
 -- What a bench file sets.
-module _ (text : List ℕ) (h : isFit (fileOf text .phase) ≡ true) where
-  file-words : fileOf text .machine ≡ withUpdateTicks (withWords freshMachine (linesOf text))
+module _ (file : List ℕ) (h : isFit (fileOf file .phase) ≡ true) where
+  file-words : fileOf file .machine ≡ withUpdateTicks (withWords freshMachine (linesOf file))
   unfolding fileOf
-  file-words = ap withUpdateTicks (lines-hold unread (linesOf text) h .0)
+  file-words = ap withUpdateTicks (lines-hold unread (linesOf file) h .0)
 
-  pub file-commands : fileOf text .commands ≡ allCommands (linesOf text)
+  pub file-commands : fileOf file .commands ≡ allCommands (linesOf file)
   unfolding fileOf
-  file-commands = lines-hold unread (linesOf text) h .1
+  file-commands = lines-hold unread (linesOf file) h .1
 
 -- Question 9 in its two parts.
-pub bench-file-ended : (text : List ℕ) → isBenchFile text ≡ true → ended text ≡ true
+pub bench-file-ended : (file : List ℕ) → isBenchFile file ≡ true → ended file ≡ true
 unfolding isBenchFile
-bench-file-ended text h = and-first (ended text) (isFit (fileOf text .phase)) h
+bench-file-ended file h = and-first (ended file) (isFit (fileOf file .phase)) h
 
-pub bench-file-fit : (text : List ℕ) → isBenchFile text ≡ true → isFit (fileOf text .phase) ≡ true
+pub bench-file-fit : (file : List ℕ) → isBenchFile file ≡ true → isFit (fileOf file .phase) ≡ true
 unfolding isBenchFile
-bench-file-fit text h = and-second (ended text) (isFit (fileOf text .phase)) h
+bench-file-fit file h = and-second (ended file) (isFit (fileOf file .phase)) h
 
 -- Reading, by its two tests.
-module _ (text m room : List ℕ) {e : Bool} (p : e ≡ ended text) where
-  pub read-unended : e ≡ false → record { number = 9; passes = 0; count = 0; machine = m; room = room } ≡ readOf text m room
+module _ (file m room : List ℕ) {e : Bool} (p : e ≡ ended file) where
+  pub read-unended : e ≡ false → record { number = 9; passes = 0; count = 0; machine = m; room = room } ≡ readOf file m room
   unfolding readOf isBenchFile
   read-unended h = rw (sym p ∙ h)
 
-  module _ (h : e ≡ true) {f : File} (q : f ≡ outline (fileOf text)) {c : Bool} (s : c ≡ isFit (f .phase)) where
-    judged : isFit (fileOf text .phase) ≡ c
+  module _ (h : e ≡ true) {f : File} (q : f ≡ outline (fileOf file)) {c : Bool} (s : c ≡ isFit (f .phase)) where
+    judged : isFit (fileOf file .phase) ≡ c
     judged = sym (s ∙ ap (λ (g : File). isFit (g .phase)) q)
 
-    pub read-unfit : c ≡ false → record { number = 9; passes = 0; count = 0; machine = m; room = room } ≡ readOf text m room
+    pub read-unfit : c ≡ false → record { number = 9; passes = 0; count = 0; machine = m; room = room } ≡ readOf file m room
     unfolding readOf isBenchFile
     read-unfit g = rw (sym p ∙ h, judged ∙ g)
 
     module _ (g : c ≡ true) where
-      pub read-fit : {m₁ m₂ m₃ room₁ : List ℕ} → m₁ ≡ freshMachine → m₂ ≡ withWords m₁ (linesOf text) → room₁ ≡ sets room 0 (allCommands (linesOf text))
-          → m₃ ≡ withUpdateTicks m₂ → record { number = 0; passes = f .passes; count = f .count; machine = m₃; room = room₁ } ≡ readOf text m room
+      pub read-fit : {m₁ m₂ m₃ room₁ : List ℕ} → m₁ ≡ freshMachine → m₂ ≡ withWords m₁ (linesOf file) → room₁ ≡ sets room 0 (allCommands (linesOf file))
+          → m₃ ≡ withUpdateTicks m₂ → record { number = 0; passes = f .passes; count = f .count; machine = m₃; room = room₁ } ≡ readOf file m room
       unfolding readOf isBenchFile
-      read-fit a b d t = rw (sym p ∙ h, judged ∙ g, q, t, b, a, d, file-words text (judged ∙ g), file-commands text (judged ∙ g))
+      read-fit a b d t = rw (sym p ∙ h, judged ∙ g, q, t, b, a, d, file-words file (judged ∙ g), file-commands file (judged ∙ g))
 
 -- A run of the machine's length is made a fresh machine.
 pub fresh-run : (m : List ℕ) → length m ≡ machineLength → freshRun m ≡ freshMachine

@@ -1,4 +1,4 @@
--- The bench file (document 01, "Bench file"): what it says, and whether a text is one.
+-- The bench file (document 01, "Bench file"): what it says, and whether a file is one.
 -- Assumes nothing.
 use Prim.Native.Nat.{ℕ}
 use mathlib.Core.Bool.{Bool, cond, _&&_}
@@ -63,19 +63,19 @@ withLines r (l ∷ ls) = withLines (withLine r (lineOf l)) ls
 abbrev pub withTicks : Reading → Reading
 withTicks r = record { phase = r .phase; passes = r .passes; machine = withUpdateTicks (r .machine); commands = r .commands }
 
--- What a text says.
+-- What a file says.
 unfoldable pub fileOf : List ℕ → Reading
-fileOf text = withTicks (withLines unread (linesOf text))
+fileOf file = withTicks (withLines unread (linesOf file))
 
 -- Question 9: at most 65,536 bytes, every line ends in LF, and the lines are those of a bench file.
 unfoldable pub isBenchFile : List ℕ → Bool
-isBenchFile text = ended text && isFit (fileOf text .phase)
+isBenchFile file = ended file && isFit (fileOf file .phase)
 
 -- The room for a file's commands: more than 65,536 bytes can have.
 abbrev pub commandPlaces : ℕ
 commandPlaces = 4096
 
--- What reading a text answers and leaves: 9 or 0, the passes, how many commands there are, the machine and the room for commands.
+-- What reading a file answers and leaves: 9 or 0, the passes, how many commands there are, the machine and the room for commands.
 pub record Answer : Type 0 where
   pub number : ℕ
   pub passes : ℕ
@@ -83,10 +83,10 @@ pub record Answer : Type 0 where
   pub machine : Machine
   pub room : Commands
 
--- A text that is no bench file leaves the machine and the room as they are.
+-- A file that is no bench file leaves the machine and the room as they are.
 unfoldable pub readOf : List ℕ → Machine → Commands → Answer
-readOf text m room =
-    let file = fileOf text in
-    cond (isBenchFile text)
-    (record { number = 0; passes = file .passes; count = length (file .commands); machine = file .machine; room = sets room 0 (file .commands) })
+readOf file m room =
+    let reading = fileOf file in
+    cond (isBenchFile file)
+    (record { number = 0; passes = reading .passes; count = length (reading .commands); machine = reading .machine; room = sets room 0 (reading .commands) })
     (record { number = 9; passes = 0; count = 0; machine = m; room = room })

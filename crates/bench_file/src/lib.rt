@@ -29,14 +29,14 @@ pub struct Contents {
 pub const COMMAND_PLACES: usize = 4096;
 
 // A file with a line more.
-fn judge_line(file: File, line: Line) -> File
-    requires { ⌜ file .count < fileBytes ⌝ }
-    ensures { λ r. ⌜ r ≡ judgedLine file line ⌝ }
+fn judge_line(reading: File, line: Line) -> File
+    requires { ⌜ reading .count < fileBytes ⌝ }
+    ensures { λ r. ⌜ r ≡ judgedLine reading line ⌝ }
 {
-    let before = file.phase;
+    let before = reading.phase;
     let phase = bench_phases::phase_after(before, line);
-    let passes = file.passes;
-    let count = file.count;
+    let passes = reading.passes;
+    let count = reading.count;
     if !bench_phases::fit(phase) {
         return File {
             phase: Phase::Unfit,
@@ -68,23 +68,23 @@ fn judge_line(file: File, line: Line) -> File
     }
 }
 
-// What the lines of a text are; nothing is set.
-fn judge(text: &[u8]) -> File
-    requires { ⌜ ended (now text) ≡ true ⌝ }
-    ensures { λ r. ⌜ r ≡ outline (fileOf (now (text .entry))) ⌝ }
+// What the lines of a file are; nothing is set.
+fn judge(file: &[u8]) -> File
+    requires { ⌜ ended (now file) ≡ true ⌝ }
+    ensures { λ r. ⌜ r ≡ outline (fileOf (now (file .entry))) ⌝ }
 {
-    let mut file = File {
+    let mut reading = File {
         phase: Phase::Start,
         passes: 0,
         count: 0,
     };
     let mut at = 0;
-    while at < text.len() {
-        let k = bench_bytes::find(bench_bytes::after(text, at), b'\n');
-        file = judge_line(file, bench_lines::read_line(&text[at..at + k]));
+    while at < file.len() {
+        let k = bench_bytes::find(bench_bytes::after(file, at), b'\n');
+        reading = judge_line(reading, bench_lines::read_line(&file[at..at + k]));
         at = at + k + 1;
     }
-    file
+    reading
 }
 
 // Sets the word at a place, if there is one.
@@ -117,17 +117,17 @@ fn load_line(line: Line, m: &mut [u32], room: &mut [u32], count: usize) -> usize
     }
 }
 
-// Sets what the lines of a text say.
-fn load(text: &[u8], m: &mut [u32], room: &mut [u32])
-    requires { ⌜ ended (now text) ≡ true ⌝ }
-    ensures { λ _. ⌜ now (m .exit) ≡ withWords (now (m .entry)) (linesOf (now (text .entry))) ⌝ }
-    ensures { λ _. ⌜ now (room .exit) ≡ sets (now (room .entry)) 0 (allCommands (linesOf (now (text .entry)))) ⌝ }
+// Sets what the lines of a file say.
+fn load(file: &[u8], m: &mut [u32], room: &mut [u32])
+    requires { ⌜ ended (now file) ≡ true ⌝ }
+    ensures { λ _. ⌜ now (m .exit) ≡ withWords (now (m .entry)) (linesOf (now (file .entry))) ⌝ }
+    ensures { λ _. ⌜ now (room .exit) ≡ sets (now (room .entry)) 0 (allCommands (linesOf (now (file .entry)))) ⌝ }
 {
     let mut count = 0;
     let mut at = 0;
-    while at < text.len() {
-        let k = bench_bytes::find(bench_bytes::after(text, at), b'\n');
-        count = load_line(bench_lines::read_line(&text[at..at + k]), m, room, count);
+    while at < file.len() {
+        let k = bench_bytes::find(bench_bytes::after(file, at), b'\n');
+        count = load_line(bench_lines::read_line(&file[at..at + k]), m, room, count);
         at = at + k + 1;
     }
 }
@@ -142,23 +142,23 @@ fn count_update_ticks(m: &mut [u32])
     m[layout::UPDATE_TICKS_AT] = layout::update_ticks(t, n);
 }
 
-// Reads a bench file: its words on a fresh machine with the update ticks that follow, its commands from the room's first place on. Another text changes nothing.
+// Reads a bench file: its words on a fresh machine with the update ticks that follow, its commands from the room's first place on. Another file changes nothing.
 pub fn read(
-    text: &[u8],
+    file: &[u8],
     m: &mut [u32; layout::MACHINE_LENGTH],
     room: &mut [u32; COMMAND_PLACES],
 ) -> Contents
-    ensures { λ r. ⌜ record { number = r .number; passes = r .passes; count = r .count; machine = now (m .exit); room = now (room .exit) } ≡ readOf (now (text .entry)) (now (m .entry)) (now (room .entry)) ⌝ }
+    ensures { λ r. ⌜ record { number = r .number; passes = r .passes; count = r .count; machine = now (m .exit); room = now (room .exit) } ≡ readOf (now (file .entry)) (now (m .entry)) (now (room .entry)) ⌝ }
 {
-    if !bench_lines::ended(text) {
+    if !bench_lines::ended(file) {
         return Contents {
             number: 9,
             passes: 0,
             count: 0,
         };
     }
-    let file = judge(text);
-    let phase = file.phase;
+    let reading = judge(file);
+    let phase = reading.phase;
     if !bench_phases::fit(phase) {
         return Contents {
             number: 9,
@@ -167,11 +167,11 @@ pub fn read(
         };
     }
     machine::fresh(m);
-    load(text, m, room);
+    load(file, m, room);
     count_update_ticks(m);
     Contents {
         number: 0,
-        passes: file.passes,
-        count: file.count,
+        passes: reading.passes,
+        count: reading.count,
     }
 }

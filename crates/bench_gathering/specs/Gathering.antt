@@ -10,24 +10,26 @@ use Rattle.bench_file.specs.BenchFile.{Answer}
 use Rattle.bench_ringing.specs.Steps.{Ringing, Step, stepOf, begun}
 use Rattle.bench_ringing.specs.declared.Output.{Output}
 use Rattle.bench_ringing.specs.declared.Output.the-variants.{Lines}
+use Rattle.texts.specs.declared.Text.{Text}
+use Rattle.texts.specs.declared.Text.the-variants.{Of1978}
 
 -- What is gathered after some bytes, at most k steps: a step is taken while a pass is left and a line's buffer, more than a line or a frame has, is free of `room`.
-unfoldable pub gatheredAfter : Output → ℕ → ℕ → List ℕ → Ringing → Step
-gatheredAfter o room zero bytes r = record { bytes = bytes; next = r }
-gatheredAfter o room (suc k) bytes r =
-    let s = stepOf o r in
+unfoldable pub gatheredAfter : Text → Output → ℕ → ℕ → List ℕ → Ringing → Step
+gatheredAfter text o room zero bytes r = record { bytes = bytes; next = r }
+gatheredAfter text o room (suc k) bytes r =
+    let s = stepOf text o r in
     cond (eqb (r .passes) 0) (record { bytes = bytes; next = r })
-    (cond (ltb room (length bytes + lineBytes)) (record { bytes = bytes; next = r }) (gatheredAfter o room k (bytes ++ s .bytes) (s .next)))
+    (cond (ltb room (length bytes + lineBytes)) (record { bytes = bytes; next = r }) (gatheredAfter text o room k (bytes ++ s .bytes) (s .next)))
 
 -- What is gathered from a ringing under way.
-unfoldable pub gathered : Output → ℕ → Ringing → Step
-gathered o room r = gatheredAfter o room (r .passes) [] r
+unfoldable pub gathered : Text → Output → ℕ → Ringing → Step
+gathered text o room r = gatheredAfter text o room (r .passes) [] r
 
 -- What is given out, one gathering after another until no pass is left, at most k of them.
-unfoldable pub printedBy : Output → ℕ → ℕ → Ringing → List ℕ
-printedBy o room zero r = []
-printedBy o room (suc k) r = cond (eqb (r .passes) 0) [] (gathered o room r .bytes ++ printedBy o room k (gathered o room r .next))
+unfoldable pub printedBy : Text → Output → ℕ → ℕ → Ringing → List ℕ
+printedBy text o room zero r = []
+printedBy text o room (suc k) r = cond (eqb (r .passes) 0) [] (gathered text o room r .bytes ++ printedBy text o room k (gathered text o room r .next))
 
--- What is printed so from what reading a text answers and leaves; a refused text has the line of its refusal.
+-- What is printed so from what reading a file answers and leaves; a refused file has the line of its refusal.
 unfoldable pub printedFrom : ℕ → Answer → List ℕ
-printedFrom room a = cond (eqb (a .number) 0) (printedBy Lines room (a .passes) (begun a)) (refusalLine (a .number))
+printedFrom room a = cond (eqb (a .number) 0) (printedBy Of1978 Lines room (a .passes) (begun a)) (refusalLine (a .number))

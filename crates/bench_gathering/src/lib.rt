@@ -15,9 +15,11 @@ use bench_ringing::Output;
 use bench_ringing::Progress;
 use exponential::Entries;
 use sine::Quarter;
+use texts::Text;
 
 // One step, what it gives out put after the bytes that a buffer has. A pass is left, and which question refuses it is known.
 fn step_into(
+    text: Text,
     output: Output,
     at: Progress,
     m: &mut [u32],
@@ -32,16 +34,17 @@ fn step_into(
     requires { ⌜ at .length + lineBytes ≤ length (now out) ⌝ }
     requires { ⌜ at .passes ≢ 0 ⌝ }
     requires { ⌜ now order ≡ byNumber 256 ⌝ }
-    requires { ⌜ number ≡ passed (now m) (now memory) .number ⌝ }
+    requires { ⌜ number ≡ passed text (now m) (now memory) .number ⌝ }
     requires { ⌜ (now sine ≡ quarter) × (now decay ≡ entries tableSize) ⌝ }
-    ensures { λ r. ⌜ r .length ≡ at .length + length (stepOf output (ringingAt at (now (m .entry)) (now (memory .entry)) (now (commands .entry))) .bytes) ⌝ }
-    ensures { λ _. ⌜ now (out .exit) ≡ sets (now (out .entry)) (at .length) (stepOf output (ringingAt at (now (m .entry)) (now (memory .entry)) (now (commands .entry))) .bytes) ⌝ }
-    ensures { λ r. ⌜ ringingAt r (now (m .exit)) (now (memory .exit)) (now (commands .entry)) ≡ stepOf output (ringingAt at (now (m .entry)) (now (memory .entry)) (now (commands .entry))) .next ⌝ }
-    ensures { λ r. ⌜ r .taken ≡ at .taken + commandsTaken (ringingAt at (now (m .entry)) (now (memory .entry)) (now (commands .entry))) (stepOf output (ringingAt at (now (m .entry)) (now (memory .entry)) (now (commands .entry)))) ⌝ }
+    ensures { λ r. ⌜ r .length ≡ at .length + length (stepOf text output (ringingAt at (now (m .entry)) (now (memory .entry)) (now (commands .entry))) .bytes) ⌝ }
+    ensures { λ _. ⌜ now (out .exit) ≡ sets (now (out .entry)) (at .length) (stepOf text output (ringingAt at (now (m .entry)) (now (memory .entry)) (now (commands .entry))) .bytes) ⌝ }
+    ensures { λ r. ⌜ ringingAt r (now (m .exit)) (now (memory .exit)) (now (commands .entry)) ≡ stepOf text output (ringingAt at (now (m .entry)) (now (memory .entry)) (now (commands .entry))) .next ⌝ }
+    ensures { λ r. ⌜ r .taken ≡ at .taken + commandsTaken (ringingAt at (now (m .entry)) (now (memory .entry)) (now (commands .entry))) (stepOf text output (ringingAt at (now (m .entry)) (now (memory .entry)) (now (commands .entry)))) ⌝ }
 {
     let start = at.length;
     let mut line = [0u8; bench_text::LINE_BYTES];
     let next = bench_ringing::step(
+        text,
         output,
         at,
         m,
@@ -68,6 +71,7 @@ fn step_into(
 
 // Steps until no pass is left or the buffer may not hold another line or frame. The questions of a pass are asked once, and again only after a step that took commands.
 fn gather_by(
+    text: Text,
     output: Output,
     at: Progress,
     m: &mut [u32],
@@ -80,15 +84,15 @@ fn gather_by(
 ) -> Progress
     requires { ⌜ now order ≡ byNumber 256 ⌝ }
     requires { ⌜ (now sine ≡ quarter) × (now decay ≡ entries tableSize) ⌝ }
-    ensures { λ r. ⌜ r .length ≡ length (gathered output (length (now (out .entry))) (ringingAt at (now (m .entry)) (now (memory .entry)) (now (commands .entry))) .bytes) ⌝ }
-    ensures { λ _. ⌜ now (out .exit) ≡ sets (now (out .entry)) 0 (gathered output (length (now (out .entry))) (ringingAt at (now (m .entry)) (now (memory .entry)) (now (commands .entry))) .bytes) ⌝ }
-    ensures { λ r. ⌜ ringingAt r (now (m .exit)) (now (memory .exit)) (now (commands .entry)) ≡ gathered output (length (now (out .entry))) (ringingAt at (now (m .entry)) (now (memory .entry)) (now (commands .entry))) .next ⌝ }
-    ensures { λ r. ⌜ r .taken ≡ at .taken + commandsTaken (ringingAt at (now (m .entry)) (now (memory .entry)) (now (commands .entry))) (gathered output (length (now (out .entry))) (ringingAt at (now (m .entry)) (now (memory .entry)) (now (commands .entry)))) ⌝ }
+    ensures { λ r. ⌜ r .length ≡ length (gathered text output (length (now (out .entry))) (ringingAt at (now (m .entry)) (now (memory .entry)) (now (commands .entry))) .bytes) ⌝ }
+    ensures { λ _. ⌜ now (out .exit) ≡ sets (now (out .entry)) 0 (gathered text output (length (now (out .entry))) (ringingAt at (now (m .entry)) (now (memory .entry)) (now (commands .entry))) .bytes) ⌝ }
+    ensures { λ r. ⌜ ringingAt r (now (m .exit)) (now (memory .exit)) (now (commands .entry)) ≡ gathered text output (length (now (out .entry))) (ringingAt at (now (m .entry)) (now (memory .entry)) (now (commands .entry))) .next ⌝ }
+    ensures { λ r. ⌜ r .taken ≡ at .taken + commandsTaken (ringingAt at (now (m .entry)) (now (memory .entry)) (now (commands .entry))) (gathered text output (length (now (out .entry))) (ringingAt at (now (m .entry)) (now (memory .entry)) (now (commands .entry)))) ⌝ }
 {
     let passes = at.passes;
     let taken = at.taken;
     let refused = at.refused;
-    let mut number = bench_pass::refusal(m, memory);
+    let mut number = bench_pass::refusal(text, m, memory);
     let mut here = Progress {
         passes,
         taken,
@@ -100,6 +104,7 @@ fn gather_by(
             return here;
         }
         let next = step_into(
+            text,
             output,
             here,
             m,
@@ -112,7 +117,7 @@ fn gather_by(
             decay,
         );
         let took = next.taken != here.taken;
-        number = bench_ringing::next_number(m, memory, number, took);
+        number = bench_ringing::next_number(text, m, memory, number, took);
         here = next;
     }
     here
@@ -120,6 +125,7 @@ fn gather_by(
 
 // Steps until no pass is left or the buffer may not hold another line or frame; the length answered is that of all that they give out.
 pub fn gather(
+    text: Text,
     output: Output,
     at: Progress,
     m: &mut [u32],
@@ -127,14 +133,25 @@ pub fn gather(
     memory: &mut [u32],
     out: &mut [u8],
 ) -> Progress
-    ensures { λ r. ⌜ r .length ≡ length (gathered output (length (now (out .entry))) (ringingAt at (now (m .entry)) (now (memory .entry)) (now (commands .entry))) .bytes) ⌝ }
-    ensures { λ _. ⌜ now (out .exit) ≡ sets (now (out .entry)) 0 (gathered output (length (now (out .entry))) (ringingAt at (now (m .entry)) (now (memory .entry)) (now (commands .entry))) .bytes) ⌝ }
-    ensures { λ r. ⌜ ringingAt r (now (m .exit)) (now (memory .exit)) (now (commands .entry)) ≡ gathered output (length (now (out .entry))) (ringingAt at (now (m .entry)) (now (memory .entry)) (now (commands .entry))) .next ⌝ }
-    ensures { λ r. ⌜ r .taken ≡ at .taken + commandsTaken (ringingAt at (now (m .entry)) (now (memory .entry)) (now (commands .entry))) (gathered output (length (now (out .entry))) (ringingAt at (now (m .entry)) (now (memory .entry)) (now (commands .entry)))) ⌝ }
+    ensures { λ r. ⌜ r .length ≡ length (gathered text output (length (now (out .entry))) (ringingAt at (now (m .entry)) (now (memory .entry)) (now (commands .entry))) .bytes) ⌝ }
+    ensures { λ _. ⌜ now (out .exit) ≡ sets (now (out .entry)) 0 (gathered text output (length (now (out .entry))) (ringingAt at (now (m .entry)) (now (memory .entry)) (now (commands .entry))) .bytes) ⌝ }
+    ensures { λ r. ⌜ ringingAt r (now (m .exit)) (now (memory .exit)) (now (commands .entry)) ≡ gathered text output (length (now (out .entry))) (ringingAt at (now (m .entry)) (now (memory .entry)) (now (commands .entry))) .next ⌝ }
+    ensures { λ r. ⌜ r .taken ≡ at .taken + commandsTaken (ringingAt at (now (m .entry)) (now (memory .entry)) (now (commands .entry))) (gathered text output (length (now (out .entry))) (ringingAt at (now (m .entry)) (now (memory .entry)) (now (commands .entry)))) ⌝ }
 {
     let mut order = [0u32; layout::GENERATORS];
     bench_pass::by_number(&mut order);
     let sine = sine::table();
     let decay = exponential::table();
-    gather_by(output, at, m, commands, memory, &order, out, &sine, &decay)
+    gather_by(
+        text,
+        output,
+        at,
+        m,
+        commands,
+        memory,
+        &order,
+        out,
+        &sine,
+        &decay,
+    )
 }

@@ -1,2 +1,2 @@
 pub mod LineKinds
-pub mod TextLines
+pub mod FileLines

@@ -26,31 +26,31 @@ pub by-none : (f : ℕ → Line) {a b : Number} → a ≡ b → a ≡ No → Oth
 by-none f e h = rw (sym e ∙ h)
 
 -- PLACE:VALUE, with its colon at k.
-module _ (text : List ℕ) {k : ℕ} (e : k ≡ bytesBefore (code ":") text) where
-  pub word-no-colon : length text ≤ k → Other ≡ wordLine text
+module _ (file : List ℕ) {k : ℕ} (e : k ≡ bytesBefore (code ":") file) where
+  pub word-no-colon : length file ≤ k → Other ≡ wordLine file
   unfolding wordLine
-  word-no-colon h = rw (← e, le-ltb k (length text) h)
+  word-no-colon h = rw (← e, le-ltb k (length file) h)
 
-  module _ (h : k < length text) {place : Number} (p : place ≡ decimalIn filePlaces (take k text)) where
-    pub word-no-place : place ≡ No → Other ≡ wordLine text
+  module _ (h : k < length file) {place : Number} (p : place ≡ decimalIn filePlaces (take k file)) where
+    pub word-no-place : place ≡ No → Other ≡ wordLine file
     unfolding wordLine
-    word-no-place n = simp (sym e, lt-ltb k (length text) h, sym p ∙ n)
+    word-no-place n = simp (sym e, lt-ltb k (length file) h, sym p ∙ n)
 
-    module _ {i : ℕ} (n : place ≡ Is i) {rest : List ℕ} (r : rest ≡ drop (k + 1) text) {value : Number} (q : value ≡ decimalIn (2 ^ 32) rest) where
-      pub word-no-value : value ≡ No → Other ≡ wordLine text
+    module _ {i : ℕ} (n : place ≡ Is i) {rest : List ℕ} (r : rest ≡ drop (k + 1) file) {value : Number} (q : value ≡ decimalIn (2 ^ 32) rest) where
+      pub word-no-value : value ≡ No → Other ≡ wordLine file
       unfolding wordLine
-      word-no-value m = simp (sym e, lt-ltb k (length text) h, sym p ∙ n, sym (q ∙ ap (decimalIn (2 ^ 32)) r) ∙ m)
+      word-no-value m = simp (sym e, lt-ltb k (length file) h, sym p ∙ n, sym (q ∙ ap (decimalIn (2 ^ 32)) r) ∙ m)
 
-      pub word-is : {v : ℕ} → value ≡ Is v → Word i v ≡ wordLine text
+      pub word-is : {v : ℕ} → value ≡ Is v → Word i v ≡ wordLine file
       unfolding wordLine
-      word-is m = simp (sym e, lt-ltb k (length text) h, sym p ∙ n, sym (q ∙ ap (decimalIn (2 ^ 32)) r) ∙ m)
+      word-is m = simp (sym e, lt-ltb k (length file) h, sym p ∙ n, sym (q ∙ ap (decimalIn (2 ^ 32)) r) ∙ m)
 
 -- It is a word or another line.
-pub word-kind : (text : List ℕ) (P : Line → Type 0) → P Other → ((i v : ℕ) → P (Word i v)) → P (wordLine text)
+pub word-kind : (file : List ℕ) (P : Line → Type 0) → P Other → ((i v : ℕ) → P (Word i v)) → P (wordLine file)
 unfolding wordLine
-word-kind text P o w =
-    of-cond P (ltb (bytesBefore (code ":") text) (length text))
-    (place (decimalIn filePlaces (take (bytesBefore (code ":") text) text)) (decimalIn (2 ^ 32) (drop (bytesBefore (code ":") text + 1) text)))
+word-kind file P o w =
+    of-cond P (ltb (bytesBefore (code ":") file) (length file))
+    (place (decimalIn filePlaces (take (bytesBefore (code ":") file) file)) (decimalIn (2 ^ 32) (drop (bytesBefore (code ":") file + 1) file)))
     o
   where
     value : (i : ℕ) (b : Number) → P (lineBy b (λ v. Word i v))
@@ -62,21 +62,21 @@ word-kind text P o w =
     place No b = o
 
 -- A line by its start.
-module _ (text : List ℕ) {a : Bool} (p : a ≡ startsWith text passesStart) where
-  pub line-passes : a ≡ true → {rest : List ℕ} → rest ≡ afterStart passesStart text → {l : Line} → l ≡ lineBy (decimalIn (mostPasses + 1) rest) (λ n. Passes n) → l ≡ lineOf text
+module _ (file : List ℕ) {a : Bool} (p : a ≡ startsWith file passesStart) where
+  pub line-passes : a ≡ true → {rest : List ℕ} → rest ≡ afterStart passesStart file → {l : Line} → l ≡ lineBy (decimalIn (mostPasses + 1) rest) (λ n. Passes n) → l ≡ lineOf file
   unfolding lineOf
   line-passes t r q = rw (sym p ∙ t, ← r) q
 
-  module _ (f : a ≡ false) {b : Bool} (w : b ≡ startsWith text wordStart) where
-    pub line-word : b ≡ true → {rest : List ℕ} → rest ≡ afterStart wordStart text → {l : Line} → l ≡ wordLine rest → l ≡ lineOf text
+  module _ (f : a ≡ false) {b : Bool} (w : b ≡ startsWith file wordStart) where
+    pub line-word : b ≡ true → {rest : List ℕ} → rest ≡ afterStart wordStart file → {l : Line} → l ≡ wordLine rest → l ≡ lineOf file
     unfolding lineOf
     line-word t r q = rw (sym p ∙ f, sym w ∙ t, ← r) q
 
-    module _ (g : b ≡ false) {c : Bool} (s : c ≡ startsWith text commandStart) where
-      pub line-command : c ≡ true → {rest : List ℕ} → rest ≡ afterStart commandStart text → {l : Line} → l ≡ lineBy (hexadecimalIn rest) (λ n. Command n) → l ≡ lineOf text
+    module _ (g : b ≡ false) {c : Bool} (s : c ≡ startsWith file commandStart) where
+      pub line-command : c ≡ true → {rest : List ℕ} → rest ≡ afterStart commandStart file → {l : Line} → l ≡ lineBy (hexadecimalIn rest) (λ n. Command n) → l ≡ lineOf file
       unfolding lineOf
       line-command t r q = rw (sym p ∙ f, sym w ∙ g, sym s ∙ t, ← r) q
 
-      pub line-other : c ≡ false → Other ≡ lineOf text
+      pub line-other : c ≡ false → Other ≡ lineOf file
       unfolding lineOf
       line-other h = rw (sym p ∙ f, sym w ∙ g, sym s ∙ h)

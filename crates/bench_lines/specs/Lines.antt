@@ -1,4 +1,4 @@
--- The lines of a bench file (document 01, "Bench file"): where a text's lines end, and what each says.
+-- The lines of a bench file (document 01, "Bench file"): where a file's lines end, and what each says.
 -- Assumes nothing.
 use Prim.Native.Nat.{ℕ, _+_, _-_, _^_}
 use Prim.Native.Char.{code}
@@ -33,7 +33,7 @@ commandStart = ascii "command="
 
 -- What follows a start.
 abbrev pub afterStart : List ℕ → List ℕ → List ℕ
-afterStart start text = drop (length start) text
+afterStart start file = drop (length start) file
 
 -- What a number makes of a line; no number makes it another line than the three kinds.
 abbrev pub lineBy : Number → (ℕ → Line) → Line
@@ -42,18 +42,18 @@ lineBy No f = Other
 
 -- PLACE:VALUE, places that a file can name and values below 2^32.
 unfoldable pub wordLine : List ℕ → Line
-wordLine text =
-    let colon = bytesBefore (code ":") text in
-    cond (ltb colon (length text))
-    (lineBy (decimalIn filePlaces (take colon text)) (λ place. lineBy (decimalIn (2 ^ 32) (drop (colon + 1) text)) (λ value. Word place value)))
+wordLine file =
+    let colon = bytesBefore (code ":") file in
+    cond (ltb colon (length file))
+    (lineBy (decimalIn filePlaces (take colon file)) (λ place. lineBy (decimalIn (2 ^ 32) (drop (colon + 1) file)) (λ value. Word place value)))
     Other
 
 -- A line, without its LF: `passes=` 0..65,535, `word=PLACE:VALUE`, `command=` and eight hexadecimal capitals, or another.
 unfoldable pub lineOf : List ℕ → Line
-lineOf text =
-    cond (startsWith text passesStart) (lineBy (decimalIn (mostPasses + 1) (afterStart passesStart text)) (λ n. Passes n))
-    (cond (startsWith text wordStart) (wordLine (afterStart wordStart text))
-    (cond (startsWith text commandStart) (lineBy (hexadecimalIn (afterStart commandStart text)) (λ c. Command c))
+lineOf file =
+    cond (startsWith file passesStart) (lineBy (decimalIn (mostPasses + 1) (afterStart passesStart file)) (λ n. Passes n))
+    (cond (startsWith file wordStart) (wordLine (afterStart wordStart file))
+    (cond (startsWith file commandStart) (lineBy (hexadecimalIn (afterStart commandStart file)) (λ c. Command c))
     Other))
 
 -- Lines with one byte more at the start of the first.
@@ -61,11 +61,11 @@ unfoldable pub prepended : ℕ → List (List ℕ) → List (List ℕ)
 prepended b [] = (b ∷ []) ∷ []
 prepended b (l ∷ ls) = (b ∷ l) ∷ ls
 
--- The lines of a text, without their LF.
+-- The lines of a file, without their LF.
 unfoldable pub linesOf : List ℕ → List (List ℕ)
 linesOf [] = []
-linesOf (b ∷ text) = cond (eqb b (code "\n")) ([] ∷ linesOf text) (prepended b (linesOf text))
+linesOf (b ∷ file) = cond (eqb b (code "\n")) ([] ∷ linesOf file) (prepended b (linesOf file))
 
 -- At most 65,536 bytes, of which the last is an LF.
 unfoldable pub ended : List ℕ → Bool
-ended text = leb (length text) fileBytes && ltb 0 (length text) && eqb (getD text (length text - 1) 0) (code "\n")
+ended file = leb (length file) fileBytes && ltb 0 (length file) && eqb (getD file (length file - 1) 0) (code "\n")

@@ -20,27 +20,27 @@ pub const FILE_BYTES: usize = 65536;
 pub const MOST_PASSES: u64 = 65535;
 
 // What follows `passes=`.
-fn passes(text: &[u8]) -> Line
-    ensures { λ r. ⌜ r ≡ lineBy (decimalIn (mostPasses + 1) (now (text .entry))) (λ n. Line.Passes n) ⌝ }
+fn passes(file: &[u8]) -> Line
+    ensures { λ r. ⌜ r ≡ lineBy (decimalIn (mostPasses + 1) (now (file .entry))) (λ n. Line.Passes n) ⌝ }
 {
-    match bench_numbers::decimal(text, MOST_PASSES + 1) {
+    match bench_numbers::decimal(file, MOST_PASSES + 1) {
         Number::Is(n) => Line::Passes(n),
         Number::No => Line::Other,
     }
 }
 
 // What follows `word=`: PLACE:VALUE.
-fn word(text: &[u8]) -> Line
-    ensures { λ r. ⌜ r ≡ wordLine (now (text .entry)) ⌝ }
+fn word(file: &[u8]) -> Line
+    ensures { λ r. ⌜ r ≡ wordLine (now (file .entry)) ⌝ }
 {
-    let k = bench_bytes::find(text, b':');
-    if text.len() <= k {
+    let k = bench_bytes::find(file, b':');
+    if file.len() <= k {
         return Line::Other;
     }
-    let Number::Is(place) = bench_numbers::decimal(&text[..k], layout::FILE_PLACES as u64) else {
+    let Number::Is(place) = bench_numbers::decimal(&file[..k], layout::FILE_PLACES as u64) else {
         return Line::Other;
     };
-    let after = bench_bytes::after(text, k + 1);
+    let after = bench_bytes::after(file, k + 1);
     let Number::Is(value) = bench_numbers::decimal(after, bench_numbers::WORD_VALUES) else {
         return Line::Other;
     };
@@ -49,44 +49,44 @@ fn word(text: &[u8]) -> Line
 }
 
 // What follows `command=`.
-fn command(text: &[u8]) -> Line
-    ensures { λ r. ⌜ r ≡ lineBy (hexadecimalIn (now (text .entry))) (λ c. Line.Command c) ⌝ }
+fn command(file: &[u8]) -> Line
+    ensures { λ r. ⌜ r ≡ lineBy (hexadecimalIn (now (file .entry))) (λ c. Line.Command c) ⌝ }
 {
-    match bench_numbers::hexadecimal(text) {
+    match bench_numbers::hexadecimal(file) {
         Number::Is(c) => Line::Command(c),
         Number::No => Line::Other,
     }
 }
 
 // A line, without its LF.
-pub fn read_line(text: &[u8]) -> Line
-    ensures { λ r. ⌜ r ≡ lineOf (now (text .entry)) ⌝ }
+pub fn read_line(file: &[u8]) -> Line
+    ensures { λ r. ⌜ r ≡ lineOf (now (file .entry)) ⌝ }
 {
     let start = b"passes=";
-    if bench_bytes::starts(text, start) {
-        return passes(bench_bytes::after(text, start.len()));
+    if bench_bytes::starts(file, start) {
+        return passes(bench_bytes::after(file, start.len()));
     }
     let start = b"word=";
-    if bench_bytes::starts(text, start) {
-        return word(bench_bytes::after(text, start.len()));
+    if bench_bytes::starts(file, start) {
+        return word(bench_bytes::after(file, start.len()));
     }
     let start = b"command=";
-    if bench_bytes::starts(text, start) {
-        return command(bench_bytes::after(text, start.len()));
+    if bench_bytes::starts(file, start) {
+        return command(bench_bytes::after(file, start.len()));
     }
     Line::Other
 }
 
-// Whether a text has at most 65,536 bytes and ends in LF.
-pub fn ended(text: &[u8]) -> bool
-    ensures { λ r. ⌜ r ≡ ended (now (text .entry)) ⌝ }
+// Whether a file has at most 65,536 bytes and ends in LF.
+pub fn ended(file: &[u8]) -> bool
+    ensures { λ r. ⌜ r ≡ ended (now (file .entry)) ⌝ }
 {
-    let n = text.len();
+    let n = file.len();
     if FILE_BYTES < n {
         return false;
     }
     if n == 0 {
         return false;
     }
-    text[n - 1] == b'\n'
+    file[n - 1] == b'\n'
 }

@@ -18,26 +18,26 @@ digitValue b =
 -- Whether all bytes are digits of a base.
 unfoldable pub allDigits : ℕ → List ℕ → Bool
 allDigits base [] = true
-allDigits base (b ∷ text) = ltb (digitValue b) base && allDigits base text
+allDigits base (b ∷ bytes) = ltb (digitValue b) base && allDigits base bytes
 
 -- The number that digits go on to write after n.
 unfoldable pub writtenAfter : ℕ → ℕ → List ℕ → ℕ
 writtenAfter base n [] = n
-writtenAfter base n (b ∷ text) = writtenAfter base (n * base + digitValue b) text
+writtenAfter base n (b ∷ bytes) = writtenAfter base (n * base + digitValue b) bytes
 
 -- The number, below a limit, that a text of digits writes in a base.
 unfoldable pub numberIn : ℕ → ℕ → List ℕ → Number
-numberIn base limit text =
-    cond (allDigits base text && ltb (writtenAfter base 0 text) limit) (Is (writtenAfter base 0 text)) No
+numberIn base limit bytes =
+    cond (allDigits base bytes && ltb (writtenAfter base 0 bytes) limit) (Is (writtenAfter base 0 bytes)) No
 
 -- Whether a text of two digits or more begins with 0.
 unfoldable pub leadingZero : List ℕ → Bool
-leadingZero text = eqb (getD text 0 0) (code "0") && ltb 1 (length text)
+leadingZero bytes = eqb (getD bytes 0 0) (code "0") && ltb 1 (length bytes)
 
 -- A decimal number below a limit, of at least one digit and without leading zeros.
 unfoldable pub decimalIn : ℕ → List ℕ → Number
-decimalIn limit text = cond (eqb (length text) 0 || leadingZero text) No (numberIn 10 limit text)
+decimalIn limit bytes = cond (eqb (length bytes) 0 || leadingZero bytes) No (numberIn 10 limit bytes)
 
 -- Eight hexadecimal capitals.
 unfoldable pub hexadecimalIn : List ℕ → Number
-hexadecimalIn text = cond (eqb (length text) 8) (numberIn 16 (2 ^ 32) text) No
+hexadecimalIn bytes = cond (eqb (length bytes) 8) (numberIn 16 (2 ^ 32) bytes) No

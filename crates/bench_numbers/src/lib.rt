@@ -30,14 +30,14 @@ fn digit(b: u8) -> u64
 }
 
 // The number, below a limit, that a text of digits writes in a base.
-fn value(text: &[u8], base: u64, limit: u64) -> Number
+fn value(bytes: &[u8], base: u64, limit: u64) -> Number
     requires { ⌜ (base ≤ 16) × (limit ≤ 2 ^ 32) × (0 < limit) ⌝ }
-    ensures { λ r. ⌜ r ≡ numberIn base limit (now (text .entry)) ⌝ }
+    ensures { λ r. ⌜ r ≡ numberIn base limit (now (bytes .entry)) ⌝ }
 {
     let mut v: u64 = 0;
     let mut i = 0;
-    while i < text.len() {
-        let d = digit(text[i]);
+    while i < bytes.len() {
+        let d = digit(bytes[i]);
         if base <= d {
             return Number::No;
         }
@@ -51,35 +51,35 @@ fn value(text: &[u8], base: u64, limit: u64) -> Number
 }
 
 // Whether a text of two digits or more begins with 0.
-fn leading_zero(text: &[u8]) -> bool
-    ensures { λ r. ⌜ r ≡ leadingZero (now (text .entry)) ⌝ }
+fn leading_zero(bytes: &[u8]) -> bool
+    ensures { λ r. ⌜ r ≡ leadingZero (now (bytes .entry)) ⌝ }
 {
-    if text.len() <= 1 {
+    if bytes.len() <= 1 {
         return false;
     }
-    text[0] == b'0'
+    bytes[0] == b'0'
 }
 
 // A decimal number below a limit, without leading zeros.
-pub fn decimal(text: &[u8], limit: u64) -> Number
+pub fn decimal(bytes: &[u8], limit: u64) -> Number
     requires { ⌜ (limit ≤ 2 ^ 32) × (0 < limit) ⌝ }
-    ensures { λ r. ⌜ r ≡ decimalIn limit (now (text .entry)) ⌝ }
+    ensures { λ r. ⌜ r ≡ decimalIn limit (now (bytes .entry)) ⌝ }
 {
-    if text.len() == 0 {
+    if bytes.len() == 0 {
         return Number::No;
     }
-    if leading_zero(text) {
+    if leading_zero(bytes) {
         return Number::No;
     }
-    value(text, 10, limit)
+    value(bytes, 10, limit)
 }
 
 // Eight hexadecimal capitals.
-pub fn hexadecimal(text: &[u8]) -> Number
-    ensures { λ r. ⌜ r ≡ hexadecimalIn (now (text .entry)) ⌝ }
+pub fn hexadecimal(bytes: &[u8]) -> Number
+    ensures { λ r. ⌜ r ≡ hexadecimalIn (now (bytes .entry)) ⌝ }
 {
-    if text.len() == 8 {
-        value(text, 16, WORD_VALUES)
+    if bytes.len() == 8 {
+        value(bytes, 16, WORD_VALUES)
     } else {
         Number::No
     }

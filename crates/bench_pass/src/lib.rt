@@ -11,6 +11,7 @@ ghost use Rattle.order_lists.specs.Sequences.{byNumber};
 ghost use Rattle.bench_pass.specs.ByNumber.{passed, refusedAgain};
 use exponential::Entries;
 use sine::Quarter;
+use texts::Text;
 
 // Fills the order by number of 256 generators.
 pub fn by_number(order: &mut [u32; layout::GENERATORS])
@@ -25,11 +26,11 @@ pub fn by_number(order: &mut [u32; layout::GENERATORS])
 }
 
 // Of a machine that passes questions 1 and 2: 7 or 8 where a generator reads or writes data, else 0.
-fn data_refusal(m: &[u32]) -> u32
-    requires { ⌜ asked (question1 (now m) ∷ question2 (now m) ∷ []) ≡ 0 ⌝ }
-    ensures { λ r. ⌜ r ≡ asked (question7 (now (m .entry)) [] ∷ question8 (now (m .entry)) [] ∷ []) ⌝ }
+fn data_refusal(text: Text, m: &[u32]) -> u32
+    requires { ⌜ asked (question1 (now m) ∷ question2 text (now m) ∷ []) ≡ 0 ⌝ }
+    ensures { λ r. ⌜ r ≡ asked (question7 text (now (m .entry)) [] ∷ question8 text (now (m .entry)) [] ∷ []) ⌝ }
 {
-    let needed = order::in_modes(m);
+    let needed = order::in_modes(text, m);
     if 0 < needed.reads {
         return 7;
     }
@@ -40,45 +41,53 @@ fn data_refusal(m: &[u32]) -> u32
 }
 
 // The number of the first of questions 7, 8, 11 and 12 that is answered no, or 0, of a machine that passes questions 1 and 2.
-pub fn refusal_again(m: &[u32]) -> u32
-    requires { ⌜ asked (question1 (now m) ∷ question2 (now m) ∷ []) ≡ 0 ⌝ }
-    ensures { λ r. ⌜ r ≡ refusedAgain (now (m .entry)) ⌝ }
+pub fn refusal_again(text: Text, m: &[u32]) -> u32
+    requires { ⌜ asked (question1 (now m) ∷ question2 text (now m) ∷ []) ≡ 0 ⌝ }
+    ensures { λ r. ⌜ r ≡ refusedAgain text (now (m .entry)) ⌝ }
 {
-    let number = data_refusal(m);
+    let number = data_refusal(text, m);
     if number != 0 {
         return number;
     }
-    delay_questions::delay_refusal(m)
+    pass::unit_refusal(text, m)
 }
 
 // The number of the question that refuses a pass, or 0. The order by number passes 5 and 6.
-pub fn refusal(m: &[u32], memory: &[u32]) -> u32
-    ensures { λ r. ⌜ r ≡ passed (now (m .entry)) (now (memory .entry)) .number ⌝ }
+pub fn refusal(text: Text, m: &[u32], memory: &[u32]) -> u32
+    ensures { λ r. ⌜ r ≡ passed text (now (m .entry)) (now (memory .entry)) .number ⌝ }
 {
-    let first = machine::refusal(m);
+    let first = machine::refusal(text, m);
     if first != 0 {
         return first;
     }
-    let number = data_refusal(m);
+    let number = data_refusal(text, m);
     if number != 0 {
         return number;
     }
     if !delay_questions::memory_good(memory) {
         return 10;
     }
-    delay_questions::delay_refusal(m)
+    pass::unit_refusal(text, m)
 }
 
 // A pass that no question refuses, by the first entries of the order by number.
-pub fn run(m: &mut [u32], memory: &mut [u32], order: &[u32], sine: &Quarter, decay: &Entries)
-    requires { ⌜ passed (now m) (now memory) .number ≡ 0 ⌝ }
+pub fn run(
+    text: Text,
+    m: &mut [u32],
+    memory: &mut [u32],
+    order: &[u32],
+    sine: &Quarter,
+    decay: &Entries,
+)
+    requires { ⌜ passed text (now m) (now memory) .number ≡ 0 ⌝ }
     requires { ⌜ now order ≡ byNumber 256 ⌝ }
     requires { ⌜ (now sine ≡ quarter) × (now decay ≡ entries tableSize) ⌝ }
-    ensures { λ _. ⌜ (now (m .exit) ≡ passed (now (m .entry)) (now (memory .entry)) .machine) × (now (memory .exit) ≡ passed (now (m .entry)) (now (memory .entry)) .memory) ⌝ }
+    ensures { λ _. ⌜ (now (m .exit) ≡ passed text (now (m .entry)) (now (memory .entry)) .machine) × (now (memory .exit) ≡ passed text (now (m .entry)) (now (memory .entry)) .memory) ⌝ }
 {
     let t = layout::ticks(m);
     let mut places = [0u32; 1];
     pass::run(
+        text,
         m,
         &order[0..t],
         &order[0..0],

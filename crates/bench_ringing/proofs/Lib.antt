@@ -1,4 +1,5 @@
 pub mod Printing
 pub mod RungFile
+pub mod Updates
 pub mod Turns
 pub mod Keeping

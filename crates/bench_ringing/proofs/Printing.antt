@@ -9,11 +9,12 @@ use native.Mathlib.Omega.{arith}
 use borrow.Author.Tests.{eqb-true, eqb-false, eq-eqb, ne-eqb}
 use lib.Dec.{eqb}
 use Rattle.layout.specs.Machine.{Machine, Memory, Commands}
+use Rattle.texts.specs.declared.Text.{Text}
 use Rattle.pass_model.specs.Pass.{Outcome as Passed}
 use Rattle.bench_text.specs.Text.{refusalLine}
-use Rattle.update.specs.Update.{Outcome, updateOf}
+use Rattle.update.specs.Update.{Outcome}
 use Rattle.bench_pass.specs.ByNumber.{passed}
-use Rattle.bench_ringing.specs.Ringing.{lineAfter, printed}
+use Rattle.bench_ringing.specs.Ringing.{updateAfter, lineAfter, printed}
 use Rattle.bench_ringing.specs.Heard.{Heard, heardAfter, heardRefused, heard, linesAfter, linesHeard, framesOf}
 use Rattle.bench_ringing.specs.Steps.{givenAfter, givenRefused, Ringing, Step, stepOf, untilDone}
 use Rattle.bench_ringing.specs.declared.Output.{Output}
@@ -32,14 +33,14 @@ unfoldable pub given : Output → Heard → List ℕ
 given o h = givenMachines o (h .machines) ++ givenEnd o (h .number)
 
 -- What is heard of a ringing under way, what is given out of that, and the number that ends it.
-abbrev pub heardFrom : Ringing → Heard
-heardFrom r = heard (r .passes) (r .machine) (r .memory) (r .commands)
+abbrev pub heardFrom : (text : Text) → Ringing → Heard
+heardFrom text r = heard text (r .passes) (r .machine) (r .memory) (r .commands)
 
-abbrev pub onward : Output → Ringing → List ℕ
-onward o r = given o (heardFrom r)
+abbrev pub onward : (text : Text) → Output → Ringing → List ℕ
+onward text o r = given o (heardFrom text r)
 
-unfoldable pub endNumber : Ringing → ℕ
-endNumber r = cond (eqb (r .passes) 0) (r .number) (heardFrom r .number)
+unfoldable pub endNumber : (text : Text) → Ringing → ℕ
+endNumber text r = cond (eqb (r .passes) 0) (r .number) (heardFrom text r .number)
 
 -- Nothing but a refusal, by its number.
 refused-given : (o : Output) (n : ℕ) → n ≢ 0 → given o (heardRefused n) ≡ givenRefused o n
@@ -55,114 +56,114 @@ unfolding given givenMachines
 after-given o m h = append-assoc (givenAfter o m) (givenMachines o (h .machines)) (givenEnd o (h .number))
 
 -- With no pass left it is nothing.
-none-heard : (r : Ringing) → r .passes ≡ 0 → heardFrom r ≡ heardRefused 0
+none-heard : (text : Text) (r : Ringing) → r .passes ≡ 0 → heardFrom text r ≡ heardRefused 0
 unfolding heard
-none-heard r z = rw z refl
+none-heard text r z = rw z refl
 
-pub none-left : (o : Output) (r : Ringing) → r .passes ≡ 0 → [] ≡ onward o r
-none-left o r z = sym (ap (given o) (none-heard r z) ∙ none-given o)
+pub none-left : (text : Text) (o : Output) (r : Ringing) → r .passes ≡ 0 → [] ≡ onward text o r
+none-left text o r z = sym (ap (given o) (none-heard text r z) ∙ none-given o)
 
-pub ended-number : (r : Ringing) → r .passes ≡ 0 → endNumber r ≡ r .number
+pub ended-number : (text : Text) (r : Ringing) → r .passes ≡ 0 → endNumber text r ≡ r .number
 unfolding endNumber
-ended-number r z = rw (eq-eqb (r .passes) 0 z)
+ended-number text r z = rw (eq-eqb (r .passes) 0 z)
 
 -- The number that ends a ringing is that of what is heard, where none has ended it before.
-pub heard-number : (r : Ringing) → r .number ≡ 0 → endNumber r ≡ heardFrom r .number
+pub heard-number : (text : Text) (r : Ringing) → r .number ≡ 0 → endNumber text r ≡ heardFrom text r .number
 unfolding endNumber
-heard-number r z = go (eqb (r .passes) 0) refl
+heard-number text r z = go (eqb (r .passes) 0) refl
   where
-    go : (b : Bool) → eqb (r .passes) 0 ≡ b → cond b (r .number) (heardFrom r .number) ≡ heardFrom r .number
-    go true e = z ∙ sym (ap (λ (h : Heard). h .number) (none-heard r (eqb-true (r .passes) 0 e)))
+    go : (b : Bool) → eqb (r .passes) 0 ≡ b → cond b (r .number) (heardFrom text r .number) ≡ heardFrom text r .number
+    go true e = z ∙ sym (ap (λ (h : Heard). h .number) (none-heard text r (eqb-true (r .passes) 0 e)))
     go false e = refl
 
 -- What is heard of a ringing with a pass left, by the two numbers.
-module _ (r : Ringing) (some : r .passes ≢ 0) where
+module _ (text : Text) (r : Ringing) (some : r .passes ≢ 0) where
   abbrev pass : Passed
-  pass = passed (r .machine) (r .memory)
+  pass = passed text (r .machine) (r .memory)
 
   abbrev update : Outcome
-  update = updateOf (pass .machine) (r .commands)
+  update = updateAfter text (pass .machine) (r .commands)
 
   one-more : r .passes ≡ suc (r .passes - 1)
   one-more = omega arith
 
-  begins : heardFrom r ≡ heard (suc (r .passes - 1)) (r .machine) (r .memory) (r .commands)
-  begins = ap (λ (i : ℕ). heard i (r .machine) (r .memory) (r .commands)) one-more
+  begins : heardFrom text r ≡ heard text (suc (r .passes - 1)) (r .machine) (r .memory) (r .commands)
+  begins = ap (λ (i : ℕ). heard text i (r .machine) (r .memory) (r .commands)) one-more
 
-  heard-pass : pass .number ≢ 0 → heardFrom r ≡ heardRefused (pass .number)
+  heard-pass : pass .number ≢ 0 → heardFrom text r ≡ heardRefused (pass .number)
   unfolding heard
   heard-pass h = begins ∙ rw (ne-eqb (pass .number) 0 h)
 
-  heard-update : pass .number ≡ 0 → update .number ≢ 0 → heardFrom r ≡ heardRefused (update .number)
+  heard-update : pass .number ≡ 0 → update .number ≢ 0 → heardFrom text r ≡ heardRefused (update .number)
   unfolding heard
   heard-update z h = begins ∙ rw (eq-eqb (pass .number) 0 z, ne-eqb (update .number) 0 h)
 
-  heard-both : pass .number ≡ 0 → update .number ≡ 0 → heardFrom r ≡ heardAfter (update .machine) (heard (r .passes - 1) (update .machine) (pass .memory) (update .rest))
+  heard-both : pass .number ≡ 0 → update .number ≡ 0 → heardFrom text r ≡ heardAfter (update .machine) (heard text (r .passes - 1) (update .machine) (pass .memory) (update .rest))
   unfolding heard
   heard-both z h = begins ∙ rw (eq-eqb (pass .number) 0 z, eq-eqb (update .number) 0 h)
 
-  number-from : endNumber r ≡ heardFrom r .number
+  number-from : endNumber text r ≡ heardFrom text r .number
   unfolding endNumber
   number-from = rw (ne-eqb (r .passes) 0 some)
 
 -- A step of a ringing with a pass left: it lowers the passes left, what it gives out and what is given out after it is all, and the number that ends it stays.
-pub record Falls (o : Output) (r : Ringing) (s : Step) : Type 0 where
+pub record Falls (text : Text) (o : Output) (r : Ringing) (s : Step) : Type 0 where
   pub falls : s .next .passes < r .passes
-  pub prints : onward o r ≡ s .bytes ++ onward o (s .next)
-  pub ends : endNumber r ≡ endNumber (s .next)
+  pub prints : onward text o r ≡ s .bytes ++ onward text o (s .next)
+  pub ends : endNumber text r ≡ endNumber text (s .next)
 
 -- A refusal leaves a ringing that is done.
-falls-refused : (o : Output) (r : Ringing) → r .passes ≢ 0 → {m memory commands : List ℕ} (n : ℕ) → n ≢ 0 → heardFrom r ≡ heardRefused n
-    → Falls o r (record { bytes = givenRefused o n; next = record { passes = 0; machine = m; memory = memory; commands = commands; number = n } })
-falls-refused o r some {m} {memory} {commands} n h e =
+falls-refused : (text : Text) (o : Output) (r : Ringing) → r .passes ≢ 0 → {m memory commands : List ℕ} (n : ℕ) → n ≢ 0 → heardFrom text r ≡ heardRefused n
+    → Falls text o r (record { bytes = givenRefused o n; next = record { passes = 0; machine = m; memory = memory; commands = commands; number = n } })
+falls-refused text o r some {m} {memory} {commands} n h e =
     let next : Ringing = record { passes = 0; machine = m; memory = memory; commands = commands; number = n } in
     record {
       falls = omega arith;
-      prints = ap (given o) e ∙ refused-given o n h ∙ sym (append-nil (givenRefused o n)) ∙ ap (λ (l : List ℕ). givenRefused o n ++ l) (none-left o next refl);
-      ends = number-from r some ∙ ap (λ (l : Heard). l .number) e ∙ sym (ended-number next refl);
+      prints = ap (given o) e ∙ refused-given o n h ∙ sym (append-nil (givenRefused o n)) ∙ ap (λ (l : List ℕ). givenRefused o n ++ l) (none-left text o next refl);
+      ends = number-from text r some ∙ ap (λ (l : Heard). l .number) e ∙ sym (ended-number text next refl);
     }
 
-pub step-falls : (o : Output) (r : Ringing) → r .passes ≢ 0 → Falls o r (stepOf o r)
-step-falls o r some = go (eqb (p .number) 0) refl (eqb (u .number) 0) refl
+pub step-falls : (text : Text) (o : Output) (r : Ringing) → r .passes ≢ 0 → Falls text o r (stepOf text o r)
+step-falls text o r some = go (eqb (p .number) 0) refl (eqb (u .number) 0) refl
   where
     p : Passed
-    p = passed (r .machine) (r .memory)
+    p = passed text (r .machine) (r .memory)
 
     u : Outcome
-    u = updateOf (p .machine) (r .commands)
+    u = updateAfter text (p .machine) (r .commands)
 
-    go : (a : Bool) → eqb (p .number) 0 ≡ a → (b : Bool) → eqb (u .number) 0 ≡ b → Falls o r (stepOf o r)
+    go : (a : Bool) → eqb (p .number) 0 ≡ a → (b : Bool) → eqb (u .number) 0 ≡ b → Falls text o r (stepOf text o r)
     go true e true f =
         let z = eqb-true (p .number) 0 e in
         let y = eqb-true (u .number) 0 f in
-        let h = heard-both r some z y in
+        let h = heard-both text r some z y in
         let next : Ringing = record { passes = r .passes - 1; machine = u .machine; memory = p .memory; commands = u .rest; number = 0 } in
-        rw (by-both o r some z y)
+        rw (by-both text o r some z y)
         (record {
           falls = omega arith;
-          prints = ap (given o) h ∙ after-given o (u .machine) (heardFrom next);
-          ends = number-from r some ∙ ap (λ (l : Heard). l .number) h ∙ sym (heard-number next refl);
+          prints = ap (given o) h ∙ after-given o (u .machine) (heardFrom text next);
+          ends = number-from text r some ∙ ap (λ (l : Heard). l .number) h ∙ sym (heard-number text next refl);
         })
     go true e false f =
         let z = eqb-true (p .number) 0 e in
         let y = eqb-false (u .number) 0 f in
-        rw (by-update o r some z y) (falls-refused o r some (u .number) y (heard-update r some z y))
+        rw (by-update text o r some z y) (falls-refused text o r some (u .number) y (heard-update text r some z y))
     go false e b f =
         let z = eqb-false (p .number) 0 e in
-        rw (by-pass o r some z) (falls-refused o r some (p .number) z (heard-pass r some z))
+        rw (by-pass text o r some z) (falls-refused text o r some (p .number) z (heard-pass text r some z))
 
 -- So the steps until done give out all that is heard.
-pub steps-are-given : (o : Output) (k : ℕ) (r : Ringing) → r .passes ≤ k → untilDone o k r ≡ onward o r
+pub steps-are-given : (text : Text) (o : Output) (k : ℕ) (r : Ringing) → r .passes ≤ k → untilDone text o k r ≡ onward text o r
 unfolding untilDone
-steps-are-given o zero r h = none-left o r (omega arith)
-steps-are-given o (suc k) r h = by (eqb (r .passes) 0) refl (λ n. steps-are-given o k (stepOf o r .next) (omega (arith, step-falls o r n .falls)))
+steps-are-given text o zero r h = none-left text o r (omega arith)
+steps-are-given text o (suc k) r h = by (eqb (r .passes) 0) refl (λ n. steps-are-given text o k (stepOf text o r .next) (omega (arith, step-falls text o r n .falls)))
   where
-    by : (b : Bool) → eqb (r .passes) 0 ≡ b → (r .passes ≢ 0 → untilDone o k (stepOf o r .next) ≡ onward o (stepOf o r .next))
-        → cond b [] (stepOf o r .bytes ++ untilDone o k (stepOf o r .next)) ≡ onward o r
-    by true e f = none-left o r (eqb-true (r .passes) 0 e)
+    by : (b : Bool) → eqb (r .passes) 0 ≡ b → (r .passes ≢ 0 → untilDone text o k (stepOf text o r .next) ≡ onward text o (stepOf text o r .next))
+        → cond b [] (stepOf text o r .bytes ++ untilDone text o k (stepOf text o r .next)) ≡ onward text o r
+    by true e f = none-left text o r (eqb-true (r .passes) 0 e)
     by false e f =
         let n = eqb-false (r .passes) 0 e in
-        ap (λ (l : List ℕ). stepOf o r .bytes ++ l) (f n) ∙ sym (step-falls o r n .prints)
+        ap (λ (l : List ℕ). stepOf text o r .bytes ++ l) (f n) ∙ sym (step-falls text o r n .prints)
 
 -- What is printed are the lines of the machines that are heard, and the line of a refusal.
 after-line : (m : Machine) (h : Heard) → given Lines (heardAfter m h) ≡ lineAfter m ++ given Lines h
@@ -173,23 +174,23 @@ refused-line : (n : ℕ) → n ≢ 0 → given Lines (heardRefused n) ≡ refusa
 unfolding givenRefused
 refused-line n h = refused-given Lines n h
 
-pub printed-given : (k : ℕ) (m : Machine) (memory : Memory) (commands : Commands) → printed k m memory commands ≡ given Lines (heard k m memory commands)
+pub printed-given : (text : Text) (k : ℕ) (m : Machine) (memory : Memory) (commands : Commands) → printed text k m memory commands ≡ given Lines (heard text k m memory commands)
 unfolding printed heard
-printed-given zero m memory commands = sym (none-given Lines)
-printed-given (suc k) m memory commands =
-    go (eqb (p .number) 0) refl (eqb (u .number) 0) refl (printed-given k (u .machine) (p .memory) (u .rest))
+printed-given text zero m memory commands = sym (none-given Lines)
+printed-given text (suc k) m memory commands =
+    go (eqb (p .number) 0) refl (eqb (u .number) 0) refl (printed-given text k (u .machine) (p .memory) (u .rest))
   where
     p : Passed
-    p = passed m memory
+    p = passed text m memory
 
     u : Outcome
-    u = updateOf (p .machine) commands
+    u = updateAfter text (p .machine) commands
 
     rest : Heard
-    rest = heard k (u .machine) (p .memory) (u .rest)
+    rest = heard text k (u .machine) (p .memory) (u .rest)
 
-    go : (a : Bool) → eqb (p .number) 0 ≡ a → (b : Bool) → eqb (u .number) 0 ≡ b → printed k (u .machine) (p .memory) (u .rest) ≡ given Lines rest
-        → cond a (cond b (lineAfter (u .machine) ++ printed k (u .machine) (p .memory) (u .rest)) (refusalLine (u .number))) (refusalLine (p .number))
+    go : (a : Bool) → eqb (p .number) 0 ≡ a → (b : Bool) → eqb (u .number) 0 ≡ b → printed text k (u .machine) (p .memory) (u .rest) ≡ given Lines rest
+        → cond a (cond b (lineAfter (u .machine) ++ printed text k (u .machine) (p .memory) (u .rest)) (refusalLine (u .number))) (refusalLine (p .number))
         ≡ given Lines (cond a (cond b (heardAfter (u .machine) rest) (heardRefused (u .number))) (heardRefused (p .number)))
     go true e true f q = ap (λ (l : List ℕ). lineAfter (u .machine) ++ l) q ∙ sym (after-line (u .machine) rest)
     go true e false f q = sym (refused-line (u .number) (eqb-false (u .number) 0 f))
@@ -204,8 +205,8 @@ lines-given : (h : Heard) → given Lines h ≡ linesHeard h
 unfolding given givenEnd givenRefused linesHeard
 lines-given h = rw (lines-machines (h .machines))
 
-pub printed-heard : (k : ℕ) (m : Machine) (memory : Memory) (commands : Commands) → printed k m memory commands ≡ linesHeard (heard k m memory commands)
-printed-heard k m memory commands = printed-given k m memory commands ∙ lines-given (heard k m memory commands)
+pub printed-heard : (text : Text) (k : ℕ) (m : Machine) (memory : Memory) (commands : Commands) → printed text k m memory commands ≡ linesHeard (heard text k m memory commands)
+printed-heard text k m memory commands = printed-given text k m memory commands ∙ lines-given (heard text k m memory commands)
 
 -- As frames they are the frames of the machines that are heard.
 frames-machines : (ms : List Machine) → givenMachines Frames ms ≡ framesOf ms

@@ -1,4 +1,4 @@
--- The steps from what reading a text answers and leaves are the whole program's output.
+-- The steps from what reading a file answers and leaves are the whole program's output.
 -- Assumes nothing.
 use mathlib.Core.Path.{_≡_, refl, sym, _∙_, ap}
 use mathlib.Core.Bool.{Bool, true, false, cond}
@@ -12,6 +12,7 @@ use Rattle.lists.proofs.Choices.{of-cond}
 use Rattle.bench_bytes.proofs.Puts.{first-part}
 use Rattle.layout.specs.Layout.{machineLength, updateTicksAt}
 use Rattle.layout.specs.Machine.{updateTicksOf}
+use Rattle.texts.specs.declared.Text.the-variants.{Of1978}
 use Rattle.layout.proofs.UpdateTicks.{counted-length, counted-own}
 use Rattle.machine.proofs.FreshMachine.{fresh-length}
 use Rattle.machine.proofs.SoundMachine.{reaches}
@@ -27,40 +28,40 @@ use Rattle.bench_ringing.specs.declared.Output.the-variants.{Lines}
 use Rattle.bench_ringing.proofs.Printing.{steps-are-given, printed-given}
 
 -- What reading answers and leaves, by question 9.
-module _ (text m room : List ℕ) where
+module _ (file m room : List ℕ) where
   abbrev told : Bool → Answer
   told b =
-      let file = fileOf text in
+      let reading = fileOf file in
       cond b
-      (record { number = 0; passes = file .passes; count = length (file .commands); machine = file .machine; room = sets room 0 (file .commands) })
+      (record { number = 0; passes = reading .passes; count = length (reading .commands); machine = reading .machine; room = sets room 0 (reading .commands) })
       (record { number = 9; passes = 0; count = 0; machine = m; room = room })
 
-  -- The whole program, for every text.
-  pub rung-file : length room ≡ commandPlaces → rungFrom (readOf text m room) ≡ outputOf text
+  -- The whole program, for every file.
+  pub rung-file : length room ≡ commandPlaces → rungFrom (readOf file m room) ≡ outputOf file
   unfolding rungFrom readOf outputOf
-  rung-file h = go (isBenchFile text) refl
+  rung-file h = go (isBenchFile file) refl
     where
-      go : (b : Bool) → isBenchFile text ≡ b → rungFrom (told b) ≡ cond b (printed (fileOf text .passes) (fileOf text .machine) memoryAtFirst (fileOf text .commands)) (refusalLine 9)
+      go : (b : Bool) → isBenchFile file ≡ b → rungFrom (told b) ≡ cond b (printed Of1978 (fileOf file .passes) (fileOf file .machine) memoryAtFirst (fileOf file .commands)) (refusalLine 9)
       go true e =
-          let file = fileOf text in
-          let r : Ringing = record { passes = file .passes; machine = file .machine; memory = memoryAtFirst; commands = file .commands; number = 0 } in
-          ap (λ (l : List ℕ). untilDone Lines (file .passes) (record { passes = file .passes; machine = file .machine; memory = memoryAtFirst; commands = l; number = 0 }))
-          (first-part (file .commands) room (omega (arith, few-commands text e)))
-          ∙ steps-are-given Lines (file .passes) r (omega arith)
-          ∙ sym (printed-given (file .passes) (file .machine) memoryAtFirst (file .commands))
+          let reading = fileOf file in
+          let r : Ringing = record { passes = reading .passes; machine = reading .machine; memory = memoryAtFirst; commands = reading .commands; number = 0 } in
+          ap (λ (l : List ℕ). untilDone Of1978 Lines (reading .passes) (record { passes = reading .passes; machine = reading .machine; memory = memoryAtFirst; commands = l; number = 0 }))
+          (first-part (reading .commands) room (omega (arith, few-commands file e)))
+          ∙ steps-are-given Of1978 Lines (reading .passes) r (omega arith)
+          ∙ sym (printed-given Of1978 (reading .passes) (reading .machine) memoryAtFirst (reading .commands))
       go false e = refl
 
   -- The commands that were read have room, which keeps its length.
-  pub read-room : length (readOf text m room .room) ≡ length room
+  pub read-room : length (readOf file m room .room) ≡ length room
   unfolding readOf
-  read-room = of-cond (λ (a : Answer). length (a .room) ≡ length room) (isBenchFile text) (length-sets room 0 (fileOf text .commands)) refl
+  read-room = of-cond (λ (a : Answer). length (a .room) ≡ length room) (isBenchFile file) (length-sets room 0 (fileOf file .commands)) refl
 
-  pub read-count : readOf text m room .count ≤ commandPlaces
+  pub read-count : readOf file m room .count ≤ commandPlaces
   unfolding readOf
-  read-count = go (isBenchFile text) refl
+  read-count = go (isBenchFile file) refl
     where
-      go : (b : Bool) → isBenchFile text ≡ b → told b .count ≤ commandPlaces
-      go true e = few-commands text e
+      go : (b : Bool) → isBenchFile file ≡ b → told b .count ≤ commandPlaces
+      go true e = few-commands file e
       go false e = omega arith
 
 -- The machine has the length of a fresh one.
@@ -79,24 +80,24 @@ unfolding withLines
 lines-length r [] = refl
 lines-length r (l ∷ ls) = lines-length (withLine r (lineOf l)) ls ∙ line-length r (lineOf l)
 
--- The update ticks of the machine that a text sets are those of its T and N.
-pub file-ticks : (text : List ℕ) → getD (fileOf text .machine) updateTicksAt 0 ≡ updateTicksOf (fileOf text .machine)
+-- The update ticks of the machine that a file sets are those of its T and N.
+pub file-ticks : (file : List ℕ) → getD (fileOf file .machine) updateTicksAt 0 ≡ updateTicksOf (fileOf file .machine)
 unfolding fileOf
-file-ticks text =
-    let m = withLines unread (linesOf text) .machine in
-    counted-own m (reaches m (lines-length unread (linesOf text) ∙ fresh-length))
+file-ticks file =
+    let m = withLines unread (linesOf file) .machine in
+    counted-own m (reaches m (lines-length unread (linesOf file) ∙ fresh-length))
 
-pub read-machine : (text m room : List ℕ) → length m ≡ machineLength → length (readOf text m room .machine) ≡ machineLength
+pub read-machine : (file m room : List ℕ) → length m ≡ machineLength → length (readOf file m room .machine) ≡ machineLength
 unfolding readOf fileOf
-read-machine text m room h =
-    of-cond (λ (a : Answer). length (a .machine) ≡ machineLength) (isBenchFile text) (counted-length (withLines unread (linesOf text) .machine) ∙ lines-length unread (linesOf text) ∙ fresh-length) h
+read-machine file m room h =
+    of-cond (λ (a : Answer). length (a .machine) ≡ machineLength) (isBenchFile file) (counted-length (withLines unread (linesOf file) .machine) ∙ lines-length unread (linesOf file) ∙ fresh-length) h
 
 -- As the code has them: the commands that were read lie within their room, and the machine is as long as a machine is.
-pub read-within : (text m room : List ℕ) {number passes count : ℕ} {m' room' : List ℕ} → length room ≡ commandPlaces
-    → record { number = number; passes = passes; count = count; machine = m'; room = room' } ≡ readOf text m room → count ≤ length room'
-read-within text m room h e =
-    omega (arith, read-count text m room, read-room text m room, ap (λ (a : Answer). a .count) e, ap (λ (a : Answer). length (a .room)) e)
+pub read-within : (file m room : List ℕ) {number passes count : ℕ} {m' room' : List ℕ} → length room ≡ commandPlaces
+    → record { number = number; passes = passes; count = count; machine = m'; room = room' } ≡ readOf file m room → count ≤ length room'
+read-within file m room h e =
+    omega (arith, read-count file m room, read-room file m room, ap (λ (a : Answer). a .count) e, ap (λ (a : Answer). length (a .room)) e)
 
-pub read-whole : (text m room : List ℕ) {number passes count : ℕ} {m' room' : List ℕ} → length m ≡ machineLength
-    → record { number = number; passes = passes; count = count; machine = m'; room = room' } ≡ readOf text m room → machineLength ≡ length m'
-read-whole text m room h e = sym (ap (λ (a : Answer). length (a .machine)) e ∙ read-machine text m room h)
+pub read-whole : (file m room : List ℕ) {number passes count : ℕ} {m' room' : List ℕ} → length m ≡ machineLength
+    → record { number = number; passes = passes; count = count; machine = m'; room = room' } ≡ readOf file m room → machineLength ≡ length m'
+read-whole file m room h e = sym (ap (λ (a : Answer). length (a .machine)) e ∙ read-machine file m room h)

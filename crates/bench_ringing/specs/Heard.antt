@@ -7,11 +7,11 @@ use lib.Dec.{eqb}
 use lib.ListN.{getD}
 use Rattle.layout.specs.Layout.{dacAt}
 use Rattle.layout.specs.Machine.{Machine, Memory, Commands}
-use Rattle.update.specs.Update.{updateOf}
+use Rattle.texts.specs.declared.Text.{Text}
 use Rattle.bench_text.specs.Text.{refusalLine}
 use Rattle.wave_format.specs.WaveFormat.{frame}
 use Rattle.bench_pass.specs.ByNumber.{passed}
-use Rattle.bench_ringing.specs.Ringing.{lineAfter}
+use Rattle.bench_ringing.specs.Ringing.{updateAfter, lineAfter}
 
 -- The machines after each pass and its update, and the number of the refusal that ended the ringing, or 0.
 pub record Heard : Type 0 where
@@ -25,13 +25,13 @@ abbrev pub heardRefused : ℕ → Heard
 heardRefused n = record { machines = []; number = n }
 
 -- So many passes, each followed by an update with the commands still left; a refusal ends them. Delay memory goes from pass to pass.
-unfoldable pub heard : ℕ → Machine → Memory → Commands → Heard
-heard zero m memory commands = heardRefused 0
-heard (suc passes) m memory commands =
-    let p = passed m memory in
-    let u = updateOf (p .machine) commands in
+unfoldable pub heard : Text → ℕ → Machine → Memory → Commands → Heard
+heard text zero m memory commands = heardRefused 0
+heard text (suc passes) m memory commands =
+    let p = passed text m memory in
+    let u = updateAfter text (p .machine) commands in
     cond (eqb (p .number) 0)
-    (cond (eqb (u .number) 0) (heardAfter (u .machine) (heard passes (u .machine) (p .memory) (u .rest))) (heardRefused (u .number)))
+    (cond (eqb (u .number) 0) (heardAfter (u .machine) (heard text passes (u .machine) (p .memory) (u .rest))) (heardRefused (u .number)))
     (heardRefused (p .number))
 
 -- The lines of machines, one after another, and of what is heard: a refusal has its own.

@@ -8,7 +8,9 @@ use lib.ListN.{getD}
 use Rattle.lists.specs.Lists.{zeros}
 use Rattle.layout.specs.Layout.{counterAt, dacAt, memoryWords}
 use Rattle.layout.specs.Machine.{Machine, Memory, Commands}
-use Rattle.update.specs.Update.{updateOf}
+use Rattle.texts.specs.declared.Text.{Text}
+use Rattle.texts.specs.declared.Text.the-variants.{Of1978}
+use Rattle.update.specs.Update.{Outcome, updateOf}
 use Rattle.bench_text.specs.Text.{passLine, refusalLine}
 use Rattle.bench_file.specs.BenchFile.{fileOf, isBenchFile}
 use Rattle.bench_pass.specs.ByNumber.{passed}
@@ -17,22 +19,26 @@ use Rattle.bench_pass.specs.ByNumber.{passed}
 unfoldable pub lineAfter : Machine → List ℕ
 lineAfter m = passLine (getD m counterAt 0) (getD m (dacAt 0) 0) (getD m (dacAt 1) 0)
 
+-- What follows a pass by a text: an update with the commands still left.
+abbrev pub updateAfter : Text → Machine → Commands → Outcome
+updateAfter Of1978 = updateOf
+
 -- What is printed: so many passes, each followed by an update with the commands still left, a line after both; a refusal prints its number and ends. Delay memory goes from pass to pass.
-unfoldable pub printed : ℕ → Machine → Memory → Commands → List ℕ
-printed zero m memory commands = []
-printed (suc passes) m memory commands =
-    let p = passed m memory in
-    let u = updateOf (p .machine) commands in
+unfoldable pub printed : Text → ℕ → Machine → Memory → Commands → List ℕ
+printed text zero m memory commands = []
+printed text (suc passes) m memory commands =
+    let p = passed text m memory in
+    let u = updateAfter text (p .machine) commands in
     cond (eqb (p .number) 0)
-    (cond (eqb (u .number) 0) (lineAfter (u .machine) ++ printed passes (u .machine) (p .memory) (u .rest)) (refusalLine (u .number)))
+    (cond (eqb (u .number) 0) (lineAfter (u .machine) ++ printed text passes (u .machine) (p .memory) (u .rest)) (refusalLine (u .number)))
     (refusalLine (p .number))
 
 -- The delay memory that a ringing begins with: zeros.
 unfoldable pub memoryAtFirst : Memory
 memoryAtFirst = zeros memoryWords
 
--- The program's whole output for every text: question 9 first.
+-- The program's whole output for every file: question 9 first.
 unfoldable pub outputOf : List ℕ → List ℕ
-outputOf text =
-    let file = fileOf text in
-    cond (isBenchFile text) (printed (file .passes) (file .machine) memoryAtFirst (file .commands)) (refusalLine 9)
+outputOf file =
+    let reading = fileOf file in
+    cond (isBenchFile file) (printed Of1978 (reading .passes) (reading .machine) memoryAtFirst (reading .commands)) (refusalLine 9)

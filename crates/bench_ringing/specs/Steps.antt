@@ -8,14 +8,15 @@ use lib.Dec.{eqb}
 use lib.ListN.{length, getD, take, drop}
 use Rattle.layout.specs.Layout.{dacAt}
 use Rattle.layout.specs.Machine.{Machine, Memory, Commands, Reaches}
+use Rattle.texts.specs.declared.Text.{Text}
+use Rattle.texts.specs.declared.Text.the-variants.{Of1978}
 use Rattle.questions.specs.Questions.{asked}
 use Rattle.machine.specs.Questions.{question1, question2}
 use Rattle.delay_questions.specs.Questions.{memoryGood}
-use Rattle.update.specs.Update.{updateOf}
 use Rattle.bench_text.specs.Text.{refusalLine}
 use Rattle.bench_file.specs.BenchFile.{Answer}
 use Rattle.bench_pass.specs.ByNumber.{passed}
-use Rattle.bench_ringing.specs.Ringing.{lineAfter, memoryAtFirst}
+use Rattle.bench_ringing.specs.Ringing.{updateAfter, lineAfter, memoryAtFirst}
 use Rattle.bench_ringing.specs.Heard.{frameAfter}
 use Rattle.bench_ringing.specs.declared.Progress.{Progress}
 use Rattle.bench_ringing.specs.declared.Output.{Output}
@@ -54,10 +55,10 @@ pub record Step : Type 0 where
   pub next : Ringing
 
 -- One pass and one update; after a refusal no pass is left. With no pass left nothing is given out.
-unfoldable pub stepOf : Output → Ringing → Step
-stepOf o r =
-    let p = passed (r .machine) (r .memory) in
-    let u = updateOf (p .machine) (r .commands) in
+unfoldable pub stepOf : Text → Output → Ringing → Step
+stepOf text o r =
+    let p = passed text (r .machine) (r .memory) in
+    let u = updateAfter text (p .machine) (r .commands) in
     cond (eqb (r .passes) 0) (record { bytes = []; next = r })
     (cond (eqb (p .number) 0)
     (cond (eqb (u .number) 0)
@@ -65,25 +66,29 @@ stepOf o r =
     (record { bytes = givenRefused o (u .number); next = record { passes = 0; machine = u .machine; memory = p .memory; commands = u .rest; number = u .number } }))
     (record { bytes = givenRefused o (p .number); next = record { passes = 0; machine = p .machine; memory = p .memory; commands = r .commands; number = p .number } }))
 
+-- How many commands are taken after a pass.
+abbrev pub takenAfter : Text → Machine → Commands → ℕ
+takenAfter text m commands = length commands - length (updateAfter text m commands .rest)
+
 -- How many commands a step takes.
 abbrev pub commandsTaken : Ringing → Step → ℕ
 commandsTaken r s = length (r .commands) - length (s .next .commands)
 
 -- What is known after a step of which question refuses the next pass: where it took no command the number is as it was, and where it took one the machine passes questions 1 and 2 and delay memory 10.
-pub record Known (m : Machine) (memory : Memory) (number : ℕ) (took : Bool) : Type 0 where
-  pub as-before : took ≡ false → number ≡ passed m memory .number
-  pub good : took ≡ true → asked (question1 m ∷ question2 m ∷ []) ≡ 0
+pub record Known (text : Text) (m : Machine) (memory : Memory) (number : ℕ) (took : Bool) : Type 0 where
+  pub as-before : took ≡ false → number ≡ passed text m memory .number
+  pub good : took ≡ true → asked (question1 m ∷ question2 text m ∷ []) ≡ 0
   pub memory-good : took ≡ true → memoryGood memory ≡ true
 
 -- The steps one after another until no pass is left, at most k of them.
-unfoldable pub untilDone : Output → ℕ → Ringing → List ℕ
-untilDone o zero r = []
-untilDone o (suc k) r = let s = stepOf o r in cond (eqb (r .passes) 0) [] (s .bytes ++ untilDone o k (s .next))
+unfoldable pub untilDone : Text → Output → ℕ → Ringing → List ℕ
+untilDone text o zero r = []
+untilDone text o (suc k) r = let s = stepOf text o r in cond (eqb (r .passes) 0) [] (s .bytes ++ untilDone text o k (s .next))
 
--- The ringing that begins with what reading a text answers and leaves, over a delay memory of zeros.
+-- The ringing that begins with what reading a file answers and leaves, over a delay memory of zeros.
 abbrev pub begun : Answer → Ringing
 begun a = record { passes = a .passes; machine = a .machine; memory = memoryAtFirst; commands = take (a .count) (a .room); number = 0 }
 
--- What the steps print from there; a refused text has the line of its refusal.
+-- What the steps print from there; a refused file has the line of its refusal.
 unfoldable pub rungFrom : Answer → List ℕ
-rungFrom a = cond (eqb (a .number) 0) (untilDone Lines (a .passes) (begun a)) (refusalLine (a .number))
+rungFrom a = cond (eqb (a .number) 0) (untilDone Of1978 Lines (a .passes) (begun a)) (refusalLine (a .number))

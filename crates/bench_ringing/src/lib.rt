@@ -11,12 +11,13 @@ ghost use Rattle.questions.specs.Questions.{asked};
 ghost use Rattle.machine.specs.Questions.{question1, question2};
 ghost use Rattle.order_lists.specs.Sequences.{byNumber};
 ghost use Rattle.bench_pass.specs.ByNumber.{passed};
-ghost use Rattle.update.specs.Update.{updateOf, takenCount};
-ghost use Rattle.bench_ringing.specs.Steps.{Lined, Known, givenAfter, givenRefused, ringingAt, stepOf, commandsTaken};
+ghost use Rattle.bench_ringing.specs.Ringing.{updateAfter};
+ghost use Rattle.bench_ringing.specs.Steps.{takenAfter, Lined, Known, givenAfter, givenRefused, ringingAt, stepOf, commandsTaken};
 use exponential::Entries;
 use sine::Quarter;
+use texts::Text;
 
-// What a ringing gives out: lines of text, or frames of sound.
+// What a ringing gives out: lines of file, or frames of sound.
 pub enum Output {
     Lines,
     Frames,
@@ -40,14 +41,16 @@ fn start_of(commands: &[u32], from: usize) -> usize
     from
 }
 
-// An update, of a machine that passes questions 1 and 2, with the commands from a place on. Answers how many it takes.
-fn ring_update(m: &mut [u32], commands: &[u32], from: usize, refused: &mut u32) -> usize
-    requires { ⌜ asked (question1 (now m) ∷ question2 (now m) ∷ []) ≡ 0 ⌝ }
-    ensures { λ r. ⌜ r ≡ takenCount (now (m .entry)) (drop from (now (commands .entry))) ⌝ }
-    ensures { λ r. ⌜ record { number = now (refused .exit); machine = now (m .exit); rest = drop (from + r) (now (commands .entry)) } ≡ updateOf (now (m .entry)) (drop from (now (commands .entry))) ⌝ }
+// What follows a pass, of a machine that passes questions 1 and 2, with the commands from a place on. Answers how many it takes.
+fn ring_update(text: Text, m: &mut [u32], commands: &[u32], from: usize, refused: &mut u32) -> usize
+    requires { ⌜ asked (question1 (now m) ∷ question2 text (now m) ∷ []) ≡ 0 ⌝ }
+    ensures { λ r. ⌜ r ≡ takenAfter text (now (m .entry)) (drop from (now (commands .entry))) ⌝ }
+    ensures { λ r. ⌜ record { number = now (refused .exit); machine = now (m .exit); rest = drop (from + r) (now (commands .entry)) } ≡ updateAfter text (now (m .entry)) (drop from (now (commands .entry))) ⌝ }
 {
     let start = start_of(commands, from);
-    update::take_commands(m, &commands[start..], refused)
+    match text {
+        Text::Of1978 => update::take_commands(m, &commands[start..], refused),
+    }
 }
 
 // What is given out of a machine. Answers its length.
@@ -78,6 +81,7 @@ fn put_refusal(output: Output, number: u32, line: &mut [u8; bench_text::LINE_BYT
 
 // One step: a pass and an update, and what is given out of both or of a refusal. A pass is left, and which question refuses it is known.
 pub fn step(
+    text: Text,
     output: Output,
     at: Progress,
     m: &mut [u32],
@@ -91,12 +95,12 @@ pub fn step(
 ) -> Progress
     requires { ⌜ at .passes ≢ 0 ⌝ }
     requires { ⌜ now order ≡ byNumber 256 ⌝ }
-    requires { ⌜ number ≡ passed (now m) (now memory) .number ⌝ }
+    requires { ⌜ number ≡ passed text (now m) (now memory) .number ⌝ }
     requires { ⌜ (now sine ≡ quarter) × (now decay ≡ entries tableSize) ⌝ }
-    ensures { λ r. ⌜ r .length ≡ length (stepOf output (ringingAt at (now (m .entry)) (now (memory .entry)) (now (commands .entry))) .bytes) ⌝ }
-    ensures { λ _. ⌜ now (line .exit) ≡ sets (now (line .entry)) 0 (stepOf output (ringingAt at (now (m .entry)) (now (memory .entry)) (now (commands .entry))) .bytes) ⌝ }
-    ensures { λ r. ⌜ ringingAt r (now (m .exit)) (now (memory .exit)) (now (commands .entry)) ≡ stepOf output (ringingAt at (now (m .entry)) (now (memory .entry)) (now (commands .entry))) .next ⌝ }
-    ensures { λ r. ⌜ r .taken ≡ at .taken + commandsTaken (ringingAt at (now (m .entry)) (now (memory .entry)) (now (commands .entry))) (stepOf output (ringingAt at (now (m .entry)) (now (memory .entry)) (now (commands .entry)))) ⌝ }
+    ensures { λ r. ⌜ r .length ≡ length (stepOf text output (ringingAt at (now (m .entry)) (now (memory .entry)) (now (commands .entry))) .bytes) ⌝ }
+    ensures { λ _. ⌜ now (line .exit) ≡ sets (now (line .entry)) 0 (stepOf text output (ringingAt at (now (m .entry)) (now (memory .entry)) (now (commands .entry))) .bytes) ⌝ }
+    ensures { λ r. ⌜ ringingAt r (now (m .exit)) (now (memory .exit)) (now (commands .entry)) ≡ stepOf text output (ringingAt at (now (m .entry)) (now (memory .entry)) (now (commands .entry))) .next ⌝ }
+    ensures { λ r. ⌜ r .taken ≡ at .taken + commandsTaken (ringingAt at (now (m .entry)) (now (memory .entry)) (now (commands .entry))) (stepOf text output (ringingAt at (now (m .entry)) (now (memory .entry)) (now (commands .entry)))) ⌝ }
 {
     // After a refusal no pass is left.
     let ended: u32 = 0;
@@ -110,9 +114,9 @@ pub fn step(
             refused: number,
         };
     }
-    bench_pass::run(m, memory, order, sine, decay);
+    bench_pass::run(text, m, memory, order, sine, decay);
     let mut refused: u32 = 0;
-    let count = ring_update(m, commands, from, &mut refused);
+    let count = ring_update(text, m, commands, from, &mut refused);
     let taken = at.taken + count;
     if refused != 0 {
         let length = put_refusal(output, refused, line);
@@ -134,12 +138,12 @@ pub fn step(
 }
 
 // Which question refuses the next pass, or 0: it is asked again only where the step took commands, since a pass and an update without commands keep the answers. Delay memory is not looked at.
-pub fn next_number(m: &[u32], memory: &[u32], number: u32, took: bool) -> u32
-    requires { ⌜ Known (now m) (now memory) number took ⌝ }
-    ensures { λ r. ⌜ r ≡ passed (now (m .entry)) (now (memory .entry)) .number ⌝ }
+pub fn next_number(text: Text, m: &[u32], memory: &[u32], number: u32, took: bool) -> u32
+    requires { ⌜ Known text (now m) (now memory) number took ⌝ }
+    ensures { λ r. ⌜ r ≡ passed text (now (m .entry)) (now (memory .entry)) .number ⌝ }
 {
     if took {
-        return bench_pass::refusal_again(m);
+        return bench_pass::refusal_again(text, m);
     }
     number
 }

@@ -25,22 +25,22 @@ use Rattle.bench_file.specs.BenchFile.{withPasses, Reading, unread, withLine, w
 Few : Line → Type 0
 Few l = withPasses 0 l ≤ mostPasses
 
-few-number : (text : List ℕ) → Few (lineBy (numberIn 10 (mostPasses + 1) text) (λ n. Passes n))
+few-number : (file : List ℕ) → Few (lineBy (numberIn 10 (mostPasses + 1) file) (λ n. Passes n))
 unfolding Few numberIn
-few-number text = go (allDigits 10 text && ltb (writtenAfter 10 0 text) (mostPasses + 1)) refl
+few-number file = go (allDigits 10 file && ltb (writtenAfter 10 0 file) (mostPasses + 1)) refl
   where
-    go : (b : Bool) → (allDigits 10 text && ltb (writtenAfter 10 0 text) (mostPasses + 1)) ≡ b
-        → withPasses 0 (lineBy (cond b (Is (writtenAfter 10 0 text)) No) (λ n. Passes n)) ≤ mostPasses
+    go : (b : Bool) → (allDigits 10 file && ltb (writtenAfter 10 0 file) (mostPasses + 1)) ≡ b
+        → withPasses 0 (lineBy (cond b (Is (writtenAfter 10 0 file)) No) (λ n. Passes n)) ≤ mostPasses
     go true e =
-        let t : T (allDigits 10 text && ltb (writtenAfter 10 0 text) (mostPasses + 1)) = subst T (sym e) tt in
-        let l = ltb-true (writtenAfter 10 0 text) (mostPasses + 1) (passes (ltb (writtenAfter 10 0 text) (mostPasses + 1)) (and-right (allDigits 10 text) (ltb (writtenAfter 10 0 text) (mostPasses + 1)) t)) in
+        let t : T (allDigits 10 file && ltb (writtenAfter 10 0 file) (mostPasses + 1)) = subst T (sym e) tt in
+        let l = ltb-true (writtenAfter 10 0 file) (mostPasses + 1) (passes (ltb (writtenAfter 10 0 file) (mostPasses + 1)) (and-right (allDigits 10 file) (ltb (writtenAfter 10 0 file) (mostPasses + 1)) t)) in
         omega (arith, l)
     go false e = omega arith
 
-few-decimal : (text : List ℕ) → Few (lineBy (decimalIn (mostPasses + 1) text) (λ n. Passes n))
+few-decimal : (file : List ℕ) → Few (lineBy (decimalIn (mostPasses + 1) file) (λ n. Passes n))
 unfolding Few decimalIn
-few-decimal text =
-    of-cond (λ (a : Number). withPasses 0 (lineBy a (λ n. Passes n)) ≤ mostPasses) (eqb (length text) 0 || leadingZero text) {x = No} {y = numberIn 10 (mostPasses + 1) text} (omega arith) (few-number text)
+few-decimal file =
+    of-cond (λ (a : Number). withPasses 0 (lineBy a (λ n. Passes n)) ≤ mostPasses) (eqb (length file) 0 || leadingZero file) {x = No} {y = numberIn 10 (mostPasses + 1) file} (omega arith) (few-number file)
 
 few-command : (a : Number) → Few (lineBy a (λ c. Command c))
 unfolding Few
@@ -79,6 +79,6 @@ unfolding withLines
 lines-few r [] h = h
 lines-few r (l ∷ ls) h = lines-few (withLine r (lineOf l)) ls (line-few r (lineOf l) h (few-line l))
 
-pub few-passes : (text : List ℕ) → fileOf text .passes ≤ mostPasses
+pub few-passes : (file : List ℕ) → fileOf file .passes ≤ mostPasses
 unfolding fileOf
-few-passes text = lines-few unread (linesOf text) (omega arith)
+few-passes file = lines-few unread (linesOf file) (omega arith)

@@ -1,3 +1,3 @@
 pub mod FewPasses
 pub mod Sounding
-pub mod WholeText
+pub mod WholeFile

@@ -1,4 +1,4 @@
--- What program wav writes for every text: a RIFF/WAVE file of what is heard, or a refusal.
+-- What program wav writes for every file: a RIFF/WAVE file of what is heard, or a refusal.
 -- Assumes nothing.
 use Prim.Native.Nat.{ℕ, _+_, _*_}
 use mathlib.Core.Bool.{cond}
@@ -6,6 +6,7 @@ use mathlib.Core.List.{List, [], _∷_, _++_}
 use lib.Dec.{eqb}
 use lib.ListN.{length, getD}
 use Rattle.layout.specs.Layout.{nAt}
+use Rattle.texts.specs.declared.Text.the-variants.{Of1978}
 use Rattle.questions.specs.Questions.{asked}
 use Rattle.machine.specs.Questions.{question1, question2}
 use Rattle.wave_format.specs.WaveFormat.{frameBytes, rateOf, header, headerBytes}
@@ -17,13 +18,13 @@ use Rattle.bench_ringing.specs.Heard.{Heard, heardRefused, heard, framesOf}
 
 -- What is heard of a machine and commands over a delay memory of zeros. Questions 1 and 2 are asked first, also where there is no pass, since N gives the rate.
 unfoldable pub heardOf : Reading → Heard
-heardOf file =
-    let first = asked (question1 (file .machine) ∷ question2 (file .machine) ∷ []) in
-    cond (eqb first 0) (heard (file .passes) (file .machine) memoryAtFirst (file .commands)) (heardRefused first)
+heardOf reading =
+    let first = asked (question1 (reading .machine) ∷ question2 Of1978 (reading .machine) ∷ []) in
+    cond (eqb first 0) (heard Of1978 (reading .passes) (reading .machine) memoryAtFirst (reading .commands)) (heardRefused first)
 
--- What is heard of a text: question 9 first.
-unfoldable pub heardText : List ℕ → Heard
-heardText text = cond (isBenchFile text) (heardOf (fileOf text)) (heardRefused 9)
+-- What is heard of a file: question 9 first.
+unfoldable pub heardFile : List ℕ → Heard
+heardFile file = cond (isBenchFile file) (heardOf (fileOf file)) (heardRefused 9)
 
 -- The file: the header, with the rate by N as the ringing begins, and the frames. A refusal makes no sound.
 unfoldable pub waveFile : ℕ → Heard → List ℕ
@@ -37,9 +38,9 @@ pub record Written : Type 0 where
   pub error : List ℕ
 
 unfoldable pub waveOf : List ℕ → Written
-waveOf text =
-    let h = heardText text in
-    record { output = waveFile (getD (fileOf text .machine) nAt 0) h; error = cond (eqb (h .number) 0) [] (refusalLine (h .number)) }
+waveOf file =
+    let h = heardFile file in
+    record { output = waveFile (getD (fileOf file .machine) nAt 0) h; error = cond (eqb (h .number) 0) [] (refusalLine (h .number)) }
 
 -- The room for the longest file: its header, a frame of each pass, and what a step asks to be free.
 abbrev pub waveRoom : ℕ

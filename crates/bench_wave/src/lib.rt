@@ -13,14 +13,16 @@ ghost use Rattle.bench_ringing.specs.Heard.{heard};
 ghost use Rattle.bench_ringing.specs.Steps.{ringingAt};
 ghost use Rattle.bench_ringing.specs.declared.Output.the-variants.{Frames};
 ghost use Rattle.bench_gathering.specs.Gathering.{gathered};
-ghost use Rattle.bench_wave.specs.Wave.{heardText, waveFile, waveOf};
+ghost use Rattle.bench_wave.specs.Wave.{heardFile, waveFile, waveOf};
+ghost use Rattle.texts.specs.declared.Text.the-variants.{Of1978};
 use bench_ringing::Output;
 use bench_ringing::Progress;
+use texts::Text;
 
 // The room for the longest file: 44 bytes of header, 6 for each of 65,535 passes, and 64 that a step asks to be free.
 pub const WAVE_ROOM: usize = 393318;
 
-// What was made of a text: the number of its refusal or 0, and the length of its file.
+// What was made of a file: the number of its refusal or 0, and the length of its file.
 pub struct Made {
     pub number: u32,
     pub length: usize,
@@ -35,11 +37,12 @@ fn gather_frames(
     out: &mut [u8],
 ) -> Progress
     requires { ⌜ headerBytes ≤ length (now out) ⌝ }
-    ensures { λ r. ⌜ r .length ≡ length (gathered Frames (length (now (out .entry)) - headerBytes) (ringingAt at (now (m .entry)) (now (memory .entry)) (now (commands .entry))) .bytes) ⌝ }
-    ensures { λ r. ⌜ now (out .exit) ≡ sets (now (out .entry)) headerBytes (gathered Frames (length (now (out .entry)) - headerBytes) (ringingAt at (now (m .entry)) (now (memory .entry)) (now (commands .entry))) .bytes) ⌝ }
-    ensures { λ r. ⌜ r .refused ≡ gathered Frames (length (now (out .entry)) - headerBytes) (ringingAt at (now (m .entry)) (now (memory .entry)) (now (commands .entry))) .next .number ⌝ }
+    ensures { λ r. ⌜ r .length ≡ length (gathered Of1978 Frames (length (now (out .entry)) - headerBytes) (ringingAt at (now (m .entry)) (now (memory .entry)) (now (commands .entry))) .bytes) ⌝ }
+    ensures { λ r. ⌜ now (out .exit) ≡ sets (now (out .entry)) headerBytes (gathered Of1978 Frames (length (now (out .entry)) - headerBytes) (ringingAt at (now (m .entry)) (now (memory .entry)) (now (commands .entry))) .bytes) ⌝ }
+    ensures { λ r. ⌜ r .refused ≡ gathered Of1978 Frames (length (now (out .entry)) - headerBytes) (ringingAt at (now (m .entry)) (now (memory .entry)) (now (commands .entry))) .next .number ⌝ }
 {
     bench_gathering::gather(
+        Text::Of1978,
         Output::Frames,
         at,
         m,
@@ -57,11 +60,11 @@ fn sound(
     passes: u32,
     out: &mut [u8; WAVE_ROOM],
 ) -> Made
-    requires { ⌜ asked (question1 (now m) ∷ question2 (now m) ∷ []) ≡ 0 ⌝ }
+    requires { ⌜ asked (question1 (now m) ∷ question2 Of1978 (now m) ∷ []) ≡ 0 ⌝ }
     requires { ⌜ passes ≤ mostPasses ⌝ }
-    ensures { λ r. ⌜ r .number ≡ heard passes (now (m .entry)) (now (memory .entry)) (now (commands .entry)) .number ⌝ }
-    ensures { λ r. ⌜ r .length ≡ length (waveFile (getD (now (m .entry)) nAt 0) (heard passes (now (m .entry)) (now (memory .entry)) (now (commands .entry)))) ⌝ }
-    ensures { λ r. ⌜ take (r .length) (now (out .exit)) ≡ waveFile (getD (now (m .entry)) nAt 0) (heard passes (now (m .entry)) (now (memory .entry)) (now (commands .entry))) ⌝ }
+    ensures { λ r. ⌜ r .number ≡ heard Of1978 passes (now (m .entry)) (now (memory .entry)) (now (commands .entry)) .number ⌝ }
+    ensures { λ r. ⌜ r .length ≡ length (waveFile (getD (now (m .entry)) nAt 0) (heard Of1978 passes (now (m .entry)) (now (memory .entry)) (now (commands .entry)))) ⌝ }
+    ensures { λ r. ⌜ take (r .length) (now (out .exit)) ≡ waveFile (getD (now (m .entry)) nAt 0) (heard Of1978 passes (now (m .entry)) (now (memory .entry)) (now (commands .entry))) ⌝ }
 {
     let n = m[layout::N_AT];
     let rate = wave_format::rate(n);
@@ -87,29 +90,29 @@ fn sound(
     }
 }
 
-// The file of a text, rung over a delay memory of zeros: the first bytes of the buffer. A refused text has none.
-pub fn wave(text: &[u8], out: &mut [u8; WAVE_ROOM]) -> Made
-    ensures { λ r. ⌜ r .number ≡ heardText (now (text .entry)) .number ⌝ }
-    ensures { λ r. ⌜ r .length ≡ length (waveOf (now (text .entry)) .output) ⌝ }
-    ensures { λ r. ⌜ take (r .length) (now (out .exit)) ≡ waveOf (now (text .entry)) .output ⌝ }
+// The file of a file, rung over a delay memory of zeros: the first bytes of the buffer. A refused file has none.
+pub fn wave(file: &[u8], out: &mut [u8; WAVE_ROOM]) -> Made
+    ensures { λ r. ⌜ r .number ≡ heardFile (now (file .entry)) .number ⌝ }
+    ensures { λ r. ⌜ r .length ≡ length (waveOf (now (file .entry)) .output) ⌝ }
+    ensures { λ r. ⌜ take (r .length) (now (out .exit)) ≡ waveOf (now (file .entry)) .output ⌝ }
 {
     let mut m = [0u32; layout::MACHINE_LENGTH];
     let mut room = [0u32; bench_file::COMMAND_PLACES];
     let mut memory = [0u32; layout::MEMORY_WORDS];
-    let file = bench_file::read(text, &mut m, &mut room);
-    if file.number != 0 {
+    let reading = bench_file::read(file, &mut m, &mut room);
+    if reading.number != 0 {
         return Made {
-            number: file.number,
+            number: reading.number,
             length: 0,
         };
     }
-    let first = machine::refusal(&m);
+    let first = machine::refusal(Text::Of1978, &m);
     if first != 0 {
         return Made {
             number: first,
             length: 0,
         };
     }
-    let count = file.count;
-    sound(&mut m, &room[0..count], &mut memory, file.passes, out)
+    let count = reading.count;
+    sound(&mut m, &room[0..count], &mut memory, reading.passes, out)
 }

@@ -17,13 +17,13 @@ use Rattle.bench_text.specs.Text.{digits, decimal}
 use Rattle.bench_numbers.specs.Numbers.{digitValue, allDigits, writtenAfter, numberIn, leadingZero, decimalIn}
 use Rattle.bench_numbers.specs.declared.Number.the-variants.{Is}
 
--- A text of digits that writes n, and begins with 0 only if it is that digit alone.
-record Writes (n : ℕ) (text : List ℕ) : Type 0 where
-  all : allDigits 10 text ≡ true
-  number : writtenAfter 10 0 text ≡ n
-  some : 0 < length text
-  alone : n ≡ 0 → length text ≡ 1
-  first : n ≢ 0 → getD text 0 0 ≢ code "0"
+-- A file of digits that writes n, and begins with 0 only if it is that digit alone.
+record Writes (n : ℕ) (file : List ℕ) : Type 0 where
+  all : allDigits 10 file ≡ true
+  number : writtenAfter 10 0 file ≡ n
+  some : 0 < length file
+  alone : n ≡ 0 → length file ≡ 1
+  first : n ≢ 0 → getD file 0 0 ≢ code "0"
 
 digit-value : (d : ℕ) → d < 10 → digitValue (code "0" + d) ≡ d
 unfolding digitValue
@@ -47,34 +47,34 @@ one-digit n h =
       first = λ p q. p (omega arith);
     }
 
--- A text with one more after it.
-all-more : (more text : List ℕ) → allDigits 10 text ≡ true → allDigits 10 more ≡ true → allDigits 10 (text ++ more) ≡ true
+-- A file with one more after it.
+all-more : (more file : List ℕ) → allDigits 10 file ≡ true → allDigits 10 more ≡ true → allDigits 10 (file ++ more) ≡ true
 unfolding allDigits
 all-more more [] p q = q
-all-more more (x ∷ text) p q =
+all-more more (x ∷ file) p q =
     let digit = ltb (digitValue x) 10 in
-    and-both digit (allDigits 10 (text ++ more)) (and-first digit (allDigits 10 text) p) (all-more more text (and-second digit (allDigits 10 text) p) q)
+    and-both digit (allDigits 10 (file ++ more)) (and-first digit (allDigits 10 file) p) (all-more more file (and-second digit (allDigits 10 file) p) q)
 
-number-more : (more text : List ℕ) (n : ℕ) → writtenAfter 10 n (text ++ more) ≡ writtenAfter 10 (writtenAfter 10 n text) more
+number-more : (more file : List ℕ) (n : ℕ) → writtenAfter 10 n (file ++ more) ≡ writtenAfter 10 (writtenAfter 10 n file) more
 unfolding writtenAfter
 number-more more [] n = refl
-number-more more (x ∷ text) n = number-more more text (n * 10 + digitValue x)
+number-more more (x ∷ file) n = number-more more file (n * 10 + digitValue x)
 
-first-more : (more text : List ℕ) → 0 < length text → getD (text ++ more) 0 0 ≡ getD text 0 0
+first-more : (more file : List ℕ) → 0 < length file → getD (file ++ more) 0 0 ≡ getD file 0 0
 first-more more [] h = absurd (omega arith)
-first-more more (x ∷ text) h = refl
+first-more more (x ∷ file) h = refl
 
-more-digits : (n : ℕ) (text : List ℕ) → 10 ≤ n → Writes (n / 10) text → Writes n (text ++ ((code "0" + n % 10) ∷ []))
-more-digits n text h w =
+more-digits : (n : ℕ) (file : List ℕ) → 10 ≤ n → Writes (n / 10) file → Writes n (file ++ ((code "0" + n % 10) ∷ []))
+more-digits n file h w =
     let last = (code "0" + n % 10) ∷ [] in
     record {
-      all = all-more last text (w .all) (digit-all (n % 10) (omega arith));
+      all = all-more last file (w .all) (digit-all (n % 10) (omega arith));
       number =
-          number-more last text 0 ∙ digit-number (n % 10) (writtenAfter 10 0 text) (omega arith)
+          number-more last file 0 ∙ digit-number (n % 10) (writtenAfter 10 0 file) (omega arith)
           ∙ ap (λ (k : ℕ). k * 10 + n % 10) (w .number) ∙ omega arith;
-      some = omega (arith, length-append text last, w .some);
+      some = omega (arith, length-append file last, w .some);
       alone = λ e. absurd (omega arith);
-      first = λ p q. w .first (λ z. omega arith) (sym (first-more last text (w .some)) ∙ q);
+      first = λ p q. w .first (λ z. omega arith) (sym (first-more last file (w .some)) ∙ q);
     }
 
 digits-write : (k n : ℕ) → n < 10 ^ suc k → Writes n (digits (suc k) n)
@@ -86,16 +86,16 @@ digits-write (suc k) n h = go (ltb n 10) refl (digits-write k (n / 10) (omega (a
   go true e w = one-digit n (ltb-true n 10 e)
   go false e w = more-digits n (digits (suc k) (n / 10)) (ltb-false n 10 e) w
 
-no-leading-zero : (n : ℕ) (text : List ℕ) → Writes n text → leadingZero text ≡ false
+no-leading-zero : (n : ℕ) (file : List ℕ) → Writes n file → leadingZero file ≡ false
 unfolding leadingZero
-no-leading-zero n text w = go (eqb n 0) refl where
-  go : (b : Bool) → eqb n 0 ≡ b → (eqb (getD text 0 0) (code "0") && ltb 1 (length text)) ≡ false
-  go true e = rw (w .alone (eqb-true n 0 e)) (short (eqb (getD text 0 0) (code "0")))
+no-leading-zero n file w = go (eqb n 0) refl where
+  go : (b : Bool) → eqb n 0 ≡ b → (eqb (getD file 0 0) (code "0") && ltb 1 (length file)) ≡ false
+  go true e = rw (w .alone (eqb-true n 0 e)) (short (eqb (getD file 0 0) (code "0")))
     where
       short : (b : Bool) → (b && false) ≡ false
       short true = refl
       short false = refl
-  go false e = rw (ne-eqb (getD text 0 0) (code "0") (w .first (eqb-false n 0 e)))
+  go false e = rw (ne-eqb (getD file 0 0) (code "0") (w .first (eqb-false n 0 e)))
 
 -- Ten digits are enough for 32 bits.
 module _ (n : ℕ) (h : n < 2 ^ counterBits) where

@@ -18,13 +18,13 @@ use Rattle.bench_text.specs.Text.{decimal, named, newline}
 use Rattle.bench_numbers.specs.Numbers.{digitValue, allDigits}
 use Rattle.bench_numbers.specs.declared.Number.the-variants.{Is}
 use Rattle.bench_lines.specs.Lines.{prepended, linesOf, ended}
-use Rattle.bench_lines.proofs.TextLines.{ended-by}
+use Rattle.bench_lines.proofs.FileLines.{ended-by}
 use Rattle.order_file.specs.OrderFile.{orderStart, entryOf, entry, allEntries, isOrderFile, orderOf}
 use Rattle.sorted_lines.specs.SortedLines.{entryLine, orderLines}
 use Rattle.sorted_lines.proofs.Lines.{order-lines-length}
 use Rattle.claims.proofs.PrintedNumbers.{decimal-digits, printed-below}
 
--- A text of digits ends where its LF stands.
+-- A file of digits ends where its LF stands.
 no-newline : (b : ℕ) → ltb (digitValue b) 10 ≡ true → eqb b (code "\n") ≡ false
 unfolding digitValue
 no-newline b h = go (eqb b (code "\n")) refl
@@ -33,12 +33,12 @@ no-newline b h = go (eqb b (code "\n")) refl
     go true e = absurd (true≢false (sym h ∙ rw (eqb-true b (code "\n") e)))
     go false e = refl
 
-digit-lines : (text rest : List ℕ) → allDigits 10 text ≡ true → linesOf ((text ++ newline) ++ rest) ≡ text ∷ linesOf rest
+digit-lines : (file rest : List ℕ) → allDigits 10 file ≡ true → linesOf ((file ++ newline) ++ rest) ≡ file ∷ linesOf rest
 unfolding linesOf prepended allDigits
 digit-lines [] rest h = refl
-digit-lines (b ∷ text) rest h =
+digit-lines (b ∷ file) rest h =
     let digit = ltb (digitValue b) 10 in
-    rw (no-newline b (and-first digit (allDigits 10 text) h), digit-lines text rest (and-second digit (allDigits 10 text) h))
+    rw (no-newline b (and-first digit (allDigits 10 file) h), digit-lines file rest (and-second digit (allDigits 10 file) h))
 
 -- The line of an entry.
 module _ (g : ℕ) (h : g < generators) where

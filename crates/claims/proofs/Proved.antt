@@ -4,6 +4,8 @@ use mathlib.Core.Path.{_≡_, sym, _∙_}
 use lib.ListN.{length-set}
 use Rattle.layout.specs.Layout.{counterAt}
 use Rattle.layout.specs.Machine.{Machine}
+use Rattle.texts.specs.declared.Text.{Text}
+use Rattle.texts.specs.declared.Text.the-variants.{Of1978}
 use Rattle.layout.proofs.UpdateTicks.{ticks-exact, ticks-none}
 use Rattle.sine.proofs.Quarter.{magnitude-positive}
 use Rattle.exponential.proofs.Entries.{entry-largest}
@@ -12,7 +14,7 @@ use Rattle.exponential.proofs.OlderTable.{older-table}
 use Rattle.machine.proofs.FreshMachine.{fresh-length, fresh-sound}
 use Rattle.machine.proofs.SoundMachine.{reaches, sound-controls, sound-ticks}
 use Rattle.machine.proofs.Asked.{ticks-disagree}
-use Rattle.machine.proofs.OlderCounter.{older-sound, any-counter}
+use Rattle.machine.proofs.NarrowCounter.{narrow-sound, any-counter}
 use Rattle.delay.proofs.Returns.{line-returns, table-returns}
 use Rattle.pass_model.specs.Pass.{Call, passOf, passRefusal}
 use Rattle.pass_model.proofs.Asked.{refusal-leaves}
@@ -43,8 +45,8 @@ use Rattle.claims.proofs.PrintedNumbers.{number-printed}
 use Rattle.claims.proofs.PrintedOrders.{order-printed}
 
 -- A pass that answers 0 is refused by no question.
-not-refused : (m : Machine) (call : Call) → passOf m call .number ≡ 0 → passRefusal m call ≡ 0
-not-refused m call n = sym (pass-number m call) ∙ n
+not-refused : (text : Text) (m : Machine) (call : Call) → passOf text m call .number ≡ 0 → passRefusal text m call ≡ 0
+not-refused text m call n = sym (pass-number text m call) ∙ n
 
 pub claims : Claims
 claims =
@@ -66,34 +68,34 @@ claims =
       order-printed-read = order-printed;
       sine-not-zero = magnitude-positive;
       worked-examples = worked-examples;
-      fresh-good = record { whole = fresh-length; is-sound = fresh-sound };
+      fresh-good = λ text. record { whole = fresh-length; is-sound = fresh-sound text };
       pass-keeps = pass-sound;
       command-keeps = λ m c good. record { whole = command-length m c ∙ good .whole; is-sound = command-sound m c (reaches m (good .whole)) (good .is-sound) };
       update-keeps = λ m cs good. record { whole = update-length m cs ∙ good .whole; is-sound = update-sound m cs (good .is-sound) };
       ticks-exact = ticks-exact;
       ticks-none = ticks-none;
-      ticks-written = λ m good. sound-ticks m (good .is-sound);
+      ticks-written = λ text m good. sound-ticks text m (good .is-sound);
       ticks-disagree = ticks-disagree;
-      taken-at-most = λ m cs good. rw (sound-ticks m (good .is-sound)) (at-most m cs);
+      taken-at-most = λ m cs good. rw (sound-ticks Of1978 m (good .is-sound)) (at-most m cs);
       file-ticks = file-ticks;
       pass-keeps-memory = pass-memory;
-      pass-keeps-units = λ m call good. pass-units m call (sound-controls m (good .is-sound) .tHigh);
+      pass-keeps-units = λ text m call good. pass-units text m call (sound-controls text m (good .is-sound) .tHigh);
       pass-settings = pass-settings;
-      items-read = λ m call n. pass-counts m call (not-refused m call n) .0;
-      items-written = λ m call n. pass-counts m call (not-refused m call n) .1;
-      pass-counted = λ m call n. pass-counter m call (not-refused m call n);
-      counter-any = λ m good n l. record { whole = length-set m counterAt n ∙ good .whole; is-sound = any-counter m (good .is-sound) n l };
-      older-good = λ m l e. record { whole = l; is-sound = older-sound m e };
-      low-counted = λ m call n. pass-low-counter m call (not-refused m call n);
+      items-read = λ text m call n. pass-counts text m call (not-refused text m call n) .0;
+      items-written = λ text m call n. pass-counts text m call (not-refused text m call n) .1;
+      pass-counted = λ text m call n. pass-counter text m call (not-refused text m call n);
+      counter-any = λ text m good n l. record { whole = length-set m counterAt n ∙ good .whole; is-sound = any-counter text m (good .is-sound) n l };
+      narrow-good = λ text m l e. record { whole = l; is-sound = narrow-sound text m e };
+      low-counted = λ text m call n. pass-low-counter text m call (not-refused text m call n);
       linger-low = λ m good n k e. lingers-low m (reaches m (good .whole)) n k e;
       timer-sets = λ m good c e. timer-sets m (reaches m (good .whole)) c e;
       timer-clears = λ m good c e. timer-clears m (reaches m (good .whole)) c e;
       counter-printed = number-printed;
-      refused-leaves = λ m call n. refusal-leaves m call (λ e. n (pass-number m call ∙ e));
+      refused-leaves = λ text m call n. refusal-leaves text m call (λ e. n (pass-number text m call ∙ e));
       marks-64 = pass-marks;
       mark-bits = pass-mark-bits;
-      refused-unmarked = λ m call n. refused-unmarked m call (λ e. n (pass-number m call ∙ e));
-      mark-tells = λ m call n. pass-mark-tells m call (not-refused m call n);
+      refused-unmarked = λ text m call n. refused-unmarked text m call (λ e. n (pass-number text m call ∙ e));
+      mark-tells = λ text m call n. pass-mark-tells text m call (not-refused text m call n);
       marks-equal = marks-equal;
       marks-forth = forth-sets;
       marks-back = back-sets;

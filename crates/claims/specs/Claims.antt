@@ -11,23 +11,25 @@ use Rattle.words.specs.Words.{signed}
 use Rattle.layout.specs.Layout.{counterAt, quadrantWords, generators, machineLength, updateTicksAt}
 use Rattle.layout.specs.Machine.{Machine, Order, Items, Commands, Memory, ticksOf, updateTicks, updateTicksOf, lowCounter}
 use Rattle.layout.specs.Widths.{counterBits, lingerBits}
+use Rattle.texts.specs.declared.Text.{Text}
+use Rattle.texts.specs.declared.Text.the-variants.{Of1978}
 use Rattle.questions.specs.Questions.{asked}
 use Rattle.sine.specs.Sine.{magnitude}
 use Rattle.exponential.specs.Exponential.{tableSize, olderSize, within, Largest, entry as exponentialEntry, entries as exponentialEntries, exponential}
 use Rattle.exponential.specs.OlderTable.{olderTable}
 use Rattle.modes.specs.Modes.{readData, writeData}
 use Rattle.machine.specs.Questions.{question1, question2, freshMachine}
-use Rattle.machine.specs.OlderCounter.{olderSound}
+use Rattle.machine.specs.NarrowCounter.{narrowSound}
 use Rattle.delay.specs.declared.Delay.{Delay}
 use Rattle.built_codes.specs.BuiltCodes.{line}
 use Rattle.delay.specs.Delay.{due, slot, address}
 use Rattle.delay.specs.Turns.{Turns, OnlyTurnsWrite}
-use Rattle.delay_questions.specs.Questions.{memoryGood, question11, question12}
+use Rattle.delay_questions.specs.Questions.{memoryGood}
 use Rattle.order.specs.Order.{inMode}
 use Rattle.sums.specs.Sums.{sumsOf}
-use Rattle.pass_model.specs.Generators.{of1978, begun}
+use Rattle.pass_model.specs.Generators.{generatorsOf, begun}
 use Rattle.pass_model.specs.Clipped.{noMarks, SumLeft}
-use Rattle.pass_model.specs.Pass.{Call, plainCall, passOf}
+use Rattle.pass_model.specs.Pass.{unitQuestions, Call, plainCall, passOf}
 use Rattle.pass_laws.specs.Good.{Good}
 use Rattle.pass_laws.specs.Settings.{SettingsKept}
 use Rattle.command_fields.specs.Fields.{dataOf}
@@ -59,34 +61,34 @@ use Rattle.bench_gathering.specs.Gathering.{printedFrom}
 
 pub record Claims : Type 0 where
   -- Demand 3: on a machine that passes questions 1 and 2, two orders that pass 5 and 6 are equal exactly when they agree on the four points.
-  pub demand-3 : (m : Machine) → Good m → (o₁ o₂ : Order) → Passes m o₁ → Passes m o₂ → Equal m o₁ o₂ ↔ Agree m o₁ o₂
+  pub demand-3 : (text : Text) (m : Machine) → Good text m → (o₁ o₂ : Order) → Passes m o₁ → Passes m o₂ → Equal text m o₁ o₂ ↔ Agree text m o₁ o₂
   -- A compare that passes the questions says yes exactly when its two orders are equal; a refused one says no.
-  pub compare-says : (m : Machine) (o₁ o₂ : Order) → compareOf m o₁ o₂ .number ≡ 0 → (compareOf m o₁ o₂ .equal ≡ true) ↔ Equal m o₁ o₂
-  pub refused-says-no : (m : Machine) (o₁ o₂ : Order) → compareOf m o₁ o₂ .number ≢ 0 → compareOf m o₁ o₂ .equal ≡ false
+  pub compare-says : (text : Text) (m : Machine) (o₁ o₂ : Order) → compareOf text m o₁ o₂ .number ≡ 0 → (compareOf text m o₁ o₂ .equal ≡ true) ↔ Equal text m o₁ o₂
+  pub refused-says-no : (text : Text) (m : Machine) (o₁ o₂ : Order) → compareOf text m o₁ o₂ .number ≢ 0 → compareOf text m o₁ o₂ .equal ≡ false
   -- The call that asks whether every order leaves the same says yes, where it passes the questions, exactly when every two orders that pass 5 and 6 are equal; a refused one says no.
   pub any-order-says : (m : Machine) → anyOrderOf m .number ≡ 0 → (anyOrderOf m .alike ≡ true) ↔ EveryTwoEqual m
   pub any-order-refused : (m : Machine) → anyOrderOf m .number ≢ 0 → anyOrderOf m .alike ≡ false
   -- With T at 1 it says yes. Where it says no, two orders can be named that pass 5 and 6 and are not equal.
   pub one-order : (m : Machine) → anyOrderOf m .number ≡ 0 → ticksOf m ≡ 1 → anyOrderOf m .alike ≡ true
   pub orders-apart : (m : Machine) → anyOrderOf m .number ≡ 0 → anyOrderOf m .alike ≡ false
-      → Apart m (partingOrders (settingsOf m) .first) (partingOrders (settingsOf m) .second)
+      → Apart m (partingOrders (settingsOf Of1978 m) .first) (partingOrders (settingsOf Of1978 m) .second)
   -- The call that says what parts two orders names no point, where it passes the questions, exactly when they are equal; where it names none, as in a refusal,
   -- the run and the read list for the contents stay. Where it names one, what they hold parts the orders: passes from it, over any delay memory that passes 10
   -- and with places enough, run by both orders and leave another machine or other written data.
-  pub parts-says : (m : Machine) (o₁ o₂ : Order) (contents : Machine) (items : Items) → partsOf m o₁ o₂ contents items .number ≡ 0
-      → (partsOf m o₁ o₂ contents items .point ≡ 0) ↔ Equal m o₁ o₂
-  pub none-shown : (m : Machine) (o₁ o₂ : Order) (contents : Machine) (items : Items) → partsOf m o₁ o₂ contents items .point ≡ 0
-      → (partsOf m o₁ o₂ contents items .contents ≡ contents) × (partsOf m o₁ o₂ contents items .items ≡ items)
-  pub contents-part : (m : Machine) (o₁ o₂ : Order) (contents : Machine) (items : Items) → partsOf m o₁ o₂ contents items .number ≡ 0
-      → partsOf m o₁ o₂ contents items .point ≢ 0
-      → PartingContents m o₁ o₂ items (partsOf m o₁ o₂ contents items .contents) (partsOf m o₁ o₂ contents items .items)
+  pub parts-says : (text : Text) (m : Machine) (o₁ o₂ : Order) (contents : Machine) (items : Items) → partsOf text m o₁ o₂ contents items .number ≡ 0
+      → (partsOf text m o₁ o₂ contents items .point ≡ 0) ↔ Equal text m o₁ o₂
+  pub none-shown : (text : Text) (m : Machine) (o₁ o₂ : Order) (contents : Machine) (items : Items) → partsOf text m o₁ o₂ contents items .point ≡ 0
+      → (partsOf text m o₁ o₂ contents items .contents ≡ contents) × (partsOf text m o₁ o₂ contents items .items ≡ items)
+  pub contents-part : (text : Text) (m : Machine) (o₁ o₂ : Order) (contents : Machine) (items : Items) → partsOf text m o₁ o₂ contents items .number ≡ 0
+      → partsOf text m o₁ o₂ contents items .point ≢ 0
+      → PartingContents text m o₁ o₂ items (partsOf text m o₁ o₂ contents items .contents) (partsOf text m o₁ o₂ contents items .items)
   -- By what passes from those contents, over a delay memory of zeros and with a place for every generator, are said to differ is the first word by which the machines differ
   -- that the two orders leave; or these are the same, and it is the first item by which the written data differ.
-  pub found-differs : (m : Machine) (o₁ o₂ : Order) (contents : Machine) (items : Items) → partsOf m o₁ o₂ contents items .number ≡ 0
-      → partsOf m o₁ o₂ contents items .point ≢ 0
-      → Differ (passBy (partsOf m o₁ o₂ contents items .contents) (partsOf m o₁ o₂ contents items .items) o₁)
-      (passBy (partsOf m o₁ o₂ contents items .contents) (partsOf m o₁ o₂ contents items .items) o₂)
-      (differenceShown (partsOf m o₁ o₂ contents items .contents) (partsOf m o₁ o₂ contents items .items) o₁ o₂)
+  pub found-differs : (text : Text) (m : Machine) (o₁ o₂ : Order) (contents : Machine) (items : Items) → partsOf text m o₁ o₂ contents items .number ≡ 0
+      → partsOf text m o₁ o₂ contents items .point ≢ 0
+      → Differ (passBy text (partsOf text m o₁ o₂ contents items .contents) (partsOf text m o₁ o₂ contents items .items) o₁)
+      (passBy text (partsOf text m o₁ o₂ contents items .contents) (partsOf text m o₁ o₂ contents items .items) o₂)
+      (differenceShown text (partsOf text m o₁ o₂ contents items .contents) (partsOf text m o₁ o₂ contents items .items) o₁ o₂)
   -- The order by pitch is sorted by pitch, no other order is, and it passes 5 and 6.
   pub sorted-by-pitch : (m : Machine) → SortedByPitch m (byPitch m)
   pub sorted-alone : (m : Machine) (order : Order) → SortedByPitch m order → order ≡ byPitch m
@@ -99,58 +101,58 @@ pub record Claims : Type 0 where
   -- The twelve worked examples.
   pub worked-examples : WorkedExamples
   -- A fresh machine passes questions 1 and 2, and a pass, a command and an update keep them.
-  pub fresh-good : Good freshMachine
-  pub pass-keeps : (m : Machine) (call : Call) → Good m → Good (passOf m call .machine)
-  pub command-keeps : (m : Machine) (c : ℕ) → Good m → Good (afterCommand m c)
-  pub update-keeps : (m : Machine) (commands : Commands) → Good m → Good (updateOf m commands .machine)
+  pub fresh-good : (text : Text) → Good text freshMachine
+  pub pass-keeps : (text : Text) (m : Machine) (call : Call) → Good text m → Good text (passOf text m call .machine)
+  pub command-keeps : (m : Machine) (c : ℕ) → Good Of1978 m → Good Of1978 (afterCommand m c)
+  pub update-keeps : (m : Machine) (commands : Commands) → Good Of1978 m → Good Of1978 (updateOf m commands .machine)
   -- The count of update ticks is N-T-8 where N reaches T and the eight, and else 0.
   pub ticks-exact : (t n : ℕ) → t + 8 ≤ n → updateTicks t n + (t + 8) ≡ n
   pub ticks-none : (t n : ℕ) → n ≤ t + 8 → updateTicks t n ≡ 0
   -- The word of the update ticks has the count of T and N in every machine that passes questions 1 and 2, so also after a pass, a command and an update of such a machine;
   -- a machine whose word disagrees gets 2; and an update takes at most so many commands.
-  pub ticks-written : (m : Machine) → Good m → getD m updateTicksAt 0 ≡ updateTicksOf m
-  pub ticks-disagree : (m : Machine) → length m ≡ machineLength → getD m updateTicksAt 0 ≢ updateTicksOf m → asked (question1 m ∷ question2 m ∷ []) ≡ 2
-  pub taken-at-most : (m : Machine) (commands : Commands) → Good m → takenCount m commands ≤ getD m updateTicksAt 0
-  -- The machine that a text sets has the count of its own T and N, in or out of their ranges.
-  pub file-ticks : (text : List ℕ) → getD (fileOf text .machine) updateTicksAt 0 ≡ updateTicksOf (fileOf text .machine)
-  -- Delay memory that passes question 10 passes it after a pass, and a machine that passes 11 and 12 passes them after a pass.
-  pub pass-keeps-memory : (m : Machine) (call : Call) → memoryGood (call .memory) ≡ true → memoryGood (passOf m call .memory) ≡ true
-  pub pass-keeps-units : (m : Machine) (call : Call) → Good m → asked (question11 m ∷ question12 m ∷ []) ≡ 0
-      → asked (question11 (passOf m call .machine) ∷ question12 (passOf m call .machine) ∷ []) ≡ 0
+  pub ticks-written : (text : Text) (m : Machine) → Good text m → getD m updateTicksAt 0 ≡ updateTicksOf m
+  pub ticks-disagree : (text : Text) (m : Machine) → length m ≡ machineLength → getD m updateTicksAt 0 ≢ updateTicksOf m → asked (question1 m ∷ question2 text m ∷ []) ≡ 2
+  pub taken-at-most : (m : Machine) (commands : Commands) → Good Of1978 m → takenCount m commands ≤ getD m updateTicksAt 0
+  -- The machine that a file sets has the count of its own T and N, in or out of their ranges.
+  pub file-ticks : (file : List ℕ) → getD (fileOf file .machine) updateTicksAt 0 ≡ updateTicksOf (fileOf file .machine)
+  -- Delay memory that passes question 10 passes it after a pass, and a machine that passes what its text asks of the delay units, 11 and 12 in 1978's, passes it after a pass.
+  pub pass-keeps-memory : (text : Text) (m : Machine) (call : Call) → memoryGood (call .memory) ≡ true → memoryGood (passOf text m call .memory) ≡ true
+  pub pass-keeps-units : (text : Text) (m : Machine) (call : Call) → Good text m → asked (unitQuestions text m) ≡ 0
+      → asked (unitQuestions text (passOf text m call .machine)) ≡ 0
   -- A pass keeps all settings but the run modes of 1001 and 1101.
-  pub pass-settings : (m : Machine) (call : Call) → SettingsKept m (passOf m call .machine)
+  pub pass-settings : (text : Text) (m : Machine) (call : Call) → SettingsKept text m (passOf text m call .machine)
   -- A pass that is not refused reads an item for each 0111 below T, writes one for each 0011 below T, and adds 1 to the counter.
-  pub items-read : (m : Machine) (call : Call) → passOf m call .number ≡ 0 → passOf m call .read ≡ inMode m readData
-  pub items-written : (m : Machine) (call : Call) → passOf m call .number ≡ 0 → passOf m call .written ≡ inMode m writeData
-  pub pass-counted : (m : Machine) (call : Call) → passOf m call .number ≡ 0
-      → getD (passOf m call .machine) counterAt 0 ≡ (getD m counterAt 0 + 1) % 2 ^ counterBits
+  pub items-read : (text : Text) (m : Machine) (call : Call) → passOf text m call .number ≡ 0 → passOf text m call .read ≡ inMode text m readData
+  pub items-written : (text : Text) (m : Machine) (call : Call) → passOf text m call .number ≡ 0 → passOf text m call .written ≡ inMode text m writeData
+  pub pass-counted : (text : Text) (m : Machine) (call : Call) → passOf text m call .number ≡ 0
+      → getD (passOf text m call .machine) counterAt 0 ≡ (getD m counterAt 0 + 1) % 2 ^ counterBits
   -- Question 2 lets every number of 32 bits through as the counter. A machine that passed it while the counter had 20 bits passes it as it stands, its counter's number unchanged.
-  pub counter-any : (m : Machine) → Good m → (n : ℕ) → n < 2 ^ counterBits → Good (set m counterAt n)
-  pub older-good : (m : Machine) → length m ≡ machineLength → olderSound m ≡ true → Good m
+  pub counter-any : (text : Text) (m : Machine) → Good text m → (n : ℕ) → n < 2 ^ counterBits → Good text (set m counterAt n)
+  pub narrow-good : (text : Text) (m : Machine) → length m ≡ machineLength → narrowSound text m ≡ true → Good text m
   -- The low 20 bits of the counter, with which a Linger is compared, go on from pass to pass as a counter of 20 bits does. Nothing else of the counter decides
   -- whether a Linger waits or sets overrun, and whether lingering goes on.
-  pub low-counted : (m : Machine) (call : Call) → passOf m call .number ≡ 0 → lowCounter (passOf m call .machine) ≡ (lowCounter m + 1) % 2 ^ lingerBits
-  pub linger-low : (m : Machine) → Good m → (n k : ℕ) → n % 2 ^ lingerBits ≡ k % 2 ^ lingerBits → (stillLingering (set m counterAt n) ≡ stillLingering (set m counterAt k))
+  pub low-counted : (text : Text) (m : Machine) (call : Call) → passOf text m call .number ≡ 0 → lowCounter (passOf text m call .machine) ≡ (lowCounter m + 1) % 2 ^ lingerBits
+  pub linger-low : (m : Machine) → Good Of1978 m → (n k : ℕ) → n % 2 ^ lingerBits ≡ k % 2 ^ lingerBits → (stillLingering (set m counterAt n) ≡ stillLingering (set m counterAt k))
       × ((number : ℕ) → (behind (set m counterAt n) number ≡ behind (set m counterAt k) number))
   -- TIMER 01 sets the counter to its 20 bits of data, and TIMER 11 to 0: the high bits are cleared.
-  pub timer-sets : (m : Machine) → Good m → (c : ℕ) → ttOf c ≡ 0b01 → (getD (timed m c) counterAt 0 ≡ dataOf c) × (dataOf c < 2 ^ lingerBits)
-  pub timer-clears : (m : Machine) → Good m → (c : ℕ) → ttOf c ≡ 0b11 → getD (timed m c) counterAt 0 ≡ 0
-  -- A number of 32 bits is printed whole: its text is read as that number, without leading zeros.
+  pub timer-sets : (m : Machine) → Good Of1978 m → (c : ℕ) → ttOf c ≡ 0b01 → (getD (timed m c) counterAt 0 ≡ dataOf c) × (dataOf c < 2 ^ lingerBits)
+  pub timer-clears : (m : Machine) → Good Of1978 m → (c : ℕ) → ttOf c ≡ 0b11 → getD (timed m c) counterAt 0 ≡ 0
+  -- A number of 32 bits is printed whole: its file is read as that number, without leading zeros.
   pub counter-printed : (n : ℕ) → n < 2 ^ counterBits → decimalIn (2 ^ counterBits) (decimal n) ≡ Is n
   -- A refused pass leaves the machine, the places and delay memory as they were.
-  pub refused-leaves : (m : Machine) (call : Call) → passOf m call .number ≢ 0
-      → (passOf m call .machine ≡ m) × (passOf m call .places ≡ call .places) × (passOf m call .memory ≡ call .memory)
+  pub refused-leaves : (text : Text) (m : Machine) (call : Call) → passOf text m call .number ≢ 0
+      → (passOf text m call .machine ≡ m) × (passOf text m call .places ≡ call .places) × (passOf text m call .memory ≡ call .memory)
   -- A pass answers 64 marks, each 0 or 1, and none is set in a refusal. Else the mark of a generator-this word is set exactly if some generator, taken in the call's order
   -- from the state that those before it left, made a signed sum in that word, by adding or replacing, that left its range.
-  pub marks-64 : (m : Machine) (call : Call) → length (passOf m call .clipped) ≡ quadrantWords
-  pub mark-bits : (m : Machine) (call : Call) (w : ℕ) → w < quadrantWords → getD (passOf m call .clipped) w 0 ≤ 1
-  pub refused-unmarked : (m : Machine) (call : Call) → passOf m call .number ≢ 0 → passOf m call .clipped ≡ noMarks
-  pub mark-tells : (m : Machine) (call : Call) → passOf m call .number ≡ 0 → (w : ℕ) → w < quadrantWords
-      → (getD (passOf m call .clipped) w 0 ≡ 1) ↔ SumLeft of1978 (call .items) (begun m (sumsOf m) (call .places)) (call .order) w
+  pub marks-64 : (text : Text) (m : Machine) (call : Call) → length (passOf text m call .clipped) ≡ quadrantWords
+  pub mark-bits : (text : Text) (m : Machine) (call : Call) (w : ℕ) → w < quadrantWords → getD (passOf text m call .clipped) w 0 ≤ 1
+  pub refused-unmarked : (text : Text) (m : Machine) (call : Call) → passOf text m call .number ≢ 0 → passOf text m call .clipped ≡ noMarks
+  pub mark-tells : (text : Text) (m : Machine) (call : Call) → passOf text m call .number ≡ 0 → (w : ℕ) → w < quadrantWords
+      → (getD (passOf text m call .clipped) w 0 ≡ 1) ↔ SumLeft (generatorsOf text) (call .items) (begun m (sumsOf m) (call .places)) (call .order) w
   -- Equal orders may differ in the marks: of two that are equal on a machine one sets the mark of word 0, the other none.
-  pub marks-equal : Equal upAndDown forth back
-  pub marks-forth : (passOf upAndDown (plainCall forth [] []) .number ≡ 0) × (passOf upAndDown (plainCall forth [] []) .clipped ≡ set noMarks 0 1)
-  pub marks-back : (passOf upAndDown (plainCall back [] []) .number ≡ 0) × (passOf upAndDown (plainCall back [] []) .clipped ≡ noMarks)
+  pub marks-equal : Equal Of1978 upAndDown forth back
+  pub marks-forth : (passOf Of1978 upAndDown (plainCall forth [] []) .number ≡ 0) × (passOf Of1978 upAndDown (plainCall forth [] []) .clipped ≡ set noMarks 0 1)
+  pub marks-back : (passOf Of1978 upAndDown (plainCall back [] []) .number ≡ 0) × (passOf Of1978 upAndDown (plainCall back [] []) .clipped ≡ noMarks)
   -- A word that a delay line takes goes out Z+3 turns later, if nothing but its turns changes the unit and nothing else writes its slot until it leaves;
   -- a table's answer goes out three turns later, looked up in its word's own turn.
   pub line-returns : (unit : ℕ → Delay) (memory : ℕ → Memory) (word : ℕ → ℕ) → unit 0 .p ≡ line → unit 0 .y ≤ unit 0 .z → slot (unit 0) < length (memory 0)
@@ -163,9 +165,9 @@ pub record Claims : Type 0 where
   pub older-entry : (f : ℕ) → exponentialEntry tableSize (4 * f) ≡ exponentialEntry olderSize f
   pub older-exponential : (h : ℕ) → exponential tableSize (4 * h) ≡ exponential olderSize h
   pub older-table : olderTable ≡ exponentialEntries olderSize
-  -- The steps of the bench program until no pass is left are its output, for every text; and so are they where they are gathered in a buffer that has room for a line.
-  pub steps-are-output : (text m room : List ℕ) → length room ≡ commandPlaces → rungFrom (readOf text m room) ≡ outputOf text
-  pub gathered-are-output : (size : ℕ) (text m room : List ℕ) → lineBytes ≤ size → length room ≡ commandPlaces → printedFrom size (readOf text m room) ≡ outputOf text
+  -- The steps of the bench program until no pass is left are its output, for every file; and so are they where they are gathered in a buffer that has room for a line.
+  pub steps-are-output : (file m room : List ℕ) → length room ≡ commandPlaces → rungFrom (readOf file m room) ≡ outputOf file
+  pub gathered-are-output : (size : ℕ) (file m room : List ℕ) → lineBytes ≤ size → length room ≡ commandPlaces → printedFrom size (readOf file m room) ≡ outputOf file
   -- What is printed are the lines of the machines that are heard, and that of the refusal that ended them. A sample is its signed word times 16, exactly.
-  pub printed-heard : (passes : ℕ) (m : Machine) (memory : Memory) (commands : Commands) → printed passes m memory commands ≡ linesHeard (heard passes m memory commands)
+  pub printed-heard : (text : Text) (passes : ℕ) (m : Machine) (memory : Memory) (commands : Commands) → printed text passes m memory commands ≡ linesHeard (heard text passes m memory commands)
   pub sample-exact : (w : ℕ) → w < 2 ^ 20 → signed 24 (16 * w) ≡ pos 16 *ℤ signed 20 w

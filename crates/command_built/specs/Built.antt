@@ -9,6 +9,7 @@ use Rattle.machine.specs.Questions.{goodGmode, goodMmode, goodAddress}
 use Rattle.command_fields.specs.Fields.{field, flag, code4, code5}
 use Rattle.command_timer.specs.Timer.{ticksData}
 use Rattle.command_delay.specs.DelayLoads.{builtDLY}
+use Rattle.texts.specs.declared.Text.the-variants.{Of1978}
 
 -- MISC with RR 10 or 11 or with S is not built.
 abbrev pub builtMISC : ℕ → Bool
@@ -20,11 +21,11 @@ builtTICKS c = not (flag 31 c)
 
 -- GMODE, unless disabled: its modes are built.
 abbrev pub builtGMODE : ℕ → Bool
-builtGMODE c = flag 4 c || goodGmode (field 7 16 c)
+builtGMODE c = flag 4 c || goodGmode Of1978 (field 7 16 c)
 
 -- The function of MMODE, unless disabled, is built.
 abbrev pub builtMMODE : ℕ → Bool
-builtMMODE c = flag 4 c || goodMmode (field 8 16 c)
+builtMMODE c = flag 4 c || goodMmode Of1978 (field 8 16 c)
 
 -- MRM and MIN, each unless disabled, have no top bits 11.
 abbrev pub builtMRM : ℕ → Bool

@@ -5,13 +5,15 @@ use mathlib.Core.Bool.{cond}
 use lib.Dec.{eqb}
 use lib.ListN.{set}
 use Rattle.layout.specs.Layout.{generatorAt, dxAt, GMODE}
-use Rattle.layout.specs.Machine.{Machine, gmodeAt, runModeAt}
+use Rattle.layout.specs.Machine.{Machine, gmodeAt}
+use Rattle.texts.specs.Texts.{runModeAt}
+use Rattle.texts.specs.declared.Text.the-variants.{Of1978}
 use Rattle.modes.specs.Modes.{pause, wait, runningA, withRunMode}
 use Rattle.command_fields.specs.Fields.{field, flag, dataOf}
 
 -- Generator g goes to 1111 if it is in run mode r, its other mode bits kept.
 unfoldable pub releasedOne : ℕ → Machine → ℕ → Machine
-releasedOne r m g = cond (eqb (runModeAt m g) r) (set m (generatorAt g + GMODE) (withRunMode runningA (gmodeAt m g))) m
+releasedOne r m g = cond (eqb (runModeAt Of1978 m g) r) (set m (generatorAt g + GMODE) (withRunMode runningA (gmodeAt m g))) m
 
 -- Generators 0 to n-1 that are in run mode r go to 1111.
 unfoldable pub releasedBelow : ℕ → Machine → ℕ → Machine

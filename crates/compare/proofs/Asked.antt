@@ -15,36 +15,37 @@ use Rattle.compare.specs.Compare.{compareRefusal}
 use Rattle.compare.proofs.Answers.{compare-passes}
 use Rattle.questions.specs.Questions.{asked}
 use Rattle.layout.specs.Machine.{Machine, Order, ticksOf}
+use Rattle.texts.specs.declared.Text.{Text}
 use Rattle.questions.proofs.Asked.{asked-first, asked-later}
 
 -- A machine that passes questions 1 and 2.
-pub is-traceable : (m : Machine) → asked (question1 m ∷ question2 m ∷ []) ≡ 0 → Traceable m
-is-traceable m e =
-    let passed = machine-passes m e in
+pub is-traceable : (text : Text) (m : Machine) → asked (question1 m ∷ question2 text m ∷ []) ≡ 0 → Traceable m
+is-traceable text m e =
+    let passed = machine-passes text m e in
     record {
       reaches = reaches m (passed .0);
-      ticks = sound-controls m (passed .1) .tHigh;
-      gsums = λ g h. sound-generator m (passed .1) g h .gsum;
+      ticks = sound-controls text m (passed .1) .tHigh;
+      gsums = λ g h. sound-generator text m (passed .1) g h .gsum;
     }
 
 -- The questions by pairs.
-module _ (m : Machine) (first second : Order) where
-  pub refused-first : {n : ℕ} → n ≡ asked (question1 m ∷ question2 m ∷ []) → n ≢ 0 → n ≡ compareRefusal m first second
+module _ (text : Text) (m : Machine) (first second : Order) where
+  pub refused-first : {n : ℕ} → n ≡ asked (question1 m ∷ question2 text m ∷ []) → n ≢ 0 → n ≡ compareRefusal text m first second
   unfolding compareRefusal
-  refused-first e h = asked-first (question1 m) (question2 m) _ e h
+  refused-first e h = asked-first (question1 m) (question2 text m) _ e h
 
-  module _ (whole : asked (question1 m ∷ question2 m ∷ []) ≡ 0) where
-    past-first : compareRefusal m first second
+  module _ (whole : asked (question1 m ∷ question2 text m ∷ []) ≡ 0) where
+    past-first : compareRefusal text m first second
         ≡ asked
         (question5 (ticksOf m) first ∷ question6 (ticksOf m) first ∷ question5 (ticksOf m) second ∷ question6 (ticksOf m) second ∷ [])
     unfolding compareRefusal
-    past-first = asked-later (question1 m) (question2 m) _ (λ e. omega arith) (λ e. omega arith) whole
+    past-first = asked-later (question1 m) (question2 text m) _ (λ e. omega arith) (λ e. omega arith) whole
 
-    pub refused-second : {n : ℕ} → n ≡ asked (question5 (ticksOf m) first ∷ question6 (ticksOf m) first ∷ []) → n ≢ 0 → n ≡ compareRefusal m first second
+    pub refused-second : {n : ℕ} → n ≡ asked (question5 (ticksOf m) first ∷ question6 (ticksOf m) first ∷ []) → n ≢ 0 → n ≡ compareRefusal text m first second
     refused-second e h = asked-first (question5 (ticksOf m) first) (question6 (ticksOf m) first) _ e h ∙ sym past-first
 
     pub refused-third : {n : ℕ} → asked (question5 (ticksOf m) first ∷ question6 (ticksOf m) first ∷ []) ≡ 0
-        → n ≡ asked (question5 (ticksOf m) second ∷ question6 (ticksOf m) second ∷ []) → n ≡ compareRefusal m first second
+        → n ≡ asked (question5 (ticksOf m) second ∷ question6 (ticksOf m) second ∷ []) → n ≡ compareRefusal text m first second
     refused-third ordered e =
         e
         ∙ sym (past-first
@@ -55,10 +56,10 @@ pub record Comparable (m : Machine) (first second : Order) : Type 0 where
   pub traceable : Traceable m
   pub ordered : IsOrder (ticksOf m) first × IsOrder (ticksOf m) second
 
-pub is-comparable : (m : Machine) (first second : Order) → compareRefusal m first second ≡ 0 → Comparable m first second
-is-comparable m first second e =
-    let p = compare-passes m first second e in
+pub is-comparable : (text : Text) (m : Machine) (first second : Order) → compareRefusal text m first second ≡ 0 → Comparable m first second
+is-comparable text m first second e =
+    let p = compare-passes text m first second e in
     record {
-      traceable = is-traceable m (p .machine);
+      traceable = is-traceable text m (p .machine);
       ordered = (order-passes (ticksOf m) first (p .first), order-passes (ticksOf m) second (p .second));
     }

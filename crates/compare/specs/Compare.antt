@@ -5,6 +5,7 @@ use mathlib.Core.Bool.{Bool, false, cond}
 use mathlib.Core.List.{[], _∷_}
 use lib.Dec.{eqb}
 use Rattle.layout.specs.Machine.{Machine, Order, ticksOf}
+use Rattle.texts.specs.declared.Text.{Text}
 use Rattle.questions.specs.Questions.{asked}
 use Rattle.machine.specs.Questions.{question1, question2}
 use Rattle.order.specs.Order.{question5, question6}
@@ -17,11 +18,11 @@ pub record Comparison : Type 0 where
   pub equal : Bool
 
 -- The questions of a compare, in sequence: 5 and 6 for each order, first then second.
-unfoldable pub compareRefusal : Machine → Order → Order → ℕ
-compareRefusal m o₁ o₂ =
+unfoldable pub compareRefusal : Text → Machine → Order → Order → ℕ
+compareRefusal text m o₁ o₂ =
     asked
     (question1 m
-    ∷ question2 m
+    ∷ question2 text m
     ∷ question5 (ticksOf m) o₁
     ∷ question6 (ticksOf m) o₁
     ∷ question5 (ticksOf m) o₂
@@ -29,7 +30,7 @@ compareRefusal m o₁ o₂ =
     ∷ [])
 
 -- The comparison of two orders.
-unfoldable pub compareOf : Machine → Order → Order → Comparison
-compareOf m o₁ o₂ =
-    let n = compareRefusal m o₁ o₂ in
-    record { number = n; equal = cond (eqb n 0) (agrees (settingsOf m) o₁ o₂) false }
+unfoldable pub compareOf : Text → Machine → Order → Order → Comparison
+compareOf text m o₁ o₂ =
+    let n = compareRefusal text m o₁ o₂ in
+    record { number = n; equal = cond (eqb n 0) (agrees (settingsOf text m) o₁ o₂) false }

@@ -1,6 +1,7 @@
 // Whether two orders of the generators are equal.
 ghost use mathlib.Core.Path.{_≡_};
 ghost use Rattle.compare.specs.Compare.{compareRefusal, compareOf};
+use texts::Text;
 
 // What a compare answers: the number of the refusing question or 0, and whether the orders are equal.
 pub struct Compared {
@@ -9,10 +10,10 @@ pub struct Compared {
 }
 
 // The first question of a compare that is answered no, or 0.
-pub fn refusal(m: &[u32], first: &[u32], second: &[u32]) -> u32
-    ensures { λ r. ⌜ r ≡ compareRefusal (now (m .entry)) (now (first .entry)) (now (second .entry)) ⌝ }
+pub fn refusal(text: Text, m: &[u32], first: &[u32], second: &[u32]) -> u32
+    ensures { λ r. ⌜ r ≡ compareRefusal text (now (m .entry)) (now (first .entry)) (now (second .entry)) ⌝ }
 {
-    let number = machine::refusal(m);
+    let number = machine::refusal(text, m);
     if number != 0 {
         return number;
     }
@@ -25,16 +26,16 @@ pub fn refusal(m: &[u32], first: &[u32], second: &[u32]) -> u32
 }
 
 // Whether two orders of a machine's generators are equal. A refused compare says no.
-pub fn compare(m: &[u32], first: &[u32], second: &[u32]) -> Compared
-    ensures { λ r. ⌜ record { number = r .number; equal = r .equal } ≡ compareOf (now (m .entry)) (now (first .entry)) (now (second .entry)) ⌝ }
+pub fn compare(text: Text, m: &[u32], first: &[u32], second: &[u32]) -> Compared
+    ensures { λ r. ⌜ record { number = r .number; equal = r .equal } ≡ compareOf text (now (m .entry)) (now (first .entry)) (now (second .entry)) ⌝ }
 {
-    let number = refusal(m, first, second);
+    let number = refusal(text, m, first, second);
     if number != 0 {
         return Compared {
             number,
             equal: false,
         };
     }
-    let equal = order_agrees::agrees(m, first, second);
+    let equal = order_agrees::agrees(text, m, first, second);
     Compared { number: 0, equal }
 }

@@ -13,6 +13,7 @@ use Rattle.lists.specs.Lists.{isOneOf}
 use Rattle.built_codes.specs.BuiltCodes.{builtFunctions, builtFunction}
 use Rattle.layout.specs.Layout.{machineLength, generatorAt, modifierAt, quadrantAt, tAt, MMODE, GO, GSUM, GFM, GMODE}
 use Rattle.layout.specs.Machine.{Machine, ticksOf, gmodeAt, gsumAt, gfmAt}
+use Rattle.texts.specs.declared.Text.the-variants.{Of1978}
 use Rattle.fills.specs.Fills.{filled}
 use Rattle.fills.proofs.Filled.{filled-length, filled-other, filled-at}
 use Rattle.machine.specs.Questions.{regions, testAt, sound}
@@ -23,21 +24,21 @@ use Rattle.order_contents.specs.Contents.{eachRegister, eachWord, inactiveModif
 
 -- Words before T that pass the tests of their places keep a machine good.
 filled-sound : (at step n : ℕ) (f : ℕ → ℕ) (m : Machine)
-    → ((k : ℕ) → k < n → (at + step * k < tAt) × (testAt regions (at + step * k) (f k) ≡ true)) → sound m ≡ true → sound (filled at step n f m) ≡ true
+    → ((k : ℕ) → k < n → (at + step * k < tAt) × (testAt (regions Of1978) (at + step * k) (f k) ≡ true)) → sound Of1978 m ≡ true → sound Of1978 (filled at step n f m) ≡ true
 unfolding filled
 filled-sound at step zero f m fits e = e
 filled-sound at step (suc n) f m fits e =
     let here = fits n (omega arith) in
-    sound-set (filled at step n f m) (filled-sound at step n f m (λ k h. fits k (omega arith)) e) (at + step * n) (f n) (single-below (here .0)) (here .1)
+    sound-set Of1978 (filled at step n f m) (filled-sound at step n f m (λ k h. fits k (omega arith)) e) (at + step * n) (f n) (single-below (here .0)) (here .1)
 
 filled-good : (at step n : ℕ) (f : ℕ → ℕ) (m : Machine)
-    → ((k : ℕ) → k < n → (at + step * k < tAt) × (testAt regions (at + step * k) (f k) ≡ true)) → Good m → Good (filled at step n f m)
+    → ((k : ℕ) → k < n → (at + step * k < tAt) × (testAt (regions Of1978) (at + step * k) (f k) ≡ true)) → Good Of1978 m → Good Of1978 (filled at step n f m)
 filled-good at step n f m fits good =
     record { whole = filled-length at step n f m ∙ good .whole; is-sound = filled-sound at step n f m fits (good .is-sound) }
 
 -- The test of register j of a generator.
 unfoldable pub registerTest : ℕ → ℕ → Bool
-registerTest j x = getD (region regions 0 .tests) j (λ y. false) x
+registerTest j x = getD (region (regions Of1978) 0 .tests) j (λ y. false) x
 
 -- A machine's words, and those of one in which a register of each generator is filled.
 module _ (j : ℕ) (f : ℕ → ℕ) (m : Machine) (l : j < 11) where
@@ -52,14 +53,14 @@ module _ (j : ℕ) (f : ℕ → ℕ) (m : Machine) (l : j < 11) where
   pub register-past : (i : ℕ) → 2816 ≤ i → getD (eachRegister j f m) i 0 ≡ getD m i 0
   register-past i h = filled-other j 11 256 f m i (λ k b e. omega arith)
 
-  register-good : ((g : ℕ) → g < 256 → registerTest j (f g) ≡ true) → Good m → Good (eachRegister j f m)
+  register-good : ((g : ℕ) → g < 256 → registerTest j (f g) ≡ true) → Good Of1978 m → Good Of1978 (eachRegister j f m)
   unfolding registerTest regions
   register-good fits = filled-good j 11 256 f m (λ g h. (omega arith, in-place g h ∙ fits g h))
     where
-      in-place : (g : ℕ) → g < 256 → testAt regions (j + 11 * g) (f g) ≡ getD (region regions 0 .tests) j (λ y. false) (f g)
+      in-place : (g : ℕ) → g < 256 → testAt (regions Of1978) (j + 11 * g) (f g) ≡ getD (region (regions Of1978) 0 .tests) j (λ y. false) (f g)
       in-place g h =
-          let q : j + 11 * g ≡ start regions 0 + (11 * g + j) = omega arith in
-          ap (λ (at : ℕ). testAt regions at (f g)) q ∙ unit-test regions 0 g j (f g) h l
+          let q : j + 11 * g ≡ start (regions Of1978) 0 + (11 * g + j) = omega arith in
+          ap (λ (at : ℕ). testAt (regions Of1978) at (f g)) q ∙ unit-test (regions Of1978) 0 g j (f g) h l
 
 -- One in which the words of a quadrant are filled.
 module _ (q : ℕ) (f : ℕ → ℕ) (m : Machine) (l : q < 4) where
@@ -77,18 +78,18 @@ module _ (q : ℕ) (f : ℕ → ℕ) (m : Machine) (l : q < 4) where
   word-past : (i : ℕ) → 4096 ≤ i → getD (eachWord q f m) i 0 ≡ getD m i 0
   word-past i h = filled-other (quadrantAt q) 1 64 f m i (λ k b e. omega arith)
 
-  word-good : ((w : ℕ) → w < 64 → f w < 2 ^ 20) → Good m → Good (eachWord q f m)
+  word-good : ((w : ℕ) → w < 64 → f w < 2 ^ 20) → Good Of1978 m → Good Of1978 (eachWord q f m)
   unfolding regions
   word-good low = filled-good (quadrantAt q) 1 64 f m (λ w h. (omega arith, in-place w h ∙ lt-ltb (f w) (2 ^ 20) (low w h)))
     where
-      in-place : (w : ℕ) → w < 64 → testAt regions (quadrantAt q + 1 * w) (f w) ≡ getD (region regions 2 .tests) 0 (λ y. false) (f w)
+      in-place : (w : ℕ) → w < 64 → testAt (regions Of1978) (quadrantAt q + 1 * w) (f w) ≡ getD (region (regions Of1978) 2 .tests) 0 (λ y. false) (f w)
       in-place w h =
-          let e : quadrantAt q + 1 * w ≡ start regions 2 + (1 * (64 * q + w) + 0) = omega arith in
-          ap (λ (at : ℕ). testAt regions at (f w)) e ∙ unit-test regions 2 (64 * q + w) 0 (f w) (omega arith) (lit< tt)
+          let e : quadrantAt q + 1 * w ≡ start (regions Of1978) 2 + (1 * (64 * q + w) + 0) = omega arith in
+          ap (λ (at : ℕ). testAt (regions Of1978) at (f w)) e ∙ unit-test (regions Of1978) 2 (64 * q + w) 0 (f w) (omega arith) (lit< tt)
 
 -- A good machine n has T, GO, GSUM, GFM and GMODE of the machine m, and every modifier inactive.
 pub record SameRegisters (m n : Machine) : Type 0 where
-  pub good : Good n
+  pub good : Good Of1978 n
   pub inactive : (k : ℕ) → k < 128 → getD n (modifierAt k + MMODE) 0 ≡ 0
   pub ticks : ticksOf n ≡ ticksOf m
   pub go : (g : ℕ) → g < 256 → getD n (generatorAt g) 0 ≡ getD m (generatorAt g) 0
@@ -97,15 +98,15 @@ pub record SameRegisters (m n : Machine) : Type 0 where
   pub gmode : (g : ℕ) → g < 256 → gmodeAt n g ≡ gmodeAt m g
 
 -- So is one whose modifiers are made inactive.
-module _ (m : Machine) (good : Good m) where
+module _ (m : Machine) (good : Good Of1978 m) where
   abbrev at : ℕ
   at = modifierAt 0 + MMODE
 
-  mode-fits : (k : ℕ) → k < 128 → testAt regions (modifierAt 0 + MMODE + 8 * k) 0 ≡ true
+  mode-fits : (k : ℕ) → k < 128 → testAt (regions Of1978) (modifierAt 0 + MMODE + 8 * k) 0 ≡ true
   unfolding regions builtFunction builtFunctions isOneOf
   mode-fits k h =
-      let q : modifierAt 0 + MMODE + 8 * k ≡ start regions 1 + (8 * k + MMODE) = omega arith in
-      ap (λ (i : ℕ). testAt regions i 0) q ∙ unit-test regions 1 k MMODE 0 h (lit< tt)
+      let q : modifierAt 0 + MMODE + 8 * k ≡ start (regions Of1978) 1 + (8 * k + MMODE) = omega arith in
+      ap (λ (i : ℕ). testAt (regions Of1978) i 0) q ∙ unit-test (regions Of1978) 1 k MMODE 0 h (lit< tt)
 
   mode-other : (i : ℕ) → i < 2816 → getD (inactiveModifiers m) i 0 ≡ getD m i 0
   unfolding inactiveModifiers

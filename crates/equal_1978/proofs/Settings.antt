@@ -6,7 +6,9 @@ use Prim.Native.Nat.{ℕ, _≤_, _<_}
 use native.Mathlib.Omega.{arith}
 use lib.Dec.{eqb}
 use Rattle.lists.proofs.Below.{and-first}
-use Rattle.layout.specs.Machine.{Machine, Sums, ticksOf, runModeAt, gfmAt}
+use Rattle.layout.specs.Machine.{Machine, Sums, ticksOf, gfmAt}
+use Rattle.texts.specs.Texts.{runModeAt}
+use Rattle.texts.specs.declared.Text.the-variants.{Of1978}
 use Rattle.modes.specs.Modes.{wait, free}
 use Rattle.modes.proofs.RunModes.{replaces-alone}
 use Rattle.machine.proofs.SoundMachine.{sound-sum, sound-controls}
@@ -15,10 +17,10 @@ use Rattle.sums.proofs.Memory.{f-only}
 use Rattle.generator.specs.declared.Generator.{Generator}
 use Rattle.generator.specs.Generator.{runMode, triggers, gmodeAfter, after}
 use Rattle.generator.proofs.Registers.{p-low}
-use Rattle.pass_model.specs.Generators.{generatorOf, turn1978, of1978}
+use Rattle.pass_model.specs.Generators.{generatorOf, turn1978, generatorsOf}
 use Rattle.pass_laws.specs.Good.{Good}
 use Rattle.pass_laws.proofs.PassCounts.{run-mode-loaded}
-use Rattle.pass_laws.proofs.Turns1978.{sixteen, same-generator}
+use Rattle.pass_laws.proofs.TextTurns.{sixteen, same-generator}
 use Rattle.order_agreement.specs.Agreement.{settingsOf}
 use Rattle.equal_endings.specs.Follows.{SameWords, SameLast, TurnFollows, Follows}
 use Rattle.equal_1978.proofs.Loaded.{gsum-loaded, gfm-loaded, dac-loaded}
@@ -39,13 +41,13 @@ triggers-free : (u : Generator) → triggers u ≡ true → free (runMode u) ≡
 unfolding triggers
 triggers-free u e = and-first _ _ e
 
-module _ (m : Machine) (good : Good m) where
-  turn-follows : (g : ℕ) → g < 256 → TurnFollows of1978 (settingsOf m) m g
+module _ (m : Machine) (good : Good Of1978 m) where
+  turn-follows : (g : ℕ) → g < 256 → TurnFollows (generatorsOf Of1978) (settingsOf Of1978 m) m g
   unfolding turn1978
   turn-follows g h =
       let u = generatorOf m g in
       let e = good .is-sound in
-      let mode = run-mode-loaded m e g h in
+      let mode = run-mode-loaded Of1978 m e g h in
       record {
         feeds = λ told d. rw (mode, dac-loaded m e g h);
         writes = λ told. rw mode;
@@ -58,11 +60,11 @@ module _ (m : Machine) (good : Good m) where
         unit = λ q told. not-waiting u (fAt (sumsOf m) (u .gfm)) told (rw mode q);
         triggering = λ q. ap free (sym mode) ∙ triggers-free u q;
         p-low = p-low u (fAt (sumsOf m) (u .gfm));
-        alone = replaces-alone (runModeAt m g);
+        alone = replaces-alone (runModeAt Of1978 m g);
       }
 
   few : ticksOf m ≤ 256
-  few = sound-controls m (good .is-sound) .tHigh
+  few = sound-controls Of1978 m (good .is-sound) .tHigh
 
   -- F is the word at GFM.
   sends-alike : (a b : ℕ) → a < ticksOf m → b < ticksOf m → gfmAt m a ≡ gfmAt m b → turn1978 m (sumsOf m) a false .sends ≡ turn1978 m (sumsOf m) b false .sends
@@ -70,15 +72,15 @@ module _ (m : Machine) (good : Good m) where
   sends-alike a b i j e =
       ap (fAt (sumsOf m)) (gfm-loaded m (good .is-sound) a (omega (arith, few)) ∙ e ∙ sym (gfm-loaded m (good .is-sound) b (omega (arith, few))))
 
-  pub follows-1978 : Follows of1978 (settingsOf m) m
+  pub follows-1978 : Follows (generatorsOf Of1978) (settingsOf Of1978 m) m
   follows-1978 =
       record {
         own = own-turn;
-        dac-low = sixteen .dac-low;
+        dac-low = sixteen Of1978 .dac-low;
         distance = refl;
         whole = good .whole;
         few = few;
-        this-low = λ w h. sound-sum m (good .is-sound) 0 w (omega arith) h;
+        this-low = λ w h. sound-sum Of1978 m (good .is-sound) 0 w (omega arith) h;
         turns = λ g h. turn-follows g (omega (arith, few));
         source = sends-alike;
       }

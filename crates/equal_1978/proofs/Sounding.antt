@@ -13,9 +13,10 @@ use Rattle.layout.specs.Widths.{glBits}
 use Rattle.machine.specs.Questions.{regions}
 use Rattle.sums.specs.Sums.{generatorLast, modifierLast, fAt, sumsOf}
 use Rattle.generator.specs.Generator.{vOf}
-use Rattle.pass_model.specs.Generators.{generatorOf, turn1978, of1978}
+use Rattle.pass_model.specs.Generators.{generatorOf, turn1978, generatorsOf}
 use Rattle.pass_laws.proofs.SoundPuts.{gmode-loaded}
 use Rattle.layout.specs.Machine.{Machine, gmodeAt, gfmAt}
+use Rattle.texts.specs.declared.Text.the-variants.{Of1978}
 use Rattle.equal_endings.specs.Follows.{pAt}
 use Rattle.pass_laws.specs.Good.{Good}
 use Rattle.order_contents.specs.Contents.{eachRegister, eachWord, inactiveModifiers, envelopeModeAt, soundingLevel, soundingGJ, soundingGK, soundingGN, onesLast, soundingContents}
@@ -28,7 +29,7 @@ unfolding soundingLevel
 level-low m s g = omega arith
 
 -- The machines on the way, each with one thing more filled; all keep the settings of m.
-module _ (m : Machine) (good : Good m) (s : ℕ) where
+module _ (m : Machine) (good : Good Of1978 m) (s : ℕ) where
   abbrev ones : Machine
   ones = eachWord generatorLast (λ w. 1) (inactiveModifiers m)
 
@@ -76,24 +77,24 @@ module _ (m : Machine) (good : Good m) (s : ℕ) where
   unfolding registerTest regions
   gk-same = register-same m withGN gn-same GK (λ g. soundingGK) (lit< tt) (lit< tt) (λ g h. refl)
 
-  pub sounding-same : SameRegisters m (soundingContents m s)
+  pub sounding-same : SameRegisters m (soundingContents Of1978 m s)
   unfolding soundingContents registerTest regions
   sounding-same = register-same m withGK gk-same GJ (λ g. soundingGJ) (lit< tt) (lit< tt) (λ g h. refl)
 
   -- What a register other than those filled later holds, and a word past the generators.
-  past-gk : (j g : ℕ) → j < 11 → j ≢ GJ → j ≢ GK → getD (soundingContents m s) (generatorAt g + j) 0 ≡ getD withGN (generatorAt g + j) 0
+  past-gk : (j g : ℕ) → j < 11 → j ≢ GJ → j ≢ GK → getD (soundingContents Of1978 m s) (generatorAt g + j) 0 ≡ getD withGN (generatorAt g + j) 0
   unfolding soundingContents
   past-gk j g l a b =
       register-other GJ (λ g. soundingGJ) withGK (lit< tt) j g l a ∙ register-other GK (λ g. soundingGK) withGN (lit< tt) j g l b
 
-  past-gn : (j g : ℕ) → j < 11 → GN < j → getD (soundingContents m s) (generatorAt g + j) 0 ≡ getD withGM (generatorAt g + j) 0
+  past-gn : (j g : ℕ) → j < 11 → GN < j → getD (soundingContents Of1978 m s) (generatorAt g + j) 0 ≡ getD withGM (generatorAt g + j) 0
   past-gn j g l a =
       past-gk j g l (λ e. omega arith) (λ e. omega arith) ∙ register-other GN (λ g. soundingGN) withGM (lit< tt) j g l (λ e. omega arith)
 
   past-gq : (j g : ℕ) → j < 11 → j ≢ GM → j ≢ GQ → getD withGM (generatorAt g + j) 0 ≡ getD withGL (generatorAt g + j) 0
   past-gq j g l a b = register-other GM (λ g. 0) withGQ (lit< tt) j g l a ∙ register-other GQ (λ g. 0) withGL (lit< tt) j g l b
 
-  past-registers : (i : ℕ) → 2816 ≤ i → getD (soundingContents m s) i 0 ≡ getD (onesLast m) i 0
+  past-registers : (i : ℕ) → 2816 ≤ i → getD (soundingContents Of1978 m s) i 0 ≡ getD (onesLast m) i 0
   unfolding soundingContents
   past-registers i h =
       register-past GJ (λ g. soundingGJ) withGK (lit< tt) i h
@@ -104,81 +105,81 @@ module _ (m : Machine) (good : Good m) (s : ℕ) where
       ∙ register-past GL (soundingLevel m s) (onesLast m) (lit< tt) i h
 
   -- F is 1.
-  generator-last : (w : ℕ) → w < 64 → getD (soundingContents m s) (quadrantAt generatorLast + w) 0 ≡ 1
+  generator-last : (w : ℕ) → w < 64 → getD (soundingContents Of1978 m s) (quadrantAt generatorLast + w) 0 ≡ 1
   unfolding onesLast
   generator-last w h =
       past-registers (quadrantAt generatorLast + w) (omega arith)
       ∙ word-other modifierLast (λ w. 1) ones (lit< tt) generatorLast w h (λ e. omega arith)
       ∙ word-here generatorLast (λ w. 1) (inactiveModifiers m) (lit< tt) (inactive-same m good .good .whole) w h
 
-  modifier-last : (w : ℕ) → w < 64 → getD (soundingContents m s) (quadrantAt modifierLast + w) 0 ≡ 1
+  modifier-last : (w : ℕ) → w < 64 → getD (soundingContents Of1978 m s) (quadrantAt modifierLast + w) 0 ≡ 1
   unfolding onesLast
   modifier-last w h =
       past-registers (quadrantAt modifierLast + w) (omega arith)
       ∙ word-here modifierLast (λ w. 1) ones (lit< tt) (ones-same .good .whole) w h
 
-  sounding-f : (g : ℕ) → g < 256 → fAt (sumsOf (soundingContents m s)) (generatorOf (soundingContents m s) g .gfm) ≡ 1
-  sounding-f g h = by-top (eqb (gfmAt (soundingContents m s) g / 64) 0) refl
+  sounding-f : (g : ℕ) → g < 256 → fAt (sumsOf (soundingContents Of1978 m s)) (generatorOf (soundingContents Of1978 m s) g .gfm) ≡ 1
+  sounding-f g h = by-top (eqb (gfmAt (soundingContents Of1978 m s) g / 64) 0) refl
     where
-      by-top : (b : Bool) → eqb (gfmAt (soundingContents m s) g / 64) 0 ≡ b → fAt (sumsOf (soundingContents m s)) (generatorOf (soundingContents m s) g .gfm) ≡ 1
-      by-top true q = f-generator-last (soundingContents m s) (sounding-same .good .is-sound) g h q ∙ generator-last (gfmAt (soundingContents m s) g % 64) (omega arith)
-      by-top false q = f-modifier-last (soundingContents m s) (sounding-same .good .is-sound) g h q ∙ modifier-last (gfmAt (soundingContents m s) g % 64) (omega arith)
+      by-top : (b : Bool) → eqb (gfmAt (soundingContents Of1978 m s) g / 64) 0 ≡ b → fAt (sumsOf (soundingContents Of1978 m s)) (generatorOf (soundingContents Of1978 m s) g .gfm) ≡ 1
+      by-top true q = f-generator-last (soundingContents Of1978 m s) (sounding-same .good .is-sound) g h q ∙ generator-last (gfmAt (soundingContents Of1978 m s) g % 64) (omega arith)
+      by-top false q = f-modifier-last (soundingContents Of1978 m s) (sounding-same .good .is-sound) g h q ∙ modifier-last (gfmAt (soundingContents Of1978 m s) g % 64) (omega arith)
 
   module _ (g : ℕ) (h : g < 256) where
     -- The registers.
-    gj-is : generatorOf (soundingContents m s) g .gj ≡ soundingGJ
+    gj-is : generatorOf (soundingContents Of1978 m s) g .gj ≡ soundingGJ
     unfolding soundingContents
-    gj-is = gj-loaded (soundingContents m s) (sounding-same .good .is-sound) g h ∙ register-here GJ (λ g. soundingGJ) withGK (lit< tt) (gk-same .good .whole) g h
+    gj-is = gj-loaded (soundingContents Of1978 m s) (sounding-same .good .is-sound) g h ∙ register-here GJ (λ g. soundingGJ) withGK (lit< tt) (gk-same .good .whole) g h
 
-    gk-is : generatorOf (soundingContents m s) g .gk ≡ soundingGK
+    gk-is : generatorOf (soundingContents Of1978 m s) g .gk ≡ soundingGK
     unfolding soundingContents
     gk-is =
-        gk-loaded (soundingContents m s) (sounding-same .good .is-sound) g h
+        gk-loaded (soundingContents Of1978 m s) (sounding-same .good .is-sound) g h
         ∙ register-other GJ (λ g. soundingGJ) withGK (lit< tt) GK g (lit< tt) (λ e. omega arith)
         ∙ register-here GK (λ g. soundingGK) withGN (lit< tt) (gn-same .good .whole) g h
 
-    gn-is : generatorOf (soundingContents m s) g .gn ≡ soundingGN
+    gn-is : generatorOf (soundingContents Of1978 m s) g .gn ≡ soundingGN
     gn-is =
-        gn-loaded (soundingContents m s) (sounding-same .good .is-sound) g h
+        gn-loaded (soundingContents Of1978 m s) (sounding-same .good .is-sound) g h
         ∙ past-gk GN g (lit< tt) (λ e. omega arith) (λ e. omega arith)
         ∙ register-here GN (λ g. soundingGN) withGM (lit< tt) (gm-same .good .whole) g h
 
-    gm-is : generatorOf (soundingContents m s) g .gm ≡ 0
+    gm-is : generatorOf (soundingContents Of1978 m s) g .gm ≡ 0
     gm-is =
-        gm-loaded (soundingContents m s) (sounding-same .good .is-sound) g h
+        gm-loaded (soundingContents Of1978 m s) (sounding-same .good .is-sound) g h
         ∙ past-gn GM g (lit< tt) (lit< tt)
         ∙ register-here GM (λ g. 0) withGQ (lit< tt) (gq-same .good .whole) g h
 
-    gq-is : generatorOf (soundingContents m s) g .gq ≡ 0
+    gq-is : generatorOf (soundingContents Of1978 m s) g .gq ≡ 0
     gq-is =
-        gq-loaded (soundingContents m s) (sounding-same .good .is-sound) g h
+        gq-loaded (soundingContents Of1978 m s) (sounding-same .good .is-sound) g h
         ∙ past-gn GQ g (lit< tt) (lit< tt)
         ∙ register-other GM (λ g. 0) withGQ (lit< tt) GQ g (lit< tt) (λ e. omega arith)
         ∙ register-here GQ (λ g. 0) withGL (lit< tt) (gl-same .good .whole) g h
 
-    gl-is : generatorOf (soundingContents m s) g .gl ≡ soundingLevel m s g
+    gl-is : generatorOf (soundingContents Of1978 m s) g .gl ≡ soundingLevel m s g
     gl-is =
-        gl-loaded (soundingContents m s) (sounding-same .good .is-sound) g h
+        gl-loaded (soundingContents Of1978 m s) (sounding-same .good .is-sound) g h
         ∙ past-gn GL g (lit< tt) (lit< tt)
         ∙ past-gq GL g (lit< tt) (λ e. omega arith) (λ e. omega arith)
         ∙ register-here GL (soundingLevel m s) (onesLast m) (lit< tt) (last-same .good .whole) g h
 
-    gmode-is : generatorOf (soundingContents m s) g .gmode ≡ gmodeAt m g
-    gmode-is = gmode-loaded (soundingContents m s) (sounding-same .good .is-sound) g h ∙ sounding-same .gmode g h
+    gmode-is : generatorOf (soundingContents Of1978 m s) g .gmode ≡ gmodeAt m g
+    gmode-is = gmode-loaded Of1978 (soundingContents Of1978 m s) (sounding-same .good .is-sound) g h ∙ sounding-same .gmode g h
 
     -- V is 64 at the sounding one and 0 at every other.
-    v-is : (b : Bool) → eqb g s ≡ b → vOf (generatorOf (soundingContents m s) g) ≡ cond b 64 0
+    v-is : (b : Bool) → eqb g s ≡ b → vOf (generatorOf (soundingContents Of1978 m s) g) ≡ cond b 64 0
     unfolding vOf soundingLevel
     v-is true q = rw (gmode-is, gl-is, gq-is, q) (sounding-level (envelopeModeAt m g) (omega arith))
     v-is false q = rw (gmode-is, gl-is, gq-is, q) (silent-level (envelopeModeAt m g) (omega arith))
 
     -- P of a silent one is 0, and P of the sounding one is not.
-    pub silent-output : g ≢ s → pAt of1978 (soundingContents m s) g ≡ 0
+    pub silent-output : g ≢ s → pAt (generatorsOf Of1978) (soundingContents Of1978 m s) g ≡ 0
     unfolding turn1978
-    silent-output n = silent-p (generatorOf (soundingContents m s) g) (fAt (sumsOf (soundingContents m s)) (generatorOf (soundingContents m s) g .gfm)) (v-is false (ne-eqb g s n))
+    silent-output n = silent-p (generatorOf (soundingContents Of1978 m s) g) (fAt (sumsOf (soundingContents Of1978 m s)) (generatorOf (soundingContents Of1978 m s) g .gfm)) (v-is false (ne-eqb g s n))
 
-    pub sounding-output : g ≡ s → 0 < pAt of1978 (soundingContents m s) g
+    pub sounding-output : g ≡ s → 0 < pAt (generatorsOf Of1978) (soundingContents Of1978 m s) g
     unfolding turn1978
     sounding-output q =
-        sounding-p (generatorOf (soundingContents m s) g) (fAt (sumsOf (soundingContents m s)) (generatorOf (soundingContents m s) g .gfm)) gj-is gk-is gn-is gm-is (sounding-f g h)
+        sounding-p (generatorOf (soundingContents Of1978 m s) g) (fAt (sumsOf (soundingContents Of1978 m s)) (generatorOf (soundingContents Of1978 m s) g .gfm)) gj-is gk-is gn-is gm-is (sounding-f g h)
         (v-is true (eq-eqb g s q))

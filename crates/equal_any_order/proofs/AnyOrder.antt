@@ -8,7 +8,9 @@ use Prim.Native.Nat.{_≤_}
 use native.Mathlib.Omega.{arith}
 use borrow.Author.Tests.{eq-eqb}
 use lib.Seq.{ext-getD}
-use Rattle.layout.specs.Machine.{Machine, Order, ticksOf, runModeAt, gsumAt}
+use Rattle.layout.specs.Machine.{Machine, Order, ticksOf, gsumAt}
+use Rattle.texts.specs.Texts.{runModeAt}
+use Rattle.texts.specs.declared.Text.the-variants.{Of1978}
 use Rattle.questions.specs.Questions.{asked}
 use Rattle.machine.specs.Questions.{question1, question2}
 use Rattle.modes.proofs.RunModes.{replaces-alone}
@@ -29,71 +31,71 @@ use Rattle.equal_orders.specs.Equal.{Equal}
 use Rattle.equal_orders.proofs.Theorem.{demand-3}
 use Rattle.equal_any_order.specs.EveryOrder.{Passes, EveryTwoEqual, Apart}
 
-module _ (m : Machine) (good : Good m) where
+module _ (m : Machine) (good : Good Of1978 m) where
   -- The generators of the 1978 text.
-  separate : Separate (settingsOf m)
+  separate : Separate (settingsOf Of1978 m)
   separate =
       record {
         apart = omega arith;
-        exclusive = λ g. replaces-alone (runModeAt m g);
-        sourced = λ g l. sound-generator m (good .is-sound) g (omega (arith, few)) .gfm;
+        exclusive = λ g. replaces-alone (runModeAt Of1978 m g);
+        sourced = λ g l. sound-generator Of1978 m (good .is-sound) g (omega (arith, few)) .gfm;
         worded = λ g l.
             record {
               at = gsumAt m g;
-              below = sound-generator m (good .is-sound) g (omega (arith, few)) .gsum;
+              below = sound-generator Of1978 m (good .is-sound) g (omega (arith, few)) .gsum;
               passes = eq-eqb (gsumAt m g) (gsumAt m g) refl;
             };
       }
     where
       few : ticksOf m ≤ 256
-      few = sound-controls m (good .is-sound) .tHigh
+      few = sound-controls Of1978 m (good .is-sound) .tHigh
 
   -- Where the rule fails, the two orders are orders that are not equal.
-  part : alike (countsIn (settingsOf m)) ≡ false → Part (settingsOf m)
-  part = orders-part (settingsOf m) separate
+  part : alike (countsIn (settingsOf Of1978 m)) ≡ false → Part (settingsOf Of1978 m)
+  part = orders-part (settingsOf Of1978 m) separate
 
   abbrev first : Order
-  first = partingOrders (settingsOf m) .first
+  first = partingOrders (settingsOf Of1978 m) .first
 
   abbrev second : Order
-  second = partingOrders (settingsOf m) .second
+  second = partingOrders (settingsOf Of1978 m) .second
 
-  first-passes : alike (countsIn (settingsOf m)) ≡ false → Passes m first
+  first-passes : alike (countsIn (settingsOf Of1978 m)) ≡ false → Passes m first
   first-passes e = passes-order (ticksOf m) first (part e .first)
 
-  second-passes : alike (countsIn (settingsOf m)) ≡ false → Passes m second
+  second-passes : alike (countsIn (settingsOf Of1978 m)) ≡ false → Passes m second
   second-passes e = passes-order (ticksOf m) second (part e .second)
 
-  not-equal : alike (countsIn (settingsOf m)) ≡ false → Equal m first second → ⊥
-  not-equal e eq = part e .disagree (demand-3 m good first second (first-passes e) (second-passes e) .0 eq)
+  not-equal : alike (countsIn (settingsOf Of1978 m)) ≡ false → Equal Of1978 m first second → ⊥
+  not-equal e eq = part e .disagree (demand-3 Of1978 m good first second (first-passes e) (second-passes e) .0 eq)
 
   -- The rule holds just where every two orders are equal.
-  pub rule-is : (alike (countsIn (settingsOf m)) ≡ true) ↔ EveryTwoEqual m
-  rule-is = (holds, go (alike (countsIn (settingsOf m))) refl)
+  pub rule-is : (alike (countsIn (settingsOf Of1978 m)) ≡ true) ↔ EveryTwoEqual m
+  rule-is = (holds, go (alike (countsIn (settingsOf Of1978 m))) refl)
     where
-      holds : alike (countsIn (settingsOf m)) ≡ true → EveryTwoEqual m
+      holds : alike (countsIn (settingsOf Of1978 m)) ≡ true → EveryTwoEqual m
       holds e o₁ o₂ p₁ p₂ =
-          demand-3 m good o₁ o₂ p₁ p₂ .1
-          (every-order (settingsOf m) (clauses (settingsOf m) separate e) o₁ o₂ (order-passes (ticksOf m) o₁ p₁) (order-passes (ticksOf m) o₂ p₂))
+          demand-3 Of1978 m good o₁ o₂ p₁ p₂ .1
+          (every-order (settingsOf Of1978 m) (clauses (settingsOf Of1978 m) separate e) o₁ o₂ (order-passes (ticksOf m) o₁ p₁) (order-passes (ticksOf m) o₂ p₂))
 
-      go : (b : Bool) → alike (countsIn (settingsOf m)) ≡ b → EveryTwoEqual m → b ≡ true
+      go : (b : Bool) → alike (countsIn (settingsOf Of1978 m)) ≡ b → EveryTwoEqual m → b ≡ true
       go true e every = refl
       go false e every = absurd (not-equal e (every first second (first-passes e) (second-passes e)))
 
 -- A machine whose call is not refused passes questions 1 and 2.
 module _ (m : Machine) (n : anyOrderOf m .number ≡ 0) where
-  none : asked (question1 m ∷ question2 m ∷ []) ≡ 0
+  none : asked (question1 m ∷ question2 Of1978 m ∷ []) ≡ 0
   none = sym (any-number m) ∙ n
 
-  good : Good m
-  good = let passed = machine-passes m none in record { whole = passed .0; is-sound = passed .1 }
+  good : Good Of1978 m
+  good = let passed = machine-passes Of1978 m none in record { whole = passed .0; is-sound = passed .1 }
 
   -- It says yes just where every two orders are equal.
   pub any-order-says : (anyOrderOf m .alike ≡ true) ↔ EveryTwoEqual m
   any-order-says = (λ e. rule-is m good .0 (sym (any-rule m none) ∙ e), λ every. any-rule m none ∙ rule-is m good .1 every)
 
   -- Where it says no, the two orders that it names pass questions 5 and 6 and are not equal.
-  pub orders-apart : anyOrderOf m .alike ≡ false → Apart m (partingOrders (settingsOf m) .first) (partingOrders (settingsOf m) .second)
+  pub orders-apart : anyOrderOf m .alike ≡ false → Apart m (partingOrders (settingsOf Of1978 m) .first) (partingOrders (settingsOf Of1978 m) .second)
   orders-apart e =
       let fails = sym (any-rule m none) ∙ e in
       record { first = first-passes m good fails; second = second-passes m good fails; parted = not-equal m good fails }
@@ -102,7 +104,7 @@ module _ (m : Machine) (n : anyOrderOf m .number ≡ 0) where
   pub one-order : ticksOf m ≡ 1 → anyOrderOf m .alike ≡ true
   one-order one = any-order-says .1 (λ o₁ o₂ p₁ p₂. rw (same o₁ o₂ p₁ p₂) (equal-itself o₂))
     where
-      equal-itself : (o : Order) → Equal m o o
+      equal-itself : (o : Order) → Equal Of1978 m o o
       equal-itself o k g s call enough = record { machine = refl; memory = refl; written = refl }
 
       same : (o₁ o₂ : Order) → Passes m o₁ → Passes m o₂ → o₁ ≡ o₂

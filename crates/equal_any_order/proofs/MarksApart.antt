@@ -8,6 +8,7 @@ use lib.ListN.{set, length-set}
 use Rattle.lists.specs.Lists.{zeros, countBelow, isOneOf}
 use Rattle.words.specs.Words.{lowBits, signed, sum, leaves, sumInto, exactSum, outside}
 use Rattle.layout.specs.Machine.{Order, ticksOf, withUpdateTicks}
+use Rattle.texts.specs.declared.Text.the-variants.{Of1978}
 use Rattle.questions.specs.Questions.{asked}
 use Rattle.modes.specs.Modes.{builtRun, builtOscillator, adds, replaces, free, oscillatorOn, envelopeOn}
 use Rattle.oscillator.specs.Oscillator.{waveOf, sawtooth}
@@ -17,7 +18,7 @@ use Rattle.machine.specs.Questions.{freshMachine, regions, testAt}
 use Rattle.machine.proofs.SoundMachine.{single-below, sound-set}
 use Rattle.delay_questions.specs.Questions.{goodLine, linesGood, namedOnce, question11, question12}
 use Rattle.sums.specs.Sums.{sumsOf, quadrantOf, wordAt, sumAt, putSum, fAt}
-use Rattle.pass_model.specs.Generators.{of1978, generatorOf, turn1978, told, fed, summed, step, begun}
+use Rattle.pass_model.specs.Generators.{generatorsOf, generatorOf, turn1978, told, fed, summed, step, begun}
 use Rattle.pass_model.specs.Clipped.{noMarks, sumLeaves, markedAt, marked, markedBy}
 use Rattle.pass_model.specs.Pass.{Call, plainCall, passRefusal, passOf}
 use Rattle.pass_model.proofs.Asked.{past-memory}
@@ -35,11 +36,11 @@ use Rattle.equal_any_order.specs.EveryOrder.{Passes}
 use Rattle.equal_any_order.specs.MarksApart.{upAndDown}
 use Rattle.equal_any_order.proofs.AnyOrder.{rule-is}
 
-two-good : Good (ofTwo 961 961 0 0 0 0)
+two-good : Good Of1978 (ofTwo 961 961 0 0 0 0)
 unfolding builtRun builtOscillator isOneOf
 two-good = of-two-good 961 961 0 0 0 0 refl refl (lit< tt) (lit< tt) (lit< tt) (lit< tt)
 
-good : Good upAndDown
+good : Good Of1978 upAndDown
 unfolding upAndDown regions testAt
 good =
     let m = ofTwo 961 961 0 0 0 0 in
@@ -50,11 +51,11 @@ good =
     record {
       whole = length-set m4 3840 400000 ∙ length-set m3 18 4095 ∙ length-set m2 13 524416 ∙ length-set m1 7 4095 ∙ length-set m 2 524160 ∙ two-good .whole;
       is-sound =
-          sound-set m4
-          (sound-set m3
-          (sound-set m2
-          (sound-set m1
-          (sound-set m (two-good .is-sound) 2 524160 (single-below (lit< tt)) refl)
+          sound-set Of1978 m4
+          (sound-set Of1978 m3
+          (sound-set Of1978 m2
+          (sound-set Of1978 m1
+          (sound-set Of1978 m (two-good .is-sound) 2 524160 (single-below (lit< tt)) refl)
           7 4095 (single-below (lit< tt)) refl)
           13 524416 (single-below (lit< tt)) refl)
           18 4095 (single-below (lit< tt)) refl)
@@ -65,11 +66,11 @@ two-ticks : ticksOf upAndDown ≡ 2
 unfolding upAndDown ofTwo freshMachine withUpdateTicks zeros
 two-ticks = refl
 
-by-rule : alike (countsIn (settingsOf upAndDown)) ≡ true
+by-rule : alike (countsIn (settingsOf Of1978 upAndDown)) ≡ true
 unfolding upAndDown ofTwo freshMachine withUpdateTicks zeros alike feedersShare wordsApart shareOne countBelow free adds replaces isOneOf
 by-rule = refl
 
-pub marks-equal : Equal upAndDown forth back
+pub marks-equal : Equal Of1978 upAndDown forth back
 marks-equal = rule-is upAndDown good .0 by-rule forth back (forth-passes (ticksOf upAndDown) two-ticks) (back-passes (ticksOf upAndDown) two-ticks)
 
 -- Neither order is refused.
@@ -77,34 +78,34 @@ units-pass : asked (question11 upAndDown ∷ question12 upAndDown ∷ []) ≡ 0
 unfolding upAndDown ofTwo freshMachine withUpdateTicks zeros asked linesGood goodLine namedOnce
 units-pass = refl
 
-not-refused : (order : Order) → Passes upAndDown order → passRefusal upAndDown (plainCall order [] []) ≡ 0
+not-refused : (order : Order) → Passes upAndDown order → passRefusal Of1978 upAndDown (plainCall order [] []) ≡ 0
 unfolding upAndDown ofTwo freshMachine withUpdateTicks zeros countBelow inMode
 not-refused order p =
-    past-memory upAndDown (plainCall order [] []) (good-passes upAndDown good) p (lit≤ tt) (lit≤ tt) zeros-good ∙ units-pass
+    past-memory Of1978 upAndDown (plainCall order [] []) (good-passes Of1978 upAndDown good) p (lit≤ tt) (lit≤ tt) zeros-good ∙ units-pass
 
 -- The marks, step by step.
-marks : (order : Order) → Passes upAndDown order → passOf upAndDown (plainCall order [] []) .clipped ≡ markedBy of1978 [] (begun upAndDown (sumsOf upAndDown) []) noMarks order
-marks order p = let call : Call = plainCall order [] [] in rw (let-through upAndDown call (not-refused order p)) (ran-clipped upAndDown call)
+marks : (order : Order) → Passes upAndDown order → passOf Of1978 upAndDown (plainCall order [] []) .clipped ≡ markedBy (generatorsOf Of1978) [] (begun upAndDown (sumsOf upAndDown) []) noMarks order
+marks order p = let call : Call = plainCall order [] [] in rw (let-through Of1978 upAndDown call (not-refused order p)) (ran-clipped Of1978 upAndDown call)
 
-forth-marks : markedBy of1978 [] (begun upAndDown (sumsOf upAndDown) []) noMarks forth ≡ set noMarks 0 1
+forth-marks : markedBy (generatorsOf Of1978) [] (begun upAndDown (sumsOf upAndDown) []) noMarks forth ≡ set noMarks 0 1
 unfolding upAndDown ofTwo freshMachine withUpdateTicks zeros markedBy marked markedAt sumLeaves begun step told fed summed turn1978 generatorOf loaded stored sumsOf quadrantOf wordAt sumAt putSum fAt
     jOf gjAfter kOf gkAfter wOf gqAfter vOf pOf triggers gmodeAfter after waveOf sawtooth overflows decayed qOf level rounded enveloped
     lowBits signed sum leaves sumInto exactSum outside adds replaces free oscillatorOn envelopeOn isOneOf
 forth-marks = refl
 
-back-marks : markedBy of1978 [] (begun upAndDown (sumsOf upAndDown) []) noMarks back ≡ noMarks
+back-marks : markedBy (generatorsOf Of1978) [] (begun upAndDown (sumsOf upAndDown) []) noMarks back ≡ noMarks
 unfolding upAndDown ofTwo freshMachine withUpdateTicks zeros markedBy marked markedAt sumLeaves begun step told fed summed turn1978 generatorOf loaded stored sumsOf quadrantOf wordAt sumAt putSum fAt
     jOf gjAfter kOf gkAfter wOf gqAfter vOf pOf triggers gmodeAfter after waveOf sawtooth overflows decayed qOf level rounded enveloped
     lowBits signed sum leaves sumInto exactSum outside adds replaces free oscillatorOn envelopeOn isOneOf
 back-marks = refl
 
 -- A pass by either order runs, and sets these marks.
-pub forth-sets : (passOf upAndDown (plainCall forth [] []) .number ≡ 0) × (passOf upAndDown (plainCall forth [] []) .clipped ≡ set noMarks 0 1)
+pub forth-sets : (passOf Of1978 upAndDown (plainCall forth [] []) .number ≡ 0) × (passOf Of1978 upAndDown (plainCall forth [] []) .clipped ≡ set noMarks 0 1)
 forth-sets =
     let p = forth-passes (ticksOf upAndDown) two-ticks in
-    (pass-number upAndDown (plainCall forth [] []) ∙ not-refused forth p, marks forth p ∙ forth-marks)
+    (pass-number Of1978 upAndDown (plainCall forth [] []) ∙ not-refused forth p, marks forth p ∙ forth-marks)
 
-pub back-sets : (passOf upAndDown (plainCall back [] []) .number ≡ 0) × (passOf upAndDown (plainCall back [] []) .clipped ≡ noMarks)
+pub back-sets : (passOf Of1978 upAndDown (plainCall back [] []) .number ≡ 0) × (passOf Of1978 upAndDown (plainCall back [] []) .clipped ≡ noMarks)
 back-sets =
     let p = back-passes (ticksOf upAndDown) two-ticks in
-    (pass-number upAndDown (plainCall back [] []) ∙ not-refused back p, marks back p ∙ back-marks)
+    (pass-number Of1978 upAndDown (plainCall back [] []) ∙ not-refused back p, marks back p ∙ back-marks)

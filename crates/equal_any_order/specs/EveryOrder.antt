@@ -3,6 +3,7 @@
 use mathlib.Core.Path.{_≡_}
 use mathlib.Core.List.{[], _∷_}
 use Rattle.layout.specs.Machine.{Machine, Order, ticksOf}
+use Rattle.texts.specs.declared.Text.the-variants.{Of1978}
 use Rattle.questions.specs.Questions.{asked}
 use Rattle.order.specs.Order.{question5, question6}
 use Rattle.equal_orders.specs.Equal.{Equal}
@@ -13,10 +14,10 @@ Passes m o = asked (question5 (ticksOf m) o ∷ question6 (ticksOf m) o ∷ []) 
 
 -- Every two such orders are equal.
 abbrev pub EveryTwoEqual : Machine → Type 0
-EveryTwoEqual m = (o₁ o₂ : Order) → Passes m o₁ → Passes m o₂ → Equal m o₁ o₂
+EveryTwoEqual m = (o₁ o₂ : Order) → Passes m o₁ → Passes m o₂ → Equal Of1978 m o₁ o₂
 
 -- Two orders that pass questions 5 and 6 and are not equal.
 pub record Apart (m : Machine) (o₁ o₂ : Order) : Type 0 where
   pub first : Passes m o₁
   pub second : Passes m o₂
-  pub parted : Equal m o₁ o₂ → ⊥
+  pub parted : Equal Of1978 m o₁ o₂ → ⊥

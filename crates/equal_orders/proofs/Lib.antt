@@ -1,3 +1,4 @@
+pub mod Texts
 pub mod Settings
 pub mod Finished
 pub mod Sufficiency

@@ -8,60 +8,61 @@ use lib.ListN.{length}
 use Rattle.lists.specs.Lists.{zeros}
 use Rattle.lists.proofs.Counts.{count-below-le}
 use Rattle.lists.proofs.Zeros.{zeros-length, zeros-at}
-use Rattle.layout.specs.Machine.{Machine, Order, Items, ticksOf, runModeAt}
+use Rattle.layout.specs.Machine.{Machine, Order, Items, ticksOf}
+use Rattle.texts.specs.Texts.{runModeAt}
+use Rattle.texts.specs.declared.Text.{Text}
 use Rattle.machine.proofs.SoundMachine.{sound-controls}
 use Rattle.modes.specs.Modes.{readData, writeData}
 use Rattle.order.specs.Order.{inMode}
 use Rattle.order.proofs.Entries.{order-passes}
-use Rattle.pass_model.specs.Generators.{of1978}
+use Rattle.pass_model.specs.Generators.{generatorsOf}
 use Rattle.pass_model.specs.Pass.{plainCall}
 use Rattle.pass_laws.specs.Good.{Good}
 use Rattle.order_agreement.specs.Agreement.{settingsOf, Agree}
 use Rattle.equal_endings.specs.Ends.{takenIn}
 use Rattle.equal_witnesses.specs.Contents.{SameHeard}
 use Rattle.equal_witnesses.proofs.Points.{heard-agree}
-use Rattle.equal_1978.proofs.Contents.{SameRegisters}
-use Rattle.equal_1978.proofs.Telling.{contents-1978}
 use Rattle.equal_orders.specs.Equal.{Words, Enough, Equal}
 use Rattle.equal_orders.proofs.Finished.{OrderPasses, pass-let, zeros-good, inactive-let, same-heard}
-use Rattle.equal_orders.proofs.Settings.{follows, content-settings}
+use Rattle.equal_orders.proofs.Texts.{ContentOf, contents-of}
+use Rattle.equal_orders.proofs.Settings.{follows}
 
 -- A good machine has at most 256 generators in a run mode, so that 256 items and places are enough.
-few-ticks : (n : Machine) → Good n → ticksOf n ≤ 256
-few-ticks n good = sound-controls n (good .is-sound) .tHigh
+few-ticks : (text : Text) (n : Machine) → Good text n → ticksOf n ≤ 256
+few-ticks text n good = sound-controls text n (good .is-sound) .tHigh
 
-few-in-mode : (n : Machine) → Good n → (r : ℕ) → inMode n r ≤ 256
+few-in-mode : (text : Text) (n : Machine) → Good text n → (r : ℕ) → inMode text n r ≤ 256
 unfolding inMode
-few-in-mode n good r = omega (arith, few-ticks n good, count-below-le (λ g. eqb (runModeAt n g) r) (ticksOf n))
+few-in-mode text n good r = omega (arith, few-ticks text n good, count-below-le (λ g. eqb (runModeAt text n g) r) (ticksOf n))
 
 zeros-words : Words (zeros 256)
 zeros-words i h = omega (arith, zeros-at 256 i (omega (arith, zeros-length 256)))
 
-brings-enough : (n : Machine) → Good n → (order : Order) (items : Items) → length items ≡ 256 → Words items → Enough n (plainCall order items (zeros 256))
-brings-enough n good order items long words =
+brings-enough : (text : Text) (n : Machine) → Good text n → (order : Order) (items : Items) → length items ≡ 256 → Words items → Enough text n (plainCall order items (zeros 256))
+brings-enough text n good order items long words =
     record {
       items = words;
       places = zeros-words;
-      reads = omega (arith, few-in-mode n good readData, long);
-      writes = omega (arith, few-in-mode n good writeData, zeros-length 256);
+      reads = omega (arith, few-in-mode text n good readData, long);
+      writes = omega (arith, few-in-mode text n good writeData, zeros-length 256);
     }
 
-module _ (m : Machine) (good : Good m) (o₁ o₂ : Order) (p₁ : OrderPasses (ticksOf m) o₁) (p₂ : OrderPasses (ticksOf m) o₂) (equal : Equal m o₁ o₂) where
+module _ (text : Text) (m : Machine) (good : Good text m) (o₁ o₂ : Order) (p₁ : OrderPasses (ticksOf m) o₁) (p₂ : OrderPasses (ticksOf m) o₂) (equal : Equal text m o₁ o₂) where
   -- From a content both orders leave the same as far as they can be told apart.
-  heard : (n : Machine) → SameRegisters m n → (items : Items) → length items ≡ 256 → Words items
-      → SameHeard (takenIn of1978 n items (zeros 256) o₁) (takenIn of1978 n items (zeros 256) o₂)
+  heard : (n : Machine) → ContentOf text m n → (items : Items) → length items ≡ 256 → Words items
+      → SameHeard (takenIn (generatorsOf text) n items (zeros 256) o₁) (takenIn (generatorsOf text) n items (zeros 256) o₂)
   heard n r items long words =
       let call = plainCall o₁ items (zeros 256) in
-      let e = brings-enough n (r .good) o₁ items long words in
-      let few = few-ticks n (r .good) in
+      let e = brings-enough text n (r .good) o₁ items long words in
+      let few = few-ticks text n (r .good) in
       let end = rw (
-        pass-let n o₁ call (inactive-let n (r .good) few (r .inactive) o₁ call (rw (r .ticks) p₁) (e .reads) (e .writes) zeros-good),
-        pass-let n o₂ call (inactive-let n (r .good) few (r .inactive) o₂ call (rw (r .ticks) p₂) (e .reads) (e .writes) zeros-good),
+        pass-let text n o₁ call (inactive-let text n (r .good) few (r .inactive) o₁ call (rw (← (r .settings .ticks)) p₁) (e .reads) (e .writes) zeros-good),
+        pass-let text n o₂ call (inactive-let text n (r .good) few (r .inactive) o₂ call (rw (← (r .settings .ticks)) p₂) (e .reads) (e .writes) zeros-good),
       )
-      at (equal n (r .good) (content-settings m n r) call e) in
-      same-heard of1978 n (r .good .whole) few call o₁ o₂ (end .machine) (end .written)
+      at (equal n (r .good) (r .settings) call e) in
+      same-heard text (generatorsOf text) n (r .good .whole) few call o₁ o₂ (end .machine) (end .written)
 
-  pub equal-agreed : Agree m o₁ o₂
+  pub equal-agreed : Agree text m o₁ o₂
   equal-agreed =
-      heard-agree of1978 (settingsOf m) (SameRegisters m) (λ n r. follows m n (content-settings m n r) good (r .good)) (contents-1978 m good)
+      heard-agree (generatorsOf text) (settingsOf text m) (ContentOf text m) (λ n r. follows text m n (r .settings) good (r .good)) (contents-of text m good)
       o₁ o₂ (order-passes (ticksOf m) o₁ p₁) (order-passes (ticksOf m) o₂ p₂) heard

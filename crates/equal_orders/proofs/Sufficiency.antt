@@ -7,8 +7,9 @@ use lib.Dec.{eqb}
 use Rattle.pass_model.specs.Pass.{by, passRefusal, passOf}
 use Rattle.pass_model.proofs.Asked.{same-refusal}
 use Rattle.layout.specs.Machine.{Machine, Order, ticksOf}
+use Rattle.texts.specs.declared.Text.{Text}
 use Rattle.order.proofs.Entries.{order-passes}
-use Rattle.pass_model.specs.Generators.{of1978}
+use Rattle.pass_model.specs.Generators.{generatorsOf}
 use Rattle.pass_laws.specs.Good.{Good}
 use Rattle.order_agreement.specs.Agreement.{settingsOf, Agree}
 use Rattle.equal_endings.specs.Ends.{takenIn}
@@ -17,8 +18,8 @@ use Rattle.equal_orders.specs.Equal.{SameEnd, Equal}
 use Rattle.equal_orders.proofs.Finished.{OrderPasses, pass-let, refused-end, same-end}
 use Rattle.equal_orders.proofs.Settings.{follows}
 
-pub agreed-equal : (m : Machine) → Good m → (o₁ o₂ : Order) → OrderPasses (ticksOf m) o₁ → OrderPasses (ticksOf m) o₂ → Agree m o₁ o₂ → Equal m o₁ o₂
-agreed-equal m good o₁ o₂ p₁ p₂ ag n goodn s call e = go (eqb (passRefusal n (by o₁ call)) 0) refl
+pub agreed-equal : (text : Text) (m : Machine) → Good text m → (o₁ o₂ : Order) → OrderPasses (ticksOf m) o₁ → OrderPasses (ticksOf m) o₂ → Agree text m o₁ o₂ → Equal text m o₁ o₂
+agreed-equal text m good o₁ o₂ p₁ p₂ ag n goodn s call e = go (eqb (passRefusal text n (by o₁ call)) 0) refl
   where
     q₁ : OrderPasses (ticksOf n) o₁
     q₁ = rw (← (s .ticks)) p₁
@@ -26,13 +27,13 @@ agreed-equal m good o₁ o₂ p₁ p₂ ag n goodn s call e = go (eqb (passRefus
     q₂ : OrderPasses (ticksOf n) o₂
     q₂ = rw (← (s .ticks)) p₂
 
-    alike : passRefusal n (by o₂ call) ≡ passRefusal n (by o₁ call)
-    alike = same-refusal n call o₂ o₁ q₂ q₁
+    alike : passRefusal text n (by o₂ call) ≡ passRefusal text n (by o₁ call)
+    alike = same-refusal text n call o₂ o₁ q₂ q₁
 
-    go : (b : Bool) → eqb (passRefusal n (by o₁ call)) 0 ≡ b → SameEnd (passOf n (by o₁ call)) (passOf n (by o₂ call))
+    go : (b : Bool) → eqb (passRefusal text n (by o₁ call)) 0 ≡ b → SameEnd (passOf text n (by o₁ call)) (passOf text n (by o₂ call))
     go true z =
-        let none = eqb-true (passRefusal n (by o₁ call)) 0 z in
-        let same = agreed-taken of1978 (settingsOf m) n (follows m n s good goodn) (call .items) (call .places) o₁ o₂ (order-passes (ticksOf m) o₁ p₁) (order-passes (ticksOf m) o₂ p₂) ag in
-        rw (pass-let n o₁ call none, pass-let n o₂ call (alike ∙ none))
-        (same-end n call o₁ o₂ (takenIn of1978 n (call .items) (call .places) o₁) (takenIn of1978 n (call .items) (call .places) o₂) same)
-    go false z = refused-end n call o₁ o₂ (passRefusal n (by o₁ call)) refl alike (eqb-false (passRefusal n (by o₁ call)) 0 z)
+        let none = eqb-true (passRefusal text n (by o₁ call)) 0 z in
+        let same = agreed-taken (generatorsOf text) (settingsOf text m) n (follows text m n s good goodn) (call .items) (call .places) o₁ o₂ (order-passes (ticksOf m) o₁ p₁) (order-passes (ticksOf m) o₂ p₂) ag in
+        rw (pass-let text n o₁ call none, pass-let text n o₂ call (alike ∙ none))
+        (same-end text n call o₁ o₂ (takenIn (generatorsOf text) n (call .items) (call .places) o₁) (takenIn (generatorsOf text) n (call .items) (call .places) o₂) same)
+    go false z = refused-end text n call o₁ o₂ (passRefusal text n (by o₁ call)) refl alike (eqb-false (passRefusal text n (by o₁ call)) 0 z)

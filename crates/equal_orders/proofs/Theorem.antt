@@ -17,34 +17,35 @@ use Rattle.equal_orders.specs.Equal.{Equal}
 use Rattle.equal_orders.proofs.Necessity.{equal-agreed}
 use Rattle.equal_orders.proofs.Sufficiency.{agreed-equal}
 use Rattle.layout.specs.Machine.{Machine, Order, ticksOf}
+use Rattle.texts.specs.declared.Text.{Text}
 use Rattle.pass_laws.specs.Good.{Good}
 
 -- For orders that pass questions 5 and 6, on a machine that passes 1 and 2.
-pub demand-3 : (m : Machine) → Good m → (o₁ o₂ : Order)
+pub demand-3 : (text : Text) (m : Machine) → Good text m → (o₁ o₂ : Order)
     → asked (question5 (ticksOf m) o₁ ∷ question6 (ticksOf m) o₁ ∷ []) ≡ 0 → asked (question5 (ticksOf m) o₂ ∷ question6 (ticksOf m) o₂ ∷ []) ≡ 0
-    → Equal m o₁ o₂ ↔ Agree m o₁ o₂
-demand-3 m good o₁ o₂ e₁ e₂ = (equal-agreed m good o₁ o₂ e₁ e₂, agreed-equal m good o₁ o₂ e₁ e₂)
+    → Equal text m o₁ o₂ ↔ Agree text m o₁ o₂
+demand-3 text m good o₁ o₂ e₁ e₂ = (equal-agreed text m good o₁ o₂ e₁ e₂, agreed-equal text m good o₁ o₂ e₁ e₂)
 
 -- A compare that is not refused says yes just where the orders are equal.
-pub compare-says : (m : Machine) (o₁ o₂ : Order) → compareOf m o₁ o₂ .number ≡ 0 → (compareOf m o₁ o₂ .equal ≡ true) ↔ Equal m o₁ o₂
-compare-says m o₁ o₂ n = (λ e. demand .1 (points .0 (sym answer ∙ e)), λ e. answer ∙ points .1 (demand .0 e))
+pub compare-says : (text : Text) (m : Machine) (o₁ o₂ : Order) → compareOf text m o₁ o₂ .number ≡ 0 → (compareOf text m o₁ o₂ .equal ≡ true) ↔ Equal text m o₁ o₂
+compare-says text m o₁ o₂ n = (λ e. demand .1 (points .0 (sym answer ∙ e)), λ e. answer ∙ points .1 (demand .0 e))
   where
-    none : compareRefusal m o₁ o₂ ≡ 0
-    none = sym (compare-number m o₁ o₂) ∙ n
+    none : compareRefusal text m o₁ o₂ ≡ 0
+    none = sym (compare-number text m o₁ o₂) ∙ n
 
-    passed : ComparePassed m o₁ o₂
-    passed = compare-passes m o₁ o₂ none
+    passed : ComparePassed text m o₁ o₂
+    passed = compare-passes text m o₁ o₂ none
 
-    answer : compareOf m o₁ o₂ .equal ≡ agrees (settingsOf m) o₁ o₂
-    answer = compare-agrees m o₁ o₂ none
+    answer : compareOf text m o₁ o₂ .equal ≡ agrees (settingsOf text m) o₁ o₂
+    answer = compare-agrees text m o₁ o₂ none
 
-    points : (agrees (settingsOf m) o₁ o₂ ≡ true) ↔ Agree m o₁ o₂
-    points = points-agree (settingsOf m) o₁ o₂ (order-passes (ticksOf m) o₁ (passed .first)) (order-passes (ticksOf m) o₂ (passed .second))
+    points : (agrees (settingsOf text m) o₁ o₂ ≡ true) ↔ Agree text m o₁ o₂
+    points = points-agree (settingsOf text m) o₁ o₂ (order-passes (ticksOf m) o₁ (passed .first)) (order-passes (ticksOf m) o₂ (passed .second))
 
-    demand : Equal m o₁ o₂ ↔ Agree m o₁ o₂
+    demand : Equal text m o₁ o₂ ↔ Agree text m o₁ o₂
     demand =
-        demand-3 m (record { whole = is-whole m o₁ (passed .machine); is-sound = is-sound m o₁ (passed .machine) }) o₁ o₂ (passed .first) (passed .second)
+        demand-3 text m (record { whole = is-whole text m o₁ (passed .machine); is-sound = is-sound text m o₁ (passed .machine) }) o₁ o₂ (passed .first) (passed .second)
 
 -- A refused compare says no.
-pub refused-says-no : (m : Machine) (o₁ o₂ : Order) → compareOf m o₁ o₂ .number ≢ 0 → compareOf m o₁ o₂ .equal ≡ false
-refused-says-no m o₁ o₂ n = compare-refused m o₁ o₂ (λ e. n (compare-number m o₁ o₂ ∙ e))
+pub refused-says-no : (text : Text) (m : Machine) (o₁ o₂ : Order) → compareOf text m o₁ o₂ .number ≢ 0 → compareOf text m o₁ o₂ .equal ≡ false
+refused-says-no text m o₁ o₂ n = compare-refused text m o₁ o₂ (λ e. n (compare-number text m o₁ o₂ ∙ e))

@@ -37,7 +37,9 @@ use Rattle.equal_orders.proofs.Theorem.{demand-3}
 use Rattle.generator.specs.declared.Generator.{Generator}
 use Rattle.generator.specs.Generator.{runMode, gqAfter, triggers}
 use Rattle.questions.specs.Questions.{asked}
-use Rattle.layout.specs.Machine.{Machine, Order, ticksOf, withUpdateTicks, runModeAt, gsumAt, gfmAt, dacNumberAt}
+use Rattle.layout.specs.Machine.{Machine, Order, ticksOf, withUpdateTicks, gsumAt, gfmAt}
+use Rattle.texts.specs.Texts.{runModeAt, dacNumberAt}
+use Rattle.texts.specs.declared.Text.the-variants.{Of1978}
 
 -- Examples 1 to 9.
 sine-entries : (entry 0 ≡ 1) × (entry 1 ≡ 4) × (entry 1023 ≡ 2895) × (entry 2047 ≡ 4095)
@@ -130,42 +132,42 @@ module _ (m : Machine) (r₀ r₁ : ℕ) (c : TwoTicks m r₀ r₁) where
   is-back = order-passes (ticksOf m) back (back-passes (ticksOf m) (c .ticks))
 
   -- A test that neither run mode passes.
-  never : (p : ℕ → Bool) → p r₀ ≡ false → p r₁ ≡ false → (g : ℕ) → g < ticksOf m → p (runModeAt m g) ≡ true → ⊥
+  never : (p : ℕ → Bool) → p r₀ ≡ false → p r₁ ≡ false → (g : ℕ) → g < ticksOf m → p (runModeAt Of1978 m g) ≡ true → ⊥
   never p e f g h t =
       true≢false
-      (sym t ∙ each-of-two (λ k. p (runModeAt m k) ≡ false) (ticksOf m) (c .ticks) (ap p (c .run₀) ∙ e) (ap p (c .run₁) ∙ f) g h)
+      (sym t ∙ each-of-two (λ k. p (runModeAt Of1978 m k) ≡ false) (ticksOf m) (c .ticks) (ap p (c .run₀) ∙ e) (ap p (c .run₁) ∙ f) g h)
 
 -- 10: the second waits and the first can trigger.
-not-agreed-10 : (m : Machine) → TwoTicks m runningB wait → Agree m forth back → ⊥
+not-agreed-10 : (m : Machine) → TwoTicks m runningB wait → Agree Of1978 m forth back → ⊥
 unfolding before placeOf free isOneOf
-not-agreed-10 m c ag = true≢false (ag .neighbours 0 (omega (arith, c .ticks)) (eq-eqb (runModeAt m 1) wait (c .run₁)) (rw (c .run₀)))
+not-agreed-10 m c ag = true≢false (ag .neighbours 0 (omega (arith, c .ticks)) (eq-eqb (runModeAt Of1978 m 1) wait (c .run₁)) (rw (c .run₀)))
 
 -- 11: both feed DAC 0.
 module _ (m : Machine) (c : BothFeed m) where
-  feeds₀ : settingsOf m .feeds 0 0 ≡ true
+  feeds₀ : settingsOf Of1978 m .feeds 0 0 ≡ true
   feeds₀ = rw (c .two .run₀, c .dac₀)
 
-  feeds₁ : settingsOf m .feeds 0 1 ≡ true
+  feeds₁ : settingsOf Of1978 m .feeds 0 1 ≡ true
   feeds₁ = rw (c .two .run₁, c .dac₁)
 
-  agreed-one : Agree m forth back → gfmAt m 0 ≡ gfmAt m 1
+  agreed-one : Agree Of1978 m forth back → gfmAt m 0 ≡ gfmAt m 1
   agreed-one ag =
-      ap (gfmAt m) (sym (last-second (settingsOf m .feeds 0) 1 0 feeds₀))
+      ap (gfmAt m) (sym (last-second (settingsOf Of1978 m .feeds 0) 1 0 feeds₀))
       ∙ sym (ag .feeders 0 0 (lit< tt) (omega (arith, c .two .ticks)) feeds₀)
-      ∙ ap (gfmAt m) (last-second (settingsOf m .feeds 0) 0 1 feeds₁)
+      ∙ ap (gfmAt m) (last-second (settingsOf Of1978 m .feeds 0) 0 1 feeds₁)
 
-  one-agreed : gfmAt m 0 ≡ gfmAt m 1 → Agree m forth back
+  one-agreed : gfmAt m 0 ≡ gfmAt m 1 → Agree Of1978 m forth back
   unfolding free replaces isOneOf
   one-agreed e =
       record {
         neighbours = λ g h w t. absurd (never m writeDAC writeDAC (c .two) (λ (r : ℕ). eqb r wait) refl refl (1 + g) h w);
         feeders = λ d g l h f.
-            let p = settingsOf m .feeds d in
+            let p = settingsOf Of1978 m .feeds d in
             from-0 (lastOf p forth) (last-in forth orders₀ p g h f)
             ∙ sym (from-0 (lastOf p back) (last-in back orders₁ p g h f));
-        writers = ap (map (gfmAt m)) (keep-neither (settingsOf m .writes) 0 1 no-write₀ no-write₁ ∙ sym (keep-neither (settingsOf m .writes) 1 0 no-write₁ no-write₀));
+        writers = ap (map (gfmAt m)) (keep-neither (settingsOf Of1978 m .writes) 0 1 no-write₀ no-write₁ ∙ sym (keep-neither (settingsOf Of1978 m .writes) 1 0 no-write₁ no-write₀));
         words = λ w g l h f.
-            absurd (never m writeDAC writeDAC (c .two) replaces refl refl g h (and-second (settingsOf m .onWord w g) (settingsOf m .replacing g) f));
+            absurd (never m writeDAC writeDAC (c .two) replaces refl refl g h (and-second (settingsOf Of1978 m .onWord w g) (settingsOf Of1978 m .replacing g) f));
       }
     where
       orders₀ : IsOrder (ticksOf m) forth
@@ -180,70 +182,70 @@ module _ (m : Machine) (c : BothFeed m) where
       from-0 : (g : ℕ) → g < ticksOf m → gfmAt m g ≡ gfmAt m 0
       from-0 g h = each-of-two (λ k. gfmAt m k ≡ gfmAt m 0) (ticksOf m) (c .two .ticks) refl (sym e) g h
 
-      no-write₀ : settingsOf m .writes 0 ≡ false
+      no-write₀ : settingsOf Of1978 m .writes 0 ≡ false
       no-write₀ = rw (c .two .run₀)
 
-      no-write₁ : settingsOf m .writes 1 ≡ false
+      no-write₁ : settingsOf Of1978 m .writes 1 ≡ false
       no-write₁ = rw (c .two .run₁)
 
 -- 12: 0111, then 1111.
 module _ (m : Machine) (c : TwoTicks m readData runningA) where
-  replaces₀ : settingsOf m .replacing 0 ≡ true
+  replaces₀ : settingsOf Of1978 m .replacing 0 ≡ true
   unfolding replaces isOneOf
   replaces₀ = rw (c .run₀)
 
-  replaces₁ : settingsOf m .replacing 1 ≡ false
+  replaces₁ : settingsOf Of1978 m .replacing 1 ≡ false
   unfolding replaces isOneOf
   replaces₁ = rw (c .run₁)
 
-  adds₁ : settingsOf m .adding 1 ≡ true
+  adds₁ : settingsOf Of1978 m .adding 1 ≡ true
   unfolding adds isOneOf
   adds₁ = rw (c .run₁)
 
   -- On the word of the first.
-  word₀ : replacesWord (settingsOf m) (gsumAt m 0) 0 ≡ true
+  word₀ : replacesWord (settingsOf Of1978 m) (gsumAt m 0) 0 ≡ true
   word₀ = rw (eq-eqb (gsumAt m 0) (gsumAt m 0) refl) replaces₀
 
-  first-last : (w : ℕ) → replacesWord (settingsOf m) w 0 ≡ true → (lastReplacing (settingsOf m) w forth ≡ 0) × (lastReplacing (settingsOf m) w back ≡ 0)
-  first-last w e = (last-first (replacesWord (settingsOf m) w) 0 1 e not₁, last-second (replacesWord (settingsOf m) w) 1 0 e)
+  first-last : (w : ℕ) → replacesWord (settingsOf Of1978 m) w 0 ≡ true → (lastReplacing (settingsOf Of1978 m) w forth ≡ 0) × (lastReplacing (settingsOf Of1978 m) w back ≡ 0)
+  first-last w e = (last-first (replacesWord (settingsOf Of1978 m) w) 0 1 e not₁, last-second (replacesWord (settingsOf Of1978 m) w) 1 0 e)
     where
-      not₁ : replacesWord (settingsOf m) w 1 ≡ false
-      not₁ = rw replaces₁ (and-false (settingsOf m .onWord w 1))
+      not₁ : replacesWord (settingsOf Of1978 m) w 1 ≡ false
+      not₁ = rw replaces₁ (and-false (settingsOf Of1978 m .onWord w 1))
 
-  not-agreed-12 : gsumAt m 0 ≡ gsumAt m 1 → Agree m forth back → ⊥
+  not-agreed-12 : gsumAt m 0 ≡ gsumAt m 1 → Agree Of1978 m forth back → ⊥
   unfolding before placeOf
   not-agreed-12 e ag =
-      let s = settingsOf m in
+      let s = settingsOf Of1978 m in
       let w = gsumAt m 0 in
-      let q : SameWord s w forth back = ag .words w 0 (sound-generator m (c .good .is-sound) 0 (lit< tt) .gsum) (omega (arith, c .ticks)) word₀ in
+      let q : SameWord s w forth back = ag .words w 0 (sound-generator Of1978 m (c .good .is-sound) 0 (lit< tt) .gsum) (omega (arith, c .ticks)) word₀ in
       let on : addsToWord s w 1 ≡ true = rw (eq-eqb (gsumAt m 1) w (sym e)) adds₁ in
       let a : afterReplacing s w 1 forth ≡ true = ap (λ (g : ℕ). before g 1 forth) (first-last w word₀ .0) in
       let b : afterReplacing s w 1 back ≡ false = ap (λ (g : ℕ). before g 1 back) (first-last w word₀ .1) in
       true≢false (sym a ∙ q .adders 1 (omega (arith, c .ticks)) on ∙ b)
 
-  agreed-12 : gsumAt m 0 ≢ gsumAt m 1 → Agree m forth back
+  agreed-12 : gsumAt m 0 ≢ gsumAt m 1 → Agree Of1978 m forth back
   unfolding free replaces isOneOf
   agreed-12 n =
       record {
         neighbours = λ g h w t. absurd (never m readData runningA c (λ (r : ℕ). eqb r wait) refl refl (1 + g) h w);
         feeders = λ d g l h f.
-            absurd (never m readData runningA c (λ (r : ℕ). eqb r writeDAC) refl refl g h (and-first (eqb (runModeAt m g) writeDAC) (eqb (dacNumberAt m g) d) f));
-        writers = ap (map (gfmAt m)) (keep-neither (settingsOf m .writes) 0 1 no-write₀ no-write₁ ∙ sym (keep-neither (settingsOf m .writes) 1 0 no-write₁ no-write₀));
-        words = λ w g l h f. same-word w (each-of-two (λ k. replacesWord (settingsOf m) w k ≡ true → replacesWord (settingsOf m) w 0 ≡ true) (ticksOf m) (c .ticks) (λ e. e) (λ e. absurd (not₁ w e)) g h f);
+            absurd (never m readData runningA c (λ (r : ℕ). eqb r writeDAC) refl refl g h (and-first (eqb (runModeAt Of1978 m g) writeDAC) (eqb (dacNumberAt Of1978 m g) d) f));
+        writers = ap (map (gfmAt m)) (keep-neither (settingsOf Of1978 m .writes) 0 1 no-write₀ no-write₁ ∙ sym (keep-neither (settingsOf Of1978 m .writes) 1 0 no-write₁ no-write₀));
+        words = λ w g l h f. same-word w (each-of-two (λ k. replacesWord (settingsOf Of1978 m) w k ≡ true → replacesWord (settingsOf Of1978 m) w 0 ≡ true) (ticksOf m) (c .ticks) (λ e. e) (λ e. absurd (not₁ w e)) g h f);
       }
     where
-      no-write₀ : settingsOf m .writes 0 ≡ false
+      no-write₀ : settingsOf Of1978 m .writes 0 ≡ false
       no-write₀ = rw (c .run₀)
 
-      no-write₁ : settingsOf m .writes 1 ≡ false
+      no-write₁ : settingsOf Of1978 m .writes 1 ≡ false
       no-write₁ = rw (c .run₁)
 
-      not₁ : (w : ℕ) → replacesWord (settingsOf m) w 1 ≡ true → ⊥
-      not₁ w e = true≢false (sym (and-second (settingsOf m .onWord w 1) (settingsOf m .replacing 1) e) ∙ replaces₁)
+      not₁ : (w : ℕ) → replacesWord (settingsOf Of1978 m) w 1 ≡ true → ⊥
+      not₁ w e = true≢false (sym (and-second (settingsOf Of1978 m .onWord w 1) (settingsOf Of1978 m .replacing 1) e) ∙ replaces₁)
 
-      same-word : (w : ℕ) → replacesWord (settingsOf m) w 0 ≡ true → SameWord (settingsOf m) w forth back
+      same-word : (w : ℕ) → replacesWord (settingsOf Of1978 m) w 0 ≡ true → SameWord (settingsOf Of1978 m) w forth back
       same-word w e =
-          let s = settingsOf m in
+          let s = settingsOf Of1978 m in
           let at₀ : gsumAt m 0 ≡ w = eqb-true (gsumAt m 0) w (and-first (s .onWord w 0) (s .replacing 0) e) in
           record {
             last = first-last w e .0 ∙ sym (first-last w e .1);
@@ -253,13 +255,13 @@ module _ (m : Machine) (c : TwoTicks m readData runningA) where
             adders = λ k h a.
                 absurd
                 (each-of-two (λ j. addsToWord s w j ≡ true → ⊥) (ticksOf m) (c .ticks)
-                (λ b. true≢false (sym (and-second (s .onWord w 0) (s .adding 0) b) ∙ replaces-alone (runModeAt m 0) replaces₀))
+                (λ b. true≢false (sym (and-second (s .onWord w 0) (s .adding 0) b) ∙ replaces-alone (runModeAt Of1978 m 0) replaces₀))
                 (λ b. n (at₀ ∙ sym (eqb-true (gsumAt m 1) w (and-first (s .onWord w 1) (s .adding 1) b)))) k h a);
           }
 
 -- The machines of examples 10 to 12 are good.
-pub of-two-good : (mode₀ mode₁ sum₀ sum₁ fm₀ fm₁ : ℕ) → goodGmode mode₀ ≡ true → goodGmode mode₁ ≡ true → sum₀ < 2 ^ 6 → sum₁ < 2 ^ 6 → fm₀ < 2 ^ 7 → fm₁ < 2 ^ 7
-    → Good (ofTwo mode₀ mode₁ sum₀ sum₁ fm₀ fm₁)
+pub of-two-good : (mode₀ mode₁ sum₀ sum₁ fm₀ fm₁ : ℕ) → goodGmode Of1978 mode₀ ≡ true → goodGmode Of1978 mode₁ ≡ true → sum₀ < 2 ^ 6 → sum₁ < 2 ^ 6 → fm₀ < 2 ^ 7 → fm₁ < 2 ^ 7
+    → Good Of1978 (ofTwo mode₀ mode₁ sum₀ sum₁ fm₀ fm₁)
 unfolding ofTwo regions testAt
 of-two-good mode₀ mode₁ sum₀ sum₁ fm₀ fm₁ a b c d e f =
     let m1 = withUpdateTicks (set freshMachine tAt 2) in
@@ -273,13 +275,13 @@ of-two-good mode₀ mode₁ sum₀ sum₁ fm₀ fm₁ a b c d e f =
           length-set m6 21 mode₁ ∙ length-set m5 20 fm₁ ∙ length-set m4 19 sum₁ ∙ length-set m3 10 mode₀ ∙ length-set m2 9 fm₀ ∙ length-set m1 8 sum₀
           ∙ counted-length (set freshMachine tAt 2) ∙ length-set freshMachine tAt 2 ∙ fresh-length;
       is-sound =
-          sound-set m6
-          (sound-set m5
-          (sound-set m4
-          (sound-set m3
-          (sound-set m2
-          (sound-set m1
-          (sound-with-ticks freshMachine fresh-sound (reaches freshMachine fresh-length) tAt 2 (lit< tt) refl)
+          sound-set Of1978 m6
+          (sound-set Of1978 m5
+          (sound-set Of1978 m4
+          (sound-set Of1978 m3
+          (sound-set Of1978 m2
+          (sound-set Of1978 m1
+          (sound-with-ticks Of1978 freshMachine (fresh-sound Of1978) (reaches freshMachine fresh-length) tAt 2 (lit< tt) refl)
           8 sum₀ (single-below (lit< tt)) (lt-ltb sum₀ (2 ^ 6) c))
           9 fm₀ (single-below (lit< tt)) (lt-ltb fm₀ (2 ^ 7) e))
           10 mode₀ (single-below (lit< tt)) a)
@@ -338,19 +340,19 @@ sums-two : gsumAt (ofTwo 448 960 3 4 0 0) 0 ≢ gsumAt (ofTwo 448 960 3 4 0 0) 1
 unfolding ofTwo withUpdateTicks freshMachine zeros
 sums-two = eqb-false 3 4 refl
 
-by-demand-3 : (m : Machine) (r₀ r₁ : ℕ) → TwoTicks m r₀ r₁ → Equal m forth back ↔ Agree m forth back
+by-demand-3 : (m : Machine) (r₀ r₁ : ℕ) → TwoTicks m r₀ r₁ → Equal Of1978 m forth back ↔ Agree Of1978 m forth back
 by-demand-3 m r₀ r₁ c =
-    demand-3 m (c .good) forth back (forth-passes (ticksOf m) (c .ticks)) (back-passes (ticksOf m) (c .ticks))
+    demand-3 Of1978 m (c .good) forth back (forth-passes (ticksOf m) (c .ticks)) (back-passes (ticksOf m) (c .ticks))
 
-unequal-10 : (m : Machine) → TwoTicks m runningB wait → Equal m forth back → ⊥
+unequal-10 : (m : Machine) → TwoTicks m runningB wait → Equal Of1978 m forth back → ⊥
 unequal-10 m c e = not-agreed-10 m c (by-demand-3 m runningB wait c .0 e)
 
-equal-11 : (m : Machine) → BothFeed m → Equal m forth back ↔ (gfmAt m 0 ≡ gfmAt m 1)
+equal-11 : (m : Machine) → BothFeed m → Equal Of1978 m forth back ↔ (gfmAt m 0 ≡ gfmAt m 1)
 equal-11 m c =
     let d = by-demand-3 m writeDAC writeDAC (c .two) in
     (λ e. agreed-one m c (d .0 e), λ e. d .1 (one-agreed m c e))
 
-equal-12 : (m : Machine) → TwoTicks m readData runningA → Equal m forth back ↔ (gsumAt m 0 ≢ gsumAt m 1)
+equal-12 : (m : Machine) → TwoTicks m readData runningA → Equal Of1978 m forth back ↔ (gsumAt m 0 ≢ gsumAt m 1)
 equal-12 m c =
     let d = by-demand-3 m readData runningA c in
     (λ e. λ q. not-agreed-12 m c q (d .0 e), λ n. d .1 (agreed-12 m c n))

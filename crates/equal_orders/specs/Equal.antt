@@ -6,28 +6,30 @@ use mathlib.Core.Path.{_≡_}
 use lib.ListN.{length, getD}
 use Rattle.modes.specs.Modes.{readData, writeData, writeDAC}
 use Rattle.order.specs.Order.{inMode}
-use Rattle.layout.specs.Machine.{Machine, Order, ticksOf, runModeAt, gmodeAt, gsumAt, gfmAt, dacNumberAt}
+use Rattle.layout.specs.Machine.{Machine, Order, ticksOf, gmodeAt, gsumAt, gfmAt}
+use Rattle.texts.specs.Texts.{runModeAt, dacNumberAt}
+use Rattle.texts.specs.declared.Text.{Text}
 use Rattle.pass_model.specs.Pass.{Call, by, Outcome, writtenData, passOf}
 use Rattle.pass_laws.specs.Good.{Good}
 
 -- Two machines have the same settings: T, every GMODE, GSUM and GFM, and the DAC number of each 0010.
-pub record SameSettings (m n : Machine) : Type 0 where
+pub record SameSettings (text : Text) (m n : Machine) : Type 0 where
   pub ticks : ticksOf m ≡ ticksOf n
   pub modes : (g : ℕ) → g < 256 → gmodeAt m g ≡ gmodeAt n g
   pub words : (g : ℕ) → g < 256 → gsumAt m g ≡ gsumAt n g
   pub inputs : (g : ℕ) → g < 256 → gfmAt m g ≡ gfmAt n g
-  pub dacs : (g : ℕ) → g < 256 → runModeAt m g ≡ writeDAC → dacNumberAt m g ≡ dacNumberAt n g
+  pub dacs : (g : ℕ) → g < 256 → runModeAt text m g ≡ writeDAC → dacNumberAt text m g ≡ dacNumberAt text n g
 
 -- A run of 32-bit words.
 abbrev pub Words : List ℕ → Type 0
 Words xs = (i : ℕ) → i < length xs → getD xs i 0 < 2 ^ 32
 
 -- What a call brings is enough for a machine: a read list with items for all 0111s below T, and a run of written places that is long enough.
-pub record Enough (m : Machine) (call : Call) : Type 0 where
+pub record Enough (text : Text) (m : Machine) (call : Call) : Type 0 where
   pub items : Words (call .items)
   pub places : Words (call .places)
-  pub reads : inMode m readData ≤ length (call .items)
-  pub writes : inMode m writeData ≤ length (call .places)
+  pub reads : inMode text m readData ≤ length (call .items)
+  pub writes : inMode text m writeData ≤ length (call .places)
 
 -- Two passes leave the same value in each word of the machine and of delay memory, and write the same items in the same sequence.
 pub record SameEnd (r s : Outcome) : Type 0 where
@@ -38,5 +40,5 @@ pub record SameEnd (r s : Outcome) : Type 0 where
 -- Two orders are equal: for every machine with these settings that passes questions 1 and 2, its other words being free,
 -- and for every call that brings enough for it, over whatever delay memory, passes by the two orders leave the same machine and delay memory and write the same data.
 -- Where the delay units or their memory refuse the pass, both orders are refused alike.
-abbrev pub Equal : Machine → Order → Order → Type 0
-Equal m o₁ o₂ = (n : Machine) → Good n → SameSettings m n → (call : Call) → Enough n call → SameEnd (passOf n (by o₁ call)) (passOf n (by o₂ call))
+abbrev pub Equal : Text → Machine → Order → Order → Type 0
+Equal text m o₁ o₂ = (n : Machine) → Good text n → SameSettings text m n → (call : Call) → Enough text n call → SameEnd (passOf text n (by o₁ call)) (passOf text n (by o₂ call))

@@ -15,7 +15,9 @@ use Rattle.product.specs.Product.{product}
 use Rattle.layout.specs.Layout.{tAt}
 use Rattle.modes.specs.Modes.{runningA, runningB, wait, readData, writeDAC, envelopeOn, free}
 use Rattle.machine.specs.Questions.{freshMachine}
-use Rattle.layout.specs.Machine.{Machine, Order, ticksOf, withUpdateTicks, runModeAt, gsumAt, gfmAt, dacNumberAt}
+use Rattle.layout.specs.Machine.{Machine, Order, ticksOf, withUpdateTicks, gsumAt, gfmAt}
+use Rattle.texts.specs.Texts.{runModeAt, dacNumberAt}
+use Rattle.texts.specs.declared.Text.the-variants.{Of1978}
 use Rattle.generator.specs.declared.Generator.{Generator}
 use Rattle.generator.specs.Generator.{runMode, gqAfter, triggers}
 use Rattle.pass_laws.specs.Good.{Good}
@@ -40,16 +42,16 @@ back = 1 ∷ 0 ∷ []
 
 -- A good machine with T = 2 whose generators 0 and 1 have these run modes.
 pub record TwoTicks (m : Machine) (r₀ r₁ : ℕ) : Type 0 where
-  pub good : Good m
+  pub good : Good Of1978 m
   pub ticks : ticksOf m ≡ 2
-  pub run₀ : runModeAt m 0 ≡ r₀
-  pub run₁ : runModeAt m 1 ≡ r₁
+  pub run₀ : runModeAt Of1978 m 0 ≡ r₀
+  pub run₁ : runModeAt Of1978 m 1 ≡ r₁
 
 -- Such a machine whose generators both feed DAC 0.
 pub record BothFeed (m : Machine) : Type 0 where
   pub two : TwoTicks m writeDAC writeDAC
-  pub dac₀ : dacNumberAt m 0 ≡ 0
-  pub dac₁ : dacNumberAt m 1 ≡ 0
+  pub dac₀ : dacNumberAt Of1978 m 0 ≡ 0
+  pub dac₁ : dacNumberAt Of1978 m 1 ≡ 0
 
 -- A fresh machine with T = 2, the update ticks that follow, and these GMODEs, GSUMs and GFMs of its first two generators, words 8 to 10 and 19 to 21.
 unfoldable pub ofTwo : ℕ → ℕ → ℕ → ℕ → ℕ → ℕ → Machine
@@ -78,14 +80,14 @@ pub record WorkedExamples : Type 0 where
   pub example-9-sticky : (u : Generator) → AtTop u → free (runMode u) ≡ false → gqAfter u ≡ 16777215
   pub example-9-free : (u : Generator) → AtTop u → free (runMode u) ≡ true → (gqAfter u ≡ 0) × (triggers u ≡ true)
   -- 10. Modes 1110, 1001: unequal.
-  pub example-10 : (m : Machine) → TwoTicks m runningB wait → Equal m forth back → ⊥
+  pub example-10 : (m : Machine) → TwoTicks m runningB wait → Equal Of1978 m forth back → ⊥
   -- 11. Both 0010 to DAC 0: equal only with one GFM.
-  pub example-11 : (m : Machine) → BothFeed m → Equal m forth back ↔ (gfmAt m 0 ≡ gfmAt m 1)
+  pub example-11 : (m : Machine) → BothFeed m → Equal Of1978 m forth back ↔ (gfmAt m 0 ≡ gfmAt m 1)
   -- 12. 0111 then 1111: unequal on one GSUM, equal on two.
-  pub example-12 : (m : Machine) → TwoTicks m readData runningA → Equal m forth back ↔ (gsumAt m 0 ≢ gsumAt m 1)
+  pub example-12 : (m : Machine) → TwoTicks m readData runningA → Equal Of1978 m forth back ↔ (gsumAt m 0 ≢ gsumAt m 1)
   -- Machines of these kinds: 1110 and 1001; both 0010 with GFM 5 and 5, and with 5 and 6; 0111 and 1111 on GSUM 3 and 3, and on 3 and 4.
-  pub shown-10 : TwoTicks (ofTwo 896 576 0 0 0 0) runningB wait × (Equal (ofTwo 896 576 0 0 0 0) forth back → ⊥)
-  pub shown-11-one : BothFeed (ofTwo 128 128 0 0 5 5) × Equal (ofTwo 128 128 0 0 5 5) forth back
-  pub shown-11-two : BothFeed (ofTwo 128 128 0 0 5 6) × (Equal (ofTwo 128 128 0 0 5 6) forth back → ⊥)
-  pub shown-12-one : TwoTicks (ofTwo 448 960 3 3 0 0) readData runningA × (Equal (ofTwo 448 960 3 3 0 0) forth back → ⊥)
-  pub shown-12-two : TwoTicks (ofTwo 448 960 3 4 0 0) readData runningA × Equal (ofTwo 448 960 3 4 0 0) forth back
+  pub shown-10 : TwoTicks (ofTwo 896 576 0 0 0 0) runningB wait × (Equal Of1978 (ofTwo 896 576 0 0 0 0) forth back → ⊥)
+  pub shown-11-one : BothFeed (ofTwo 128 128 0 0 5 5) × Equal Of1978 (ofTwo 128 128 0 0 5 5) forth back
+  pub shown-11-two : BothFeed (ofTwo 128 128 0 0 5 6) × (Equal Of1978 (ofTwo 128 128 0 0 5 6) forth back → ⊥)
+  pub shown-12-one : TwoTicks (ofTwo 448 960 3 3 0 0) readData runningA × (Equal Of1978 (ofTwo 448 960 3 3 0 0) forth back → ⊥)
+  pub shown-12-two : TwoTicks (ofTwo 448 960 3 4 0 0) readData runningA × Equal Of1978 (ofTwo 448 960 3 4 0 0) forth back

@@ -10,7 +10,9 @@ use Rattle.lists.specs.Lists.{zeros}
 use Rattle.lists.proofs.Counts.{count-below-le}
 use Rattle.lists.proofs.Zeros.{zeros-length}
 use Rattle.layout.specs.Layout.{generators, memoryWords}
-use Rattle.layout.specs.Machine.{Machine, Order, Items, ticksOf, runModeAt}
+use Rattle.layout.specs.Machine.{Machine, Order, Items, ticksOf}
+use Rattle.texts.specs.Texts.{runModeAt}
+use Rattle.texts.specs.declared.Text.{Text}
 use Rattle.modes.specs.Modes.{writeData}
 use Rattle.order.specs.Order.{inMode}
 use Rattle.pass_model.specs.Pass.{Call, plainCall, writtenData, passOf}
@@ -25,28 +27,28 @@ use Rattle.parts_shown.proofs.Passes.{written-length, differs}
 use Rattle.equal_parts.proofs.Parts.{contents-part}
 
 -- No more generators are in a run mode than there are.
-mode-few : (m : Machine) → ticksOf m ≤ generators → (r : ℕ) → inMode m r ≤ generators
+mode-few : (text : Text) (m : Machine) → ticksOf m ≤ generators → (r : ℕ) → inMode text m r ≤ generators
 unfolding inMode
-mode-few m few r = omega (arith, count-below-le (λ g. eqb (runModeAt m g) r) (ticksOf m))
+mode-few text m few r = omega (arith, count-below-le (λ g. eqb (runModeAt text m g) r) (ticksOf m))
 
 -- A pass that runs writes an item for each 0011 of its machine.
-written-count : (m : Machine) (call : Call) → passOf m call .number ≡ 0 → length (writtenData (passOf m call)) ≡ inMode m writeData
-written-count m call e = written-length m call ∙ pass-counts m call (sym (pass-number m call) ∙ e) .1
+written-count : (text : Text) (m : Machine) (call : Call) → passOf text m call .number ≡ 0 → length (writtenData (passOf text m call)) ≡ inMode text m writeData
+written-count text m call e = written-length text m call ∙ pass-counts text m call (sym (pass-number text m call) ∙ e) .1
 
-module _ (m : Machine) (o₁ o₂ : Order) (contents : Machine) (items : Items) where
+module _ (text : Text) (m : Machine) (o₁ o₂ : Order) (contents : Machine) (items : Items) where
   -- Where a point is named, the passes from what the run and the list hold differ by what is found.
-  pub found-differs : partsOf m o₁ o₂ contents items .number ≡ 0 → partsOf m o₁ o₂ contents items .point ≢ 0
-      → Differ (passBy (partsOf m o₁ o₂ contents items .contents) (partsOf m o₁ o₂ contents items .items) o₁)
-      (passBy (partsOf m o₁ o₂ contents items .contents) (partsOf m o₁ o₂ contents items .items) o₂)
-      (differenceShown (partsOf m o₁ o₂ contents items .contents) (partsOf m o₁ o₂ contents items .items) o₁ o₂)
+  pub found-differs : partsOf text m o₁ o₂ contents items .number ≡ 0 → partsOf text m o₁ o₂ contents items .point ≢ 0
+      → Differ (passBy text (partsOf text m o₁ o₂ contents items .contents) (partsOf text m o₁ o₂ contents items .items) o₁)
+      (passBy text (partsOf text m o₁ o₂ contents items .contents) (partsOf text m o₁ o₂ contents items .items) o₂)
+      (differenceShown text (partsOf text m o₁ o₂ contents items .contents) (partsOf text m o₁ o₂ contents items .items) o₁ o₂)
   found-differs e h =
-      let c = partsOf m o₁ o₂ contents items .contents in
-      let i = partsOf m o₁ o₂ contents items .items in
-      let shown = contents-part m o₁ o₂ contents items e h in
-      let ready = is-ready m o₁ o₂ contents items (sym (parts-number m o₁ o₂ contents items) ∙ e) in
-      let room : inMode m writeData ≤ length (zeros generators) = rw (zeros-length generators) (mode-few m (ready .traceable .ticks) writeData) in
+      let c = partsOf text m o₁ o₂ contents items .contents in
+      let i = partsOf text m o₁ o₂ contents items .items in
+      let shown = contents-part text m o₁ o₂ contents items e h in
+      let ready = is-ready text m o₁ o₂ contents items (sym (parts-number text m o₁ o₂ contents items) ∙ e) in
+      let room : inMode text m writeData ≤ length (zeros generators) = rw (zeros-length generators) (mode-few text m (ready .traceable .ticks) writeData) in
       let parted = shown .part (zeros generators) (zeros memoryWords) room zeros-good in
       let first = plainCall o₁ i (zeros generators) in
       let second = plainCall o₂ i (zeros generators) in
-      differs (passBy c i o₁) (passBy c i o₂) (pass-sound c first (shown .good) .whole ∙ sym (pass-sound c second (shown .good) .whole))
-      (written-count c first (parted .first-runs) ∙ sym (written-count c second (parted .second-runs))) (parted .apart)
+      differs (passBy text c i o₁) (passBy text c i o₂) (pass-sound text c first (shown .good) .whole ∙ sym (pass-sound text c second (shown .good) .whole))
+      (written-count text c first (parted .first-runs) ∙ sym (written-count text c second (parted .second-runs))) (parted .apart)

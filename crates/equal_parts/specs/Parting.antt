@@ -5,6 +5,7 @@ use mathlib.Core.Bool.{true}
 use mathlib.Core.Path.{_≡_}
 use lib.ListN.{length, getD}
 use Rattle.layout.specs.Machine.{Machine, Order, Items, Places, Memory}
+use Rattle.texts.specs.declared.Text.{Text}
 use Rattle.modes.specs.Modes.{readData, writeData}
 use Rattle.order.specs.Order.{inMode}
 use Rattle.delay_questions.specs.Questions.{memoryGood}
@@ -20,12 +21,12 @@ pub record Parted (r s : Outcome) : Type 0 where
 
 -- Contents n and items part two orders of the generators of m: n passes questions 1 and 2 and has the settings of m, the items pass 7 and those beyond the 0111s are as they were before,
 -- and passes from them by the two orders part, over the same delay memory, any that passes 10, and with places enough.
-pub record PartingContents (m : Machine) (o₁ o₂ : Order) (before : Items) (n : Machine) (items : Items) : Type 0 where
-  pub good : Good n
-  pub settings : SameSettings m n
-  pub enough : inMode m readData ≤ length items
+pub record PartingContents (text : Text) (m : Machine) (o₁ o₂ : Order) (before : Items) (n : Machine) (items : Items) : Type 0 where
+  pub good : Good text n
+  pub settings : SameSettings text m n
+  pub enough : inMode text m readData ≤ length items
   pub as-long : length items ≡ length before
-  pub beyond : (i : ℕ) → inMode m readData ≤ i → getD items i 0 ≡ getD before i 0
-  pub part : (places : Places) (memory : Memory) → inMode m writeData ≤ length places → memoryGood memory ≡ true
-      → Parted (passOf n (record { order = o₁; items = items; places = places; memory = memory }))
-      (passOf n (record { order = o₂; items = items; places = places; memory = memory }))
+  pub beyond : (i : ℕ) → inMode text m readData ≤ i → getD items i 0 ≡ getD before i 0
+  pub part : (places : Places) (memory : Memory) → inMode text m writeData ≤ length places → memoryGood memory ≡ true
+      → Parted (passOf text n (record { order = o₁; items = items; places = places; memory = memory }))
+      (passOf text n (record { order = o₂; items = items; places = places; memory = memory }))

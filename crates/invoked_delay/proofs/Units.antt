@@ -11,16 +11,17 @@ use lib.Seq.{length-take-le}
 use Rattle.lists.proofs.Parts.{part-from}
 use Rattle.layout.specs.Layout.{modifierAt, delayAt}
 use Rattle.layout.specs.Machine.{Machine, Memory}
+use Rattle.texts.specs.declared.Text.{Text}
 use Rattle.words.proofs.Residues.{sum-low}
 use Rattle.modifier.specs.declared.Modifier.{Modifier}
 use Rattle.modifier.specs.declared.Turned.{Turned}
 use Rattle.modifier.specs.Modifier.{stored as storedModifier}
-use Rattle.modifier_delay.specs.Invoke.{invoking, unitOf, invokeDelay}
+use Rattle.modifier_delay.specs.Invoke.{unitOf, invokeDelay}
 use Rattle.delay.specs.declared.Delay.{Delay}
 use Rattle.delay.specs.Delay.{loaded, stored, runs, due, After, turnOf}
 use Rattle.delay_questions.specs.Questions.{delayOf}
 use Rattle.sums.proofs.Blocks.{set-behind, part-rest}
-use Rattle.pass_model.specs.Modifiers.{given, Held, delayed}
+use Rattle.pass_model.specs.Modifiers.{invokesDelay, given, Held, delayed}
 
 -- A unit behind p is written back in what stands behind p.
 stored-behind : (p q : List ℕ) (d : Delay) → stored (p ++ q) (length p) d ≡ p ++ stored q 0 d
@@ -68,24 +69,24 @@ pub record Named (t : ℕ) (words : Machine) (u : Modifier) (n : ℕ) (d : Delay
   pub unit : d ≡ delayOf words n
   pub runs-is : running ≡ runs t n d
 
-module _ (t : ℕ) (words : Machine) (u : Modifier) {n : ℕ} {d : Delay} {running : Bool} (e : Named t words u n d running) where
+module _ (text : Text) (t : ℕ) (words : Machine) (u : Modifier) {n : ℕ} {d : Delay} {running : Bool} (e : Named t words u n d running) where
   -- What it gives.
   pub gives : cond running (due d) 0 ≡ given t words u
   unfolding given
   gives = rw (e .runs-is, e .unit, e .number)
 
   -- Its turn, after the registers of modifier k are written back.
-  pub turns : (k : ℕ) (after : Modifier) (memory : Memory) (w : ℕ) → k < 128 → invoking u ≡ true →
+  pub turns : (k : ℕ) (after : Modifier) (memory : Memory) (w : ℕ) → k < 128 → invokesDelay text u ≡ true →
       cond {A = Held} running (record { words = stored (storedModifier words (modifierAt k) after) (delayAt n) (turnOf d memory w .unit); memory = turnOf d memory w .memory })
       (record { words = storedModifier words (modifierAt k) after; memory = memory })
-      ≡ delayed t (record { words = storedModifier words (modifierAt k) after; memory = memory }) u w
+      ≡ delayed text t (record { words = storedModifier words (modifierAt k) after; memory = memory }) u w
   unfolding delayed
   turns k after memory w h i = rw (i, delay-kept words k (unitOf u) after h, e .runs-is, e .unit, e .number)
 
   -- The modifier and its unit.
-  pub taken : (a k : ℕ) (memory : Memory) → k < 128 → invoking u ≡ true → {dm : ℕ} → dm ≡ cond running (due d) 0 → {turn : Turned} → turn ≡ invokeDelay u a dm
+  pub taken : (a k : ℕ) (memory : Memory) → k < 128 → invokesDelay text u ≡ true → {dm : ℕ} → dm ≡ cond running (due d) 0 → {turn : Turned} → turn ≡ invokeDelay u a dm
       → {words₁ : Machine} → words₁ ≡ storedModifier words (modifierAt k) (turn .unit) → {after : Held}
       → after ≡ cond {A = Held} running (record { words = stored words₁ (delayAt n) (turnOf d memory (turn .unit .l1) .unit); memory = turnOf d memory (turn .unit .l1) .memory }) (record { words = words₁; memory = memory })
       → (turn .s ≡ invokeDelay u a (given t words u) .s)
-      × (after ≡ delayed t (record { words = storedModifier words (modifierAt k) (invokeDelay u a (given t words u) .unit); memory = memory }) u (invokeDelay u a (given t words u) .unit .l1))
+      × (after ≡ delayed text t (record { words = storedModifier words (modifierAt k) (invokeDelay u a (given t words u) .unit); memory = memory }) u (invokeDelay u a (given t words u) .unit .l1))
   taken a k memory h i x y z after = rw (after, z, y, x, gives) (refl, turns k (invokeDelay u a (given t words u) .unit) memory (invokeDelay u a (given t words u) .unit .l1) h i)

@@ -6,11 +6,12 @@ ghost use Rattle.words.specs.Words.{Word};
 ghost use Rattle.layout.specs.Layout.{modifierAt, delayAt};
 ghost use Rattle.layout.specs.Machine.{Reaches};
 ghost use Rattle.modifier.specs.Modifier.{Ranged, stored};
-ghost use Rattle.modifier_delay.specs.Invoke.{invoking, invokeDelay};
+ghost use Rattle.modifier_delay.specs.Invoke.{invokeDelay};
 ghost use Rattle.delay.specs.Delay.{Ranged as RangedDelay, stored as storedDelay, due, turnOf as delayTurn};
-ghost use Rattle.pass_model.specs.Modifiers.{Held, given, delayed};
+ghost use Rattle.pass_model.specs.Modifiers.{invokesDelay, Held, given, delayed};
 use delay::Delay;
 use modifier::Modifier;
+use texts::Text;
 
 // The registers of delay unit n that a turn can change are written back.
 fn put_delay_at(m: &mut [u32], n: usize, unit: Delay)
@@ -48,12 +49,20 @@ fn unit_turn(m: &mut [u32], memory: &mut [u32], n: usize, d: Delay, runs: bool, 
 }
 
 // Modifier k, which invokes a delay unit, is taken with its A, then the unit, which gets L1; the answer is S. The unit is loaded once, since the modifier's registers are not among its own.
-pub fn invoked(m: &mut [u32], memory: &mut [u32], t: usize, k: usize, u: Modifier, a: u32) -> u32
+pub fn invoked(
+    text: Text,
+    m: &mut [u32],
+    memory: &mut [u32],
+    t: usize,
+    k: usize,
+    u: Modifier,
+    a: u32,
+) -> u32
     requires { ⌜ Reaches (now m) ⌝ }
     requires { ⌜ k < 128 ⌝ }
     requires { ⌜ Ranged u ⌝ }
-    requires { ⌜ (invoking u ≡ true) × (a < 2 ^ 20) ⌝ }
-    ensures { λ r. ⌜ (r ≡ invokeDelay u a (given t (now (m .entry)) u) .s) × (record { words = now (m .exit); memory = now (memory .exit) } ≡ delayed t (record { words = stored (now (m .entry)) (modifierAt k) (invokeDelay u a (given t (now (m .entry)) u) .unit); memory = now (memory .entry) }) u (invokeDelay u a (given t (now (m .entry)) u) .unit .l1)) ⌝ }
+    requires { ⌜ (invokesDelay text u ≡ true) × (a < 2 ^ 20) ⌝ }
+    ensures { λ r. ⌜ (r ≡ invokeDelay u a (given t (now (m .entry)) u) .s) × (record { words = now (m .exit); memory = now (memory .exit) } ≡ delayed text t (record { words = stored (now (m .entry)) (modifierAt k) (invokeDelay u a (given t (now (m .entry)) u) .unit); memory = now (memory .entry) }) u (invokeDelay u a (given t (now (m .entry)) u) .unit .l1)) ⌝ }
 {
     let n = modifier_delay::unit_of(u);
     let d = delay_questions::delay_at(m, n);

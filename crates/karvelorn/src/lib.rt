@@ -8,7 +8,9 @@ ghost use mathlib.Core.Bool.{cond};
 ghost use Rattle.compare.specs.Compare.{compareOf};
 ghost use Rattle.any_order.specs.AnyOrder.{anyOrderOf};
 ghost use Rattle.parts.specs.Parts.{partsOf};
+ghost use Rattle.texts.specs.declared.Text.the-variants.{Of1978};
 use sums::Clipped;
+use texts::Text;
 
 // A fresh machine.
 #[no_mangle]
@@ -31,9 +33,9 @@ pub extern "C" fn karvelorn_pass(
     written: &mut usize,
     clipped: &mut Clipped,
 ) -> u32
-    ensures { λ r. ⌜ record { number = r; read = now (read .exit); written = now (written .exit); clipped = now (clipped .exit); machine = now (m .exit); places = now (places .exit); memory = now (memory .exit) } ≡ passOf (now (m .entry)) (record { order = now (order .entry); items = now (items .entry); places = now (places .entry); memory = now (memory .entry) }) ⌝ }
+    ensures { λ r. ⌜ record { number = r; read = now (read .exit); written = now (written .exit); clipped = now (clipped .exit); machine = now (m .exit); places = now (places .exit); memory = now (memory .exit) } ≡ passOf Of1978 (now (m .entry)) (record { order = now (order .entry); items = now (items .entry); places = now (places .entry); memory = now (memory .entry) }) ⌝ }
 {
-    let done = pass::pass(m, order, items, places, memory);
+    let done = pass::pass(Text::Of1978, m, order, items, places, memory);
     *read = done.read;
     *written = done.written;
     let marks = done.clipped;
@@ -61,10 +63,10 @@ pub extern "C" fn karvelorn_compare(
     second: &[u32],
     equal: &mut u32,
 ) -> u32
-    ensures { λ r. ⌜ r ≡ compareOf (now (m .entry)) (now (first .entry)) (now (second .entry)) .number ⌝ }
-    ensures { λ _. ⌜ now (equal .exit) ≡ cond (compareOf (now (m .entry)) (now (first .entry)) (now (second .entry)) .equal) 1 0 ⌝ }
+    ensures { λ r. ⌜ r ≡ compareOf Of1978 (now (m .entry)) (now (first .entry)) (now (second .entry)) .number ⌝ }
+    ensures { λ _. ⌜ now (equal .exit) ≡ cond (compareOf Of1978 (now (m .entry)) (now (first .entry)) (now (second .entry)) .equal) 1 0 ⌝ }
 {
-    let compared = compare::compare(m, first, second);
+    let compared = compare::compare(Text::Of1978, m, first, second);
     *equal = compared.equal as u32;
     compared.number
 }
@@ -92,9 +94,9 @@ pub extern "C" fn karvelorn_parts(
     point: &mut u32,
     place: &mut u32,
 ) -> u32
-    ensures { λ r. ⌜ record { number = r; point = now (point .exit); place = now (place .exit); contents = now (contents .exit); items = now (items .exit) } ≡ partsOf (now (m .entry)) (now (first .entry)) (now (second .entry)) (now (contents .entry)) (now (items .entry)) ⌝ }
+    ensures { λ r. ⌜ record { number = r; point = now (point .exit); place = now (place .exit); contents = now (contents .exit); items = now (items .exit) } ≡ partsOf Of1978 (now (m .entry)) (now (first .entry)) (now (second .entry)) (now (contents .entry)) (now (items .entry)) ⌝ }
 {
-    let told = parts::parts(m, first, second, contents, items);
+    let told = parts::parts(Text::Of1978, m, first, second, contents, items);
     *point = told.point;
     *place = told.place;
     told.number

@@ -54,7 +54,7 @@ withUpdateTicks m = set m updateTicksAt (updateTicksOf m)
 abbrev pub lowCounter : Machine → ℕ
 lowCounter m = getD m counterAt 0 % 2 ^ lingerBits
 
--- GMODE, GSUM and GFM of generator g; its run mode, the left 4 of GMODE's 10 bits; its DAC number, the low 4 bits of GO, its first word.
+-- GMODE, GSUM and GFM of generator g.
 abbrev pub gmodeAt : Machine → ℕ → ℕ
 gmodeAt m g = getD m (generatorAt g + GMODE) 0
 
@@ -63,12 +63,6 @@ gsumAt m g = getD m (generatorAt g + GSUM) 0
 
 abbrev pub gfmAt : Machine → ℕ → ℕ
 gfmAt m g = getD m (generatorAt g + GFM) 0
-
-abbrev pub runModeAt : Machine → ℕ → ℕ
-runModeAt m g = gmodeAt m g / 2 ^ 6
-
-abbrev pub dacNumberAt : Machine → ℕ → ℕ
-dacNumberAt m g = getD m (generatorAt g) 0 % 2 ^ 4
 
 -- MRM of modifier k, and its function, the left 5 of MMODE's 9 bits.
 abbrev pub mrmAt : Machine → ℕ → ℕ

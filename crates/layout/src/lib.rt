@@ -1,7 +1,7 @@
 // Where each word of the machine stands: the layout's numbers, each with its one name; and what stands at the places that several calls look at.
 ghost use mathlib.Core.Path.{_≡_};
 ghost use Prim.Native.Nat.{_+_, _%_, _^_, _<_};
-ghost use Rattle.layout.specs.Machine.{Reaches, ticksOf, updateTicks, gsumAt, gfmAt, runModeAt, dacNumberAt};
+ghost use Rattle.layout.specs.Machine.{Reaches, ticksOf, updateTicks, gsumAt, gfmAt};
 ghost use Rattle.layout.specs.Widths.{counterBits};
 
 // The length of the machine's run of words.
@@ -201,15 +201,6 @@ pub fn next_pass(counter: u32) -> u32
     std::num::wrapping_add_u32(counter, 1)
 }
 
-// The run mode of generator g.
-pub fn run_mode(m: &[u32], g: usize) -> u32
-    requires { ⌜ Reaches (now m) ⌝ }
-    requires { ⌜ g < 256 ⌝ }
-    ensures { λ r. ⌜ r ≡ runModeAt (now (m .entry)) g ⌝ }
-{
-    m[GENERATOR_WORDS * g + GMODE] / 64
-}
-
 // GFM of generator g.
 pub fn gfm(m: &[u32], g: usize) -> u32
     requires { ⌜ Reaches (now m) ⌝ }
@@ -226,13 +217,4 @@ pub fn gsum(m: &[u32], g: usize) -> usize
     ensures { λ r. ⌜ r ≡ gsumAt (now (m .entry)) g ⌝ }
 {
     wide(m[GENERATOR_WORDS * g + GSUM])
-}
-
-// The DAC number of generator g.
-pub fn dac_number(m: &[u32], g: usize) -> usize
-    requires { ⌜ Reaches (now m) ⌝ }
-    requires { ⌜ g < 256 ⌝ }
-    ensures { λ r. ⌜ (r ≡ dacNumberAt (now (m .entry)) g) × (r < 16) ⌝ }
-{
-    wide(m[GENERATOR_WORDS * g + GO] % 16)
 }

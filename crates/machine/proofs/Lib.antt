@@ -5,4 +5,4 @@ pub mod Sweep
 pub mod SoundMachine
 pub mod FreshMachine
 pub mod Asked
-pub mod OlderCounter
+pub mod NarrowCounter

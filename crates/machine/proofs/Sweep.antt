@@ -11,6 +11,8 @@ use lib.ListN.{getD}
 use Rattle.lists.specs.Lists.{allBelow}
 use Rattle.lists.proofs.Below.{below-same}
 use Rattle.layout.specs.Layout.{updateTicksAt}
+use Rattle.texts.specs.declared.Text.{Text}
+use Rattle.texts.specs.declared.Text.the-variants.{Of1978}
 use Rattle.machine_sweep.specs.Columns.{everyWord}
 use Rattle.machine_sweep.proofs.Words.{word-from}
 use Rattle.machine_sweep.proofs.EveryColumn.{everyColumn, limitTests, word-and}
@@ -21,31 +23,31 @@ use Rattle.machine.proofs.Limits.{region-swept}
 use Rattle.machine.proofs.Regions.{wordsOf, region, everyRegion, regions-columns}
 
 -- The regions' words together are those before the update ticks, which are the machine's last word.
-pub regions-cover : wordsOf regions ≡ updateTicksAt
+pub regions-cover : (text : Text) → wordsOf (regions text) ≡ updateTicksAt
 unfolding regions wordsOf
-regions-cover = refl
+regions-cover text = refl
 
-by-region : (m : List ℕ) → allBelow (wordPasses m) updateTicksAt ≡ allBelow (λ i. testAt regions i (getD m i 0)) updateTicksAt
+by-region : (text : Text) (m : List ℕ) → allBelow (wordPasses text m) updateTicksAt ≡ allBelow (λ i. testAt (regions text) i (getD m i 0)) updateTicksAt
 unfolding wordPasses
-by-region m =
-    below-same (wordPasses m) (λ i. testAt regions i (getD m i 0)) updateTicksAt
+by-region text m =
+    below-same (wordPasses text m) (λ i. testAt (regions text) i (getD m i 0)) updateTicksAt
     (λ i h. rw (ne-eqb i updateTicksAt (λ e. omega arith)))
 
-pub sound-columns : (m : List ℕ) → sound m ≡ (everyRegion regions m 0 && ticksCounted m)
+pub sound-columns : (text : Text) (m : List ℕ) → sound text m ≡ (everyRegion (regions text) m 0 && ticksCounted m)
 unfolding sound wordPasses
-sound-columns m =
-    and-comm (ticksCounted m) (allBelow (wordPasses m) updateTicksAt)
+sound-columns text m =
+    and-comm (ticksCounted m) (allBelow (wordPasses text m) updateTicksAt)
     ∙ ap (λ (b : Bool). b && ticksCounted m)
-    (by-region m ∙ ap (allBelow (λ i. testAt regions i (getD m i 0))) (sym regions-cover) ∙ regions-columns regions m)
+    (by-region text m ∙ ap (allBelow (λ i. testAt (regions text) i (getD m i 0))) (sym (regions-cover text)) ∙ regions-columns (regions text) m)
 
 -- A region's widths and its further tests are its registers' tests.
-generators-are : (m : List ℕ) (n : ℕ)
-    → (everyColumn (limitTests (limitsOf generatorRegisters)) m 0 11 0 n && everyWord runField m 0 11 10 n && everyWord oscillatorField m 0 11 10 n)
-    ≡ everyColumn (region regions 0 .tests) m 0 11 0 n
+generators-are : (text : Text) (m : List ℕ) (n : ℕ)
+    → (everyColumn (limitTests (limitsOf (generatorRegisters text))) m 0 11 0 n && everyWord runField m 0 11 10 n && everyWord oscillatorField m 0 11 10 n)
+    ≡ everyColumn (region (regions text) 0 .tests) m 0 11 0 n
 unfolding regions limitTests
-generators-are m n =
+generators-are Of1978 m n =
     simp (
-      word-and (bits 10) (λ x. runField x && oscillatorField x) goodGmode gmode-is,
+      word-and (bits 10) (λ x. runField x && oscillatorField x) (goodGmode Of1978) gmode-is,
       word-and runField oscillatorField (λ x. runField x && oscillatorField x) (λ x. refl),
       and-assoc,
       and-true,
@@ -58,14 +60,14 @@ apart a b c d e f g h true true z = refl
 apart a b c d e f g h true false z = simp and-false
 apart a b c d e f g h false y z = simp and-false
 
-modifiers-are : (m : List ℕ) (n : ℕ)
-    → (everyColumn (limitTests (limitsOf modifierRegisters)) m 2816 8 0 n && everyWord (λ x. ltb x 192) m 2816 8 4 n && everyWord (λ x. ltb x 192) m 2816 8 5 n && everyWord functionField m 2816 8 7 n)
-    ≡ everyColumn (region regions 1 .tests) m 2816 8 0 n
+modifiers-are : (text : Text) (m : List ℕ) (n : ℕ)
+    → (everyColumn (limitTests (limitsOf (modifierRegisters text))) m 2816 8 0 n && everyWord (λ x. ltb x 192) m 2816 8 4 n && everyWord (λ x. ltb x 192) m 2816 8 5 n && everyWord functionField m 2816 8 7 n)
+    ≡ everyColumn (region (regions text) 1 .tests) m 2816 8 0 n
 unfolding regions limitTests
-modifiers-are m n =
+modifiers-are Of1978 m n =
     simp (
       word-and (bits 8) (λ x. ltb x 192) goodAddress address-and,
-      word-and (bits 9) functionField goodMmode mmode-is,
+      word-and (bits 9) functionField (goodMmode Of1978) mmode-is,
       and-assoc,
       and-true,
     )
@@ -79,57 +81,57 @@ beside : (a b c d e f g x : Bool) → (a && (b && (c && (d && (e && (f && (g && 
 beside a b c d e f g true = simp and-true
 beside a b c d e f g false = simp and-false
 
-delays-are : (m : List ℕ) (n : ℕ)
-    → (everyColumn (limitTests (limitsOf delayRegisters)) m 4119 7 0 n && everyWord delayField m 4119 7 3 n) ≡ everyColumn (region regions 5 .tests) m 4119 7 0 n
+delays-are : (text : Text) (m : List ℕ) (n : ℕ)
+    → (everyColumn (limitTests (limitsOf delayRegisters)) m 4119 7 0 n && everyWord delayField m 4119 7 3 n) ≡ everyColumn (region (regions text) 5 .tests) m 4119 7 0 n
 unfolding regions limitTests
-delays-are m n =
+delays-are text m n =
     simp (word-and (bits 4) delayField (test delayMode) delay-mode-is, and-assoc, and-true)
     (beside (w 0 16) (w 1 16) (w 2 16) (w 3 4) (w 4 20) (w 5 20) (w 6 20) (everyWord delayField m 4119 7 3 n))
   where
     w : ℕ → ℕ → Bool
     w j k = everyWord (bits k) m 4119 7 j n
 
-generators-swept : (m : List ℕ) → generatorsWithin m ≡ everyColumn (region regions 0 .tests) m 0 11 0 256
+generators-swept : (text : Text) (m : List ℕ) → generatorsWithin text m ≡ everyColumn (region (regions text) 0 .tests) m 0 11 0 256
 unfolding generatorsWithin
-generators-swept m =
+generators-swept text m =
     rw (
-      region-swept generatorRegisters m 0 44 8 256 (lit< tt) (lit< tt) (λ i. omega arith) refl,
+      region-swept (generatorRegisters text) m 0 44 8 256 (lit< tt) (lit< tt) (λ i. omega arith) refl,
       word-from runField m 0 11 10 256,
       word-from oscillatorField m 0 11 10 256,
     )
-    (generators-are m 256)
+    (generators-are text m 256)
 
-modifiers-swept : (m : List ℕ) → modifiersWithin m ≡ everyColumn (region regions 1 .tests) m 2816 8 0 128
+modifiers-swept : (text : Text) (m : List ℕ) → modifiersWithin text m ≡ everyColumn (region (regions text) 1 .tests) m 2816 8 0 128
 unfolding modifiersWithin
-modifiers-swept m =
+modifiers-swept text m =
     rw (
-      region-swept modifierRegisters m 2816 16 8 128 (lit< tt) (lit< tt) (λ i. omega arith) refl,
+      region-swept (modifierRegisters text) m 2816 16 8 128 (lit< tt) (lit< tt) (λ i. omega arith) refl,
       word-from (λ x. ltb x 192) m 2816 8 4 128,
       word-from (λ x. ltb x 192) m 2816 8 5 128,
       word-from functionField m 2816 8 7 128,
     )
-    (modifiers-are m 128)
+    (modifiers-are text m 128)
 
-delays-swept : (m : List ℕ) → delaysWithin m ≡ everyColumn (region regions 5 .tests) m 4119 7 0 32
+delays-swept : (text : Text) (m : List ℕ) → delaysWithin m ≡ everyColumn (region (regions text) 5 .tests) m 4119 7 0 32
 unfolding delaysWithin
-delays-swept m =
+delays-swept text m =
     rw (region-swept delayRegisters m 4119 28 1 32 (lit< tt) (lit< tt) (λ i. omega arith) refl, word-from delayField m 4119 7 3 32)
-    (delays-are m 32)
+    (delays-are text m 32)
 
-controls-are : (m : List ℕ) → controlsWithin m ≡ everyColumn (region regions 4 .tests) m 4112 7 0 1
+controls-are : (text : Text) (m : List ℕ) → controlsWithin m ≡ everyColumn (region (regions text) 4 .tests) m 4112 7 0 1
 unfolding regions everyWord
-controls-are m = simp (leb·zero, and-assoc, and-true)
+controls-are text m = simp (leb·zero, and-assoc, and-true)
 
 six : (a b c d e f : Bool) → (a && (b && (c && true && (d && true && (e && (f && true)))))) ≡ (a && b && c && d && e && f)
 six a b c d e f = simp (and-assoc, and-true)
 
 -- The sweep's answer.
-pub sound-swept : (m : List ℕ)
-    → sound m ≡ (generatorsWithin m && modifiersWithin m && everyWord (bits 20) m 3840 1 0 256 && everyWord (bits 20) m 4096 1 0 16 && controlsWithin m && delaysWithin m && ticksCounted m)
+pub sound-swept : (text : Text) (m : List ℕ)
+    → sound text m ≡ (generatorsWithin text m && modifiersWithin text m && everyWord (bits 20) m 3840 1 0 256 && everyWord (bits 20) m 4096 1 0 16 && controlsWithin m && delaysWithin m && ticksCounted m)
 unfolding regions
-sound-swept m =
-    sound-columns m
-    ∙ ap (λ (b : Bool). b && ticksCounted m) (six (everyColumn (region regions 0 .tests) m 0 11 0 256) (everyColumn (region regions 1 .tests) m 2816 8 0 128)
-    (everyWord (bits 20) m 3840 1 0 256) (everyWord (bits 20) m 4096 1 0 16) (everyColumn (region regions 4 .tests) m 4112 7 0 1)
-    (everyColumn (region regions 5 .tests) m 4119 7 0 32))
-    ∙ rw (generators-swept m, modifiers-swept m, controls-are m, delays-swept m)
+sound-swept text m =
+    sound-columns text m
+    ∙ ap (λ (b : Bool). b && ticksCounted m) (six (everyColumn (region (regions text) 0 .tests) m 0 11 0 256) (everyColumn (region (regions text) 1 .tests) m 2816 8 0 128)
+    (everyWord (bits 20) m 3840 1 0 256) (everyWord (bits 20) m 4096 1 0 16) (everyColumn (region (regions text) 4 .tests) m 4112 7 0 1)
+    (everyColumn (region (regions text) 5 .tests) m 4119 7 0 32))
+    ∙ rw (generators-swept text m, modifiers-swept text m, controls-are text m, delays-swept text m)

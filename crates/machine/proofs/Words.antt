@@ -7,11 +7,13 @@ use native.Mathlib.Omega.{arith}
 use native.Mathlib.Nat.{mod-eq-of-lt}
 use borrow.Author.Tests.{ltb-true, ltb-false, lt-ltb, eq-eqb, ne-eqb}
 use lib.Dec.{eqb, ltb}
-use Rattle.lists.proofs.Below.{and-second, and-both}
+use Rattle.lists.proofs.Below.{and-first, and-second, and-both}
 use Rattle.modes.specs.Modes.{builtRun, builtOscillator}
-use Rattle.built_codes.specs.BuiltCodes.{builtMode}
+use Rattle.built_codes.specs.BuiltCodes.{builtFunction, builtMode}
 use Rattle.machine.specs.Questions.{bits, builtModes, goodGmode, builtSource, goodAddress, builtMmode, goodMmode, test, delayMode}
 use Rattle.machine.specs.Loops.{runField, oscillatorField, functionField, delayField}
+use Rattle.texts.specs.declared.Text.{Text}
+use Rattle.texts.specs.declared.Text.the-variants.{Of1978}
 
 -- Eight bits of which the top two are not 11 are the numbers below 192.
 pub address-is : (x : ℕ) → ltb x 192 ≡ goodAddress x
@@ -38,7 +40,7 @@ address-and x = by-width (bits 8 x) refl where
   by-width true e = sym (address-is x ∙ rw e)
 
 -- In a word of 10 bits the run mode is the bits from 2^6 on, and in one of 9 bits the function is the bits from 2^4 on.
-pub gmode-is : (x : ℕ) → goodGmode x ≡ (bits 10 x && (runField x && oscillatorField x))
+pub gmode-is : (x : ℕ) → goodGmode Of1978 x ≡ (bits 10 x && (runField x && oscillatorField x))
 gmode-is x = by-width (bits 10 x) refl where
   by-width : (b : Bool) → bits 10 x ≡ b → (b && builtModes x) ≡ (b && (runField x && oscillatorField x))
   by-width false e = refl
@@ -47,21 +49,35 @@ gmode-is x = by-width (bits 10 x) refl where
       let low : x / 2 ^ 0 % 32 % 16 ≡ x % 16 = omega arith in
       rw (mod-eq-of-lt {n = x / 64} {m = 32} (omega arith), low)
 
--- A good GMODE from its three parts, and its oscillator mode.
-pub gmode-from : (x : ℕ) → x < 2 ^ 10 → builtRun (x / 2 ^ 6) ≡ true → builtOscillator (x % 2 ^ 4) ≡ true → goodGmode x ≡ true
+-- A good GMODE has at most 10 bits, a good MMODE 9.
+pub gmode-low : (text : Text) (x : ℕ) → goodGmode text x ≡ true → x < 2 ^ 10
+gmode-low Of1978 x e = ltb-true x (2 ^ 10) (and-first (bits 10 x) _ e)
+
+pub mmode-low : (text : Text) (x : ℕ) → goodMmode text x ≡ true → x < 2 ^ 9
+mmode-low Of1978 x e = ltb-true x (2 ^ 9) (and-first (bits 9 x) _ e)
+
+-- A good GMODE from its three parts, its run mode and its oscillator mode.
+pub gmode-from : (x : ℕ) → x < 2 ^ 10 → builtRun (x / 2 ^ 6) ≡ true → builtOscillator (x % 2 ^ 4) ≡ true → goodGmode Of1978 x ≡ true
 gmode-from x h run oscillator =
     and-both (bits 10 x) (builtModes x) (lt-ltb x (2 ^ 10) h) (and-both (builtRun (x / 2 ^ 6)) (builtOscillator (x % 2 ^ 4)) run oscillator)
 
-pub gmode-oscillator : (x : ℕ) → goodGmode x ≡ true → builtOscillator (x % 2 ^ 4) ≡ true
+pub gmode-run : (x : ℕ) → goodGmode Of1978 x ≡ true → builtRun (x / 2 ^ 6) ≡ true
+gmode-run x e = and-first (builtRun (x / 2 ^ 6)) (builtOscillator (x % 2 ^ 4)) (and-second (bits 10 x) (builtModes x) e)
+
+pub gmode-oscillator : (x : ℕ) → goodGmode Of1978 x ≡ true → builtOscillator (x % 2 ^ 4) ≡ true
 gmode-oscillator x e = and-second (builtRun (x / 2 ^ 6)) (builtOscillator (x % 2 ^ 4)) (and-second (bits 10 x) (builtModes x) e)
 
-pub mmode-is : (x : ℕ) → goodMmode x ≡ (bits 9 x && functionField x)
+pub mmode-is : (x : ℕ) → goodMmode Of1978 x ≡ (bits 9 x && functionField x)
 mmode-is x = by-width (bits 9 x) refl where
   by-width : (b : Bool) → bits 9 x ≡ b → (b && builtMmode x) ≡ (b && functionField x)
   by-width false e = refl
   by-width true e =
       let h : x < 512 = ltb-true x 512 e in
       rw (mod-eq-of-lt {n = x / 16} {m = 32} (omega arith))
+
+-- A good MMODE has a built function.
+pub mmode-function : (x : ℕ) → goodMmode Of1978 x ≡ true → builtFunction (x / 2 ^ 4) ≡ true
+mmode-function x e = and-second (bits 9 x) (builtMmode x) e
 
 -- A word of 4 bits is a delay unit's mode.
 pub delay-mode-is : (x : ℕ) → test delayMode x ≡ (bits 4 x && delayField x)

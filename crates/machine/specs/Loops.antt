@@ -11,6 +11,7 @@ use Rattle.built_codes.specs.BuiltCodes.{builtFunction, builtMode}
 use Rattle.layout.specs.Layout.{generatorWords, GMODE, modifierAt, modifierWords, MIN, MRM, MMODE, dxAt, tAt, nAt, counterAt, lingeringAt, lingerPassAt, overrunAt, delayAt, delayWords, delayP, updateTicksAt}
 use Rattle.layout.specs.Machine.{updateTicksOf}
 use Rattle.layout.specs.Widths.{wordBits, counterBits, lingerBits}
+use Rattle.texts.specs.declared.Text.{Text}
 use Rattle.machine_sweep.specs.Columns.{everyWord, swept}
 use Rattle.machine.specs.Questions.{Register, width, bits, between, generatorRegisters, modifierRegisters, delayRegisters}
 
@@ -37,15 +38,15 @@ abbrev pub delayField : ℕ → Bool
 delayField x = builtMode (x / 2 ^ 0 % 32 % 16)
 
 -- The words of all generators, in rows of four generators.
-unfoldable pub generatorsWithin : List ℕ → Bool
-generatorsWithin m =
-    swept (repeated (limitsOf generatorRegisters) 44) m 0 8 && everyWord runField m GMODE generatorWords 0 256
+unfoldable pub generatorsWithin : Text → List ℕ → Bool
+generatorsWithin text m =
+    swept (repeated (limitsOf (generatorRegisters text)) 44) m 0 8 && everyWord runField m GMODE generatorWords 0 256
     && everyWord oscillatorField m GMODE generatorWords 0 256
 
 -- The words of all modifiers, in rows of two modifiers.
-unfoldable pub modifiersWithin : List ℕ → Bool
-modifiersWithin m =
-    swept (repeated (limitsOf modifierRegisters) 16) m (modifierAt 0) 8 && everyWord (λ x. ltb x 192) m (modifierAt 0 + MIN) modifierWords 0 128
+unfoldable pub modifiersWithin : Text → List ℕ → Bool
+modifiersWithin text m =
+    swept (repeated (limitsOf (modifierRegisters text)) 16) m (modifierAt 0) 8 && everyWord (λ x. ltb x 192) m (modifierAt 0 + MIN) modifierWords 0 128
     && everyWord (λ x. ltb x 192) m (modifierAt 0 + MRM) modifierWords 0 128 && everyWord functionField m (modifierAt 0 + MMODE) modifierWords 0 128
 
 -- DX, T, N, the counter, lingering, the Linger pass and overrun are within their ranges.

@@ -7,6 +7,7 @@ ghost use Rattle.machine.specs.Questions.{question1, question2, sound, g
 ghost use Rattle.machine.specs.Loops.{limitsOf, repeated, generatorsWithin, modifiersWithin, controlsWithin, delaysWithin, ticksCounted};
 ghost use Rattle.questions.specs.Questions.{asked};
 ghost use Rattle.lists.specs.Lists.{zeros};
+use texts::Text;
 
 // What the registers of a generator are below, for the four generators of a row.
 const GENERATOR_LIMITS: [u32; 44] = [
@@ -116,16 +117,20 @@ pub fn built_address(address: u32) -> bool
 }
 
 // The limits' tables: the widths that the definition's list of registers has.
-fn generator_limits() -> [u32; 44]
-    ensures { λ r. ⌜ r ≡ repeated (limitsOf generatorRegisters) 44 ⌝ }
+fn generator_limits(text: Text) -> [u32; 44]
+    ensures { λ r. ⌜ r ≡ repeated (limitsOf (generatorRegisters text)) 44 ⌝ }
 {
-    GENERATOR_LIMITS
+    match text {
+        Text::Of1978 => GENERATOR_LIMITS,
+    }
 }
 
-fn modifier_limits() -> [u32; 16]
-    ensures { λ r. ⌜ r ≡ repeated (limitsOf modifierRegisters) 16 ⌝ }
+fn modifier_limits(text: Text) -> [u32; 16]
+    ensures { λ r. ⌜ r ≡ repeated (limitsOf (modifierRegisters text)) 16 ⌝ }
 {
-    MODIFIER_LIMITS
+    match text {
+        Text::Of1978 => MODIFIER_LIMITS,
+    }
 }
 
 fn delay_limits() -> [u32; 28]
@@ -136,11 +141,11 @@ fn delay_limits() -> [u32; 28]
 
 // All generators' words within their widths, with built run modes and oscillator modes.
 // Flags are by five bits, of which an oscillator mode has four: its flags stand twice.
-fn generators_within(m: &[u32]) -> bool
+fn generators_within(text: Text, m: &[u32]) -> bool
     requires { ⌜ Reaches (now m) ⌝ }
-    ensures { λ r. ⌜ r ≡ generatorsWithin (now (m .entry)) ⌝ }
+    ensures { λ r. ⌜ r ≡ generatorsWithin text (now (m .entry)) ⌝ }
 {
-    let limits = generator_limits();
+    let limits = generator_limits(text);
     let runs = machine_sweep::flags(modes::BUILT_RUN);
     let oscillators = machine_sweep::flags(65537 * modes::BUILT_OSCILLATOR);
     let n = layout::GENERATORS;
@@ -151,11 +156,11 @@ fn generators_within(m: &[u32]) -> bool
 }
 
 // All modifiers' words within their widths, with built functions and no MIN or MRM top bits 11.
-fn modifiers_within(m: &[u32]) -> bool
+fn modifiers_within(text: Text, m: &[u32]) -> bool
     requires { ⌜ Reaches (now m) ⌝ }
-    ensures { λ r. ⌜ r ≡ modifiersWithin (now (m .entry)) ⌝ }
+    ensures { λ r. ⌜ r ≡ modifiersWithin text (now (m .entry)) ⌝ }
 {
-    let limits = modifier_limits();
+    let limits = modifier_limits(text);
     let functions = machine_sweep::flags(built_codes::BUILT_FUNCTION);
     let at = layout::MODIFIERS_AT;
     let n = layout::MODIFIERS;
@@ -211,9 +216,9 @@ fn ticks_counted(m: &[u32]) -> bool
 }
 
 // Question 2: all words within their width and range, with built modes and no MIN or MRM top bits 11, and the update ticks those of T and N.
-pub fn sound(m: &[u32]) -> bool
+pub fn sound(text: Text, m: &[u32]) -> bool
     requires { ⌜ Reaches (now m) ⌝ }
-    ensures { λ r. ⌜ r ≡ sound (now (m .entry)) ⌝ }
+    ensures { λ r. ⌜ r ≡ sound text (now (m .entry)) ⌝ }
 {
     let sums = machine_sweep::words_below(
         m,
@@ -223,8 +228,8 @@ pub fn sound(m: &[u32]) -> bool
         layout::WORD_LIMIT,
     );
     let dacs = machine_sweep::words_below(m, layout::DACS_AT, 1, layout::DACS, layout::WORD_LIMIT);
-    generators_within(m)
-        & modifiers_within(m)
+    generators_within(text, m)
+        & modifiers_within(text, m)
         & sums
         & dacs
         & controls_within(m)
@@ -233,13 +238,13 @@ pub fn sound(m: &[u32]) -> bool
 }
 
 // The number of the first of questions 1 and 2 that is answered no, or 0.
-pub fn refusal(m: &[u32]) -> u32
-    ensures { λ r. ⌜ r ≡ asked (question1 (now (m .entry)) ∷ question2 (now (m .entry)) ∷ []) ⌝ }
+pub fn refusal(text: Text, m: &[u32]) -> u32
+    ensures { λ r. ⌜ r ≡ asked (question1 (now (m .entry)) ∷ question2 text (now (m .entry)) ∷ []) ⌝ }
 {
     if m.len() != layout::MACHINE_LENGTH {
         return 1;
     }
-    if !sound(m) {
+    if !sound(text, m) {
         return 2;
     }
     0

@@ -7,16 +7,16 @@ use lib.Dec.{eqb}
 use lib.ListN.{getD, set}
 use Rattle.words.specs.Words.{sum}
 use Rattle.layout.specs.Machine.{Sums}
+use Rattle.texts.specs.declared.Text.{Text}
 use Rattle.modifier.specs.declared.Modifier.{Modifier}
 use Rattle.modifier.specs.declared.Turned.{Turned}
 use Rattle.modifier.specs.Modifier.{functionOf}
-use Rattle.modifier_turn.specs.Turn.{turnOf, readsLate}
 use Rattle.sums.specs.Sums.{wordAt}
-use Rattle.pass_model.specs.Modifiers.{Write, seen}
+use Rattle.pass_model.specs.Modifiers.{Write, seen, modifierTurn, modifierReadsLate}
 
 -- The turn of a modifier that invokes no delay unit: B beside A.
-unfoldable pub turnBeside : Sums → List ℕ → List ℕ → Modifier → Turned
-turnBeside s early late u = turnOf u (seen s (cond (readsLate (functionOf u)) late early) (u .min)) (seen s early (u .mrm))
+unfoldable pub turnBeside : Text → Sums → List ℕ → List ℕ → Modifier → Turned
+turnBeside text s early late u = modifierTurn text u (seen s (cond (modifierReadsLate text (functionOf u)) late early) (u .min)) (seen s early (u .mrm))
 
 -- The word that a write leaves at its place of a quadrant.
 unfoldable pub wordLeft : List ℕ → Write → ℕ

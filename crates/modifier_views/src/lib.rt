@@ -6,12 +6,13 @@ ghost use lib.ListN.{getD, set};
 ghost use Rattle.words.specs.Words.{Word};
 ghost use Rattle.modifier.specs.Modifier.{Ranged};
 ghost use Rattle.sums.specs.Sums.{modifierThis};
-ghost use Rattle.pass_model.specs.Modifiers.{withWrite, seen};
+ghost use Rattle.pass_model.specs.Modifiers.{withWrite, modifierTurn, modifierReadsLate, seen};
 ghost use Rattle.modifier_views.specs.Views.{turnBeside, wordLeft, caughtUp};
 use modifier::Modifier;
 use modifier::Turned;
 use sums::Quadrant;
 use sums::Sums;
+use texts::Text;
 
 // One of the last four writes in each slot: its MSUM, or the word that it left.
 pub type Ring = [u32; 4];
@@ -30,17 +31,38 @@ pub fn look(s: &Sums, view: &Quadrant, address: u32) -> u32
     sums::word_at(view, i)
 }
 
-// The turn of a modifier that reads B early, and A late or early by its function. The late view is modifier-this itself.
-pub fn turned(s: &Sums, early: &Quadrant, u: Modifier) -> Turned
+// Whether a function reads A late, by a text.
+fn reads_late(text: Text, function: u32) -> bool
+    requires { ⌜ function < 32 ⌝ }
+    ensures { λ r. ⌜ r ≡ modifierReadsLate text function ⌝ }
+{
+    match text {
+        Text::Of1978 => modifier_turn::reads_late(function),
+    }
+}
+
+// A modifier's turn by a text, with A and B.
+fn turn(text: Text, u: Modifier, a: u32, b: u32) -> Turned
     requires { ⌜ Ranged u ⌝ }
-    ensures { λ r. ⌜ r ≡ turnBeside (now (s .entry)) (now (early .entry)) (getD (now (s .entry)) modifierThis []) u ⌝ }
+    requires { ⌜ (a < 2 ^ 20) × (b < 2 ^ 20) ⌝ }
+    ensures { λ r. ⌜ r ≡ modifierTurn text u a b ⌝ }
+{
+    match text {
+        Text::Of1978 => modifier_turn::turn(u, a, b),
+    }
+}
+
+// The turn of a modifier that reads B early, and A late or early by its function. The late view is modifier-this itself.
+pub fn turned(text: Text, s: &Sums, early: &Quadrant, u: Modifier) -> Turned
+    requires { ⌜ Ranged u ⌝ }
+    ensures { λ r. ⌜ r ≡ turnBeside text (now (s .entry)) (now (early .entry)) (getD (now (s .entry)) modifierThis []) u ⌝ }
 {
     let late = &s[sums::MODIFIER_THIS];
     let b = look(s, early, u.mrm);
-    if modifier_turn::reads_late(u.function()) {
-        return modifier_turn::turn(u, look(s, late, u.min), b);
+    if reads_late(text, u.function()) {
+        return turn(text, u, look(s, late, u.min), b);
     }
-    modifier_turn::turn(u, look(s, early, u.min), b)
+    turn(text, u, look(s, early, u.min), b)
 }
 
 // S is added into the word of modifier-this at MSUM, or replaces it; the answer is the word that this leaves.

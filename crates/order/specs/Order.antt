@@ -6,7 +6,9 @@ use mathlib.Core.Path.{_≡_}
 use lib.Dec.{eqb, leb}
 use lib.ListN.{length, getD}
 use Rattle.lists.specs.Lists.{allBelow, count, countBelow}
-use Rattle.layout.specs.Machine.{Machine, Order, Items, Places, ticksOf, runModeAt}
+use Rattle.layout.specs.Machine.{Machine, Order, Items, Places, ticksOf}
+use Rattle.texts.specs.Texts.{runModeAt}
+use Rattle.texts.specs.declared.Text.{Text}
 use Rattle.modes.specs.Modes.{readData, writeData}
 use Rattle.questions.specs.Questions.{Question}
 
@@ -28,13 +30,13 @@ pub record IsOrder (t : ℕ) (order : Order) : Type 0 where
   pub below : (i : ℕ) → i < length order → getD order i 0 < t
 
 -- How many generators below T are in a run mode.
-unfoldable pub inMode : Machine → ℕ → ℕ
-inMode m r = countBelow (λ g. eqb (runModeAt m g) r) (ticksOf m)
+unfoldable pub inMode : Text → Machine → ℕ → ℕ
+inMode text m r = countBelow (λ g. eqb (runModeAt text m g) r) (ticksOf m)
 
 -- Question 7: there are read items for all 0111s below T.
-abbrev pub question7 : Machine → Items → Question
-question7 m items = record { number = 7; yes = leb (inMode m readData) (length items) }
+abbrev pub question7 : Text → Machine → Items → Question
+question7 text m items = record { number = 7; yes = leb (inMode text m readData) (length items) }
 
 -- Question 8: there are written places for all 0011s below T.
-abbrev pub question8 : Machine → Places → Question
-question8 m places = record { number = 8; yes = leb (inMode m writeData) (length places) }
+abbrev pub question8 : Text → Machine → Places → Question
+question8 text m places = record { number = 8; yes = leb (inMode text m writeData) (length places) }

@@ -11,6 +11,7 @@ ghost use Rattle.questions.specs.Questions.{asked};
 ghost use Rattle.modes.specs.Modes.{readData, writeData};
 ghost use Rattle.order.specs.Order.{question5, question6, eachOnce, inMode};
 ghost use Rattle.order.specs.Loops.{unmarked, marked};
+use texts::Text;
 
 // How many generators below T read data, and how many write data.
 pub struct Counts {
@@ -73,16 +74,16 @@ fn is_mode(run: u32, mode: u32) -> usize
 }
 
 // How many generators below T are in 0111, and how many in 0011.
-pub fn in_modes(m: &[u32]) -> Counts
+pub fn in_modes(text: Text, m: &[u32]) -> Counts
     requires { ⌜ Reaches (now m) × (ticksOf (now m) ≤ generators) ⌝ }
-    ensures { λ r. ⌜ (r .reads ≡ inMode (now (m .entry)) readData) × (r .writes ≡ inMode (now (m .entry)) writeData) ⌝ }
+    ensures { λ r. ⌜ (r .reads ≡ inMode text (now (m .entry)) readData) × (r .writes ≡ inMode text (now (m .entry)) writeData) ⌝ }
 {
     let t = layout::ticks(m);
     let mut reads: usize = 0;
     let mut writes: usize = 0;
     let mut g: usize = 0;
     while g < t {
-        let run = layout::run_mode(m, g);
+        let run = texts::run_mode(text, m, g);
         reads += is_mode(run, modes::READ_DATA);
         writes += is_mode(run, modes::WRITE_DATA);
         g += 1;

@@ -7,7 +7,10 @@ use mathlib.Core.Path.{_≡_}
 use lib.Dec.{eqb, leb}
 use Rattle.modes.specs.Modes.{wait, writeData, writeDAC, free, adds, replaces}
 use Rattle.layout.specs.Layout.{dacs, quadrantWords}
-use Rattle.layout.specs.Machine.{Machine, Order, ticksOf, runModeAt, gsumAt, gfmAt, dacNumberAt}
+use Rattle.layout.specs.Machine.{Machine, Order, ticksOf, gsumAt}
+use Rattle.texts.specs.Texts.{runModeAt, dacNumberAt}
+use Rattle.texts.specs.declared.Text.{Text}
+use Rattle.texts.specs.Texts.{sourceAt, distanceOf}
 use Rattle.order_lists.specs.Sequences.{keep, lastOf, placeOf, before}
 
 -- What the four points look at: how many generators there are, how far below its lower neighbour stands, and of each generator
@@ -25,21 +28,21 @@ pub record Settings : Type 0 where
   pub replacing : ℕ → Bool
   pub adding : ℕ → Bool
 
--- A machine's: the lower neighbour of g is g-1; 1001 waits; 1110 and 1101 can trigger; a DAC is fed by the 0010 generators with its number;
--- 0011 writes data; GFM tells apart what is sent; a word's generators are those with its GSUM; 0111 replaces; adding ones are those whose run mode has adding on.
-abbrev pub settingsOf : Machine → Settings
-settingsOf m =
+-- A machine's, by its text's run modes, neighbours and sources: 1001 waits; 1110 and 1101 can trigger; a DAC is fed by the 0010 generators with its number;
+-- 0011 writes data; a word's generators are those with its GSUM; 0111 replaces; adding ones are those whose run mode has adding on.
+abbrev pub settingsOf : Text → Machine → Settings
+settingsOf text m =
     record {
       ticks = ticksOf m;
-      distance = 1;
-      waits = λ g. eqb (runModeAt m g) wait;
-      triggering = λ g. free (runModeAt m g);
-      feeds = λ d g. eqb (runModeAt m g) writeDAC && eqb (dacNumberAt m g) d;
-      writes = λ g. eqb (runModeAt m g) writeData;
-      source = gfmAt m;
+      distance = distanceOf text;
+      waits = λ g. eqb (runModeAt text m g) wait;
+      triggering = λ g. free (runModeAt text m g);
+      feeds = λ d g. eqb (runModeAt text m g) writeDAC && eqb (dacNumberAt text m g) d;
+      writes = λ g. eqb (runModeAt text m g) writeData;
+      source = sourceAt text m;
       onWord = λ w g. eqb (gsumAt m g) w;
-      replacing = λ g. replaces (runModeAt m g);
-      adding = λ g. adds (runModeAt m g);
+      replacing = λ g. replaces (runModeAt text m g);
+      adding = λ g. adds (runModeAt text m g);
     }
 
 module _ (s : Settings) where
@@ -85,5 +88,5 @@ module _ (s : Settings) where
     pub words : (w g : ℕ) → w < quadrantWords → g < s .ticks → replacesWord w g ≡ true → SameWord w o₁ o₂
 
 -- Two orders of a machine's generators agree on the four points.
-abbrev pub Agree : Machine → Order → Order → Type 0
-Agree m o₁ o₂ = Agreeing (settingsOf m) o₁ o₂
+abbrev pub Agree : Text → Machine → Order → Order → Type 0
+Agree text m o₁ o₂ = Agreeing (settingsOf text m) o₁ o₂

@@ -10,6 +10,7 @@ use lib.Dec.{eqb}
 use Rattle.lists.proofs.Counts.{count-below-le}
 use Rattle.layout.specs.Layout.{generators, quadrantWords, dacs}
 use Rattle.layout.specs.Machine.{Machine, Order, ticksOf}
+use Rattle.texts.specs.declared.Text.{Text}
 use Rattle.order.specs.Order.{IsOrder}
 use Rattle.order_lists.proofs.Failing.{failing-lowest}
 use Rattle.order_agreement.specs.Agreement.{settingsOf}
@@ -20,87 +21,87 @@ use Rattle.order_traces.proofs.Holds.{trace-holds}
 use Rattle.order_points.specs.Loops.{sidesOf}
 
 -- The fields of two traces.
-module _ (m : Machine) (o₁ o₂ : Order) {t₁ t₂ : Trace} (e₁ : t₁ ≡ traceOf m o₁) (e₂ : t₂ ≡ traceOf m o₂) where
-  pub both-places : record { first = t₁ .place; second = t₂ .place } ≡ sidesOf m o₁ o₂
+module _ (text : Text) (m : Machine) (o₁ o₂ : Order) {t₁ t₂ : Trace} (e₁ : t₁ ≡ traceOf text m o₁) (e₂ : t₂ ≡ traceOf text m o₂) where
+  pub both-places : record { first = t₁ .place; second = t₂ .place } ≡ sidesOf text m o₁ o₂
   both-places = rw (e₁, e₂) refl
 
-  pub both-fed : (t₁ .fed ≡ traceOf m o₁ .fed) × (t₂ .fed ≡ traceOf m o₂ .fed)
+  pub both-fed : (t₁ .fed ≡ traceOf text m o₁ .fed) × (t₂ .fed ≡ traceOf text m o₂ .fed)
   both-fed = (ap (λ (t : Trace). t .fed) e₁, ap (λ (t : Trace). t .fed) e₂)
 
-  pub both-written : (t₁ .written ≡ traceOf m o₁ .written) × (t₂ .written ≡ traceOf m o₂ .written)
+  pub both-written : (t₁ .written ≡ traceOf text m o₁ .written) × (t₂ .written ≡ traceOf text m o₂ .written)
   both-written = (ap (λ (t : Trace). t .written) e₁, ap (λ (t : Trace). t .written) e₂)
 
-  pub both-replaced : (t₁ .replaced ≡ traceOf m o₁ .replaced) × (t₂ .replaced ≡ traceOf m o₂ .replaced)
+  pub both-replaced : (t₁ .replaced ≡ traceOf text m o₁ .replaced) × (t₂ .replaced ≡ traceOf text m o₂ .replaced)
   both-replaced = (ap (λ (t : Trace). t .replaced) e₁, ap (λ (t : Trace). t .replaced) e₂)
 
-pub writes-of : (m : Machine) (o : Order) {t : Trace} → t ≡ traceOf m o → t .counts .writes ≡ traceOf m o .counts .writes
-writes-of m o e = ap (λ (t : Trace). t .counts .writes) e
+pub writes-of : (text : Text) (m : Machine) (o : Order) {t : Trace} → t ≡ traceOf text m o → t .counts .writes ≡ traceOf text m o .counts .writes
+writes-of text m o e = ap (λ (t : Trace). t .counts .writes) e
 
 -- The first point that fails, by what the code finds one after the other.
-module _ (m : Machine) (o₁ o₂ : Order) where
+module _ (text : Text) (m : Machine) (o₁ o₂ : Order) where
   -- The fourth point.
-  module _ {w : ℕ} (is : w ≡ wordPoint (settingsOf m) o₁ o₂) where
-    pub no-word : w ≡ quadrantWords → _≡_ {A = Failing} (record { point = 0; place = 0; sounding = 0 }) (failingWord (settingsOf m) o₁ o₂)
+  module _ {w : ℕ} (is : w ≡ wordPoint (settingsOf text m) o₁ o₂) where
+    pub no-word : w ≡ quadrantWords → _≡_ {A = Failing} (record { point = 0; place = 0; sounding = 0 }) (failingWord (settingsOf text m) o₁ o₂)
     unfolding failingWord
     no-word e = rw (← is, e)
 
-    pub failing-at : w ≢ quadrantWords → (w < quadrantWords) × (wordSame (settingsOf m) o₁ o₂ w ≡ false)
+    pub failing-at : w ≢ quadrantWords → (w < quadrantWords) × (wordSame (settingsOf text m) o₁ o₂ w ≡ false)
     unfolding wordPoint
     failing-at h =
-        let f = fails-at (wordSame (settingsOf m) o₁ o₂) quadrantWords (ne-eqb _ quadrantWords (λ e. h (is ∙ e))) in
+        let f = fails-at (wordSame (settingsOf text m) o₁ o₂) quadrantWords (ne-eqb _ quadrantWords (λ e. h (is ∙ e))) in
         rw is (f .below, f .fails)
 
-    pub some-word : w ≢ quadrantWords → {k : ℕ} → k ≡ soundingAt (settingsOf m) o₁ o₂ w
-        → _≡_ {A = Failing} (record { point = 4; place = w; sounding = k }) (failingWord (settingsOf m) o₁ o₂)
+    pub some-word : w ≢ quadrantWords → {k : ℕ} → k ≡ soundingAt (settingsOf text m) o₁ o₂ w
+        → _≡_ {A = Failing} (record { point = 4; place = w; sounding = k }) (failingWord (settingsOf text m) o₁ o₂)
     unfolding failingWord
     some-word h e = rw (← is, ne-eqb w quadrantWords h, e)
 
   -- The others, one after the other.
-  module _ {g t : ℕ} (is-g : g ≡ neighbourPoint (settingsOf m) o₁ o₂) (is-t : t ≡ ticksOf m) where
+  module _ {g t : ℕ} (is-g : g ≡ neighbourPoint (settingsOf text m) o₁ o₂) (is-t : t ≡ ticksOf m) where
     pub neighbour-within : g ≤ t
     unfolding neighbourPoint
-    neighbour-within = rw (is-g, is-t) (failing-lowest (neighbourSame (settingsOf m) o₁ o₂) (ticksOf m) .within)
+    neighbour-within = rw (is-g, is-t) (failing-lowest (neighbourSame (settingsOf text m) o₁ o₂) (ticksOf m) .within)
 
-    pub first-fails : g ≢ t → _≡_ {A = Failing} (record { point = 1; place = g; sounding = 0 }) (firstPoint (settingsOf m) o₁ o₂)
+    pub first-fails : g ≢ t → _≡_ {A = Failing} (record { point = 1; place = g; sounding = 0 }) (firstPoint (settingsOf text m) o₁ o₂)
     unfolding firstPoint
-    first-fails h = rw (ne-eqb (neighbourPoint (settingsOf m) o₁ o₂) (ticksOf m) (λ e. h (is-g ∙ e ∙ sym is-t)), is-g)
+    first-fails h = rw (ne-eqb (neighbourPoint (settingsOf text m) o₁ o₂) (ticksOf m) (λ e. h (is-g ∙ e ∙ sym is-t)), is-g)
 
-    module _ (holds : g ≡ t) {d : ℕ} (is-d : d ≡ feederPoint (settingsOf m) o₁ o₂) where
+    module _ (holds : g ≡ t) {d : ℕ} (is-d : d ≡ feederPoint (settingsOf text m) o₁ o₂) where
       pub feeder-within : d ≤ dacs
       unfolding feederPoint
-      feeder-within = rw is-d (failing-lowest (feederSame (settingsOf m) o₁ o₂) dacs .within)
+      feeder-within = rw is-d (failing-lowest (feederSame (settingsOf text m) o₁ o₂) dacs .within)
 
-      first-holds : eqb (neighbourPoint (settingsOf m) o₁ o₂) (ticksOf m) ≡ true
+      first-holds : eqb (neighbourPoint (settingsOf text m) o₁ o₂) (ticksOf m) ≡ true
       first-holds = eq-eqb _ _ (sym is-g ∙ holds ∙ is-t)
 
-      pub second-fails : d ≢ dacs → _≡_ {A = Failing} (record { point = 2; place = d; sounding = 0 }) (firstPoint (settingsOf m) o₁ o₂)
+      pub second-fails : d ≢ dacs → _≡_ {A = Failing} (record { point = 2; place = d; sounding = 0 }) (firstPoint (settingsOf text m) o₁ o₂)
       unfolding firstPoint
-      second-fails h = rw (first-holds, ne-eqb (feederPoint (settingsOf m) o₁ o₂) dacs (λ e. h (is-d ∙ e)), is-d)
+      second-fails h = rw (first-holds, ne-eqb (feederPoint (settingsOf text m) o₁ o₂) dacs (λ e. h (is-d ∙ e)), is-d)
 
-      module _ (fed : d ≡ dacs) {i n : ℕ} (is-i : i ≡ writerPoint (settingsOf m) o₁ o₂) (is-n : n ≡ writersOf (settingsOf m) o₁ o₂) where
+      module _ (fed : d ≡ dacs) {i n : ℕ} (is-i : i ≡ writerPoint (settingsOf text m) o₁ o₂) (is-n : n ≡ writersOf (settingsOf text m) o₁ o₂) where
         pub writer-within : i ≤ n
         unfolding writerPoint
-        writer-within = rw (is-i, is-n) (failing-lowest (writerSame (settingsOf m) o₁ o₂) (writersOf (settingsOf m) o₁ o₂) .within)
+        writer-within = rw (is-i, is-n) (failing-lowest (writerSame (settingsOf text m) o₁ o₂) (writersOf (settingsOf text m) o₁ o₂) .within)
 
-        second-holds : eqb (feederPoint (settingsOf m) o₁ o₂) dacs ≡ true
+        second-holds : eqb (feederPoint (settingsOf text m) o₁ o₂) dacs ≡ true
         second-holds = eq-eqb _ _ (sym is-d ∙ fed)
 
-        pub third-fails : i ≢ n → _≡_ {A = Failing} (record { point = 3; place = i; sounding = 0 }) (firstPoint (settingsOf m) o₁ o₂)
+        pub third-fails : i ≢ n → _≡_ {A = Failing} (record { point = 3; place = i; sounding = 0 }) (firstPoint (settingsOf text m) o₁ o₂)
         unfolding firstPoint
         third-fails h =
-            rw (first-holds, second-holds, ne-eqb (writerPoint (settingsOf m) o₁ o₂) (writersOf (settingsOf m) o₁ o₂) (λ e. h (is-i ∙ e ∙ sym is-n)), is-i)
+            rw (first-holds, second-holds, ne-eqb (writerPoint (settingsOf text m) o₁ o₂) (writersOf (settingsOf text m) o₁ o₂) (λ e. h (is-i ∙ e ∙ sym is-n)), is-i)
 
-        pub fourth : i ≡ n → {f : Failing} → f ≡ failingWord (settingsOf m) o₁ o₂ → f ≡ firstPoint (settingsOf m) o₁ o₂
+        pub fourth : i ≡ n → {f : Failing} → f ≡ failingWord (settingsOf text m) o₁ o₂ → f ≡ firstPoint (settingsOf text m) o₁ o₂
         unfolding firstPoint
-        fourth e q = rw (first-holds, second-holds, eq-eqb (writerPoint (settingsOf m) o₁ o₂) (writersOf (settingsOf m) o₁ o₂) (sym is-i ∙ e ∙ is-n)) q
+        fourth e q = rw (first-holds, second-holds, eq-eqb (writerPoint (settingsOf text m) o₁ o₂) (writersOf (settingsOf text m) o₁ o₂) (sym is-i ∙ e ∙ is-n)) q
 
 -- As many generators write data as the trace counts.
-pub writers-are : (m : Machine) (o₁ o₂ : Order) → Traceable m → IsOrder (ticksOf m) o₁ → {n : ℕ} → n ≡ traceOf m o₁ .counts .writes → n ≡ writersOf (settingsOf m) o₁ o₂
-writers-are m o₁ o₂ ready o e = e ∙ trace-holds m o₁ ready o .writers
+pub writers-are : (text : Text) (m : Machine) (o₁ o₂ : Order) → Traceable m → IsOrder (ticksOf m) o₁ → {n : ℕ} → n ≡ traceOf text m o₁ .counts .writes → n ≡ writersOf (settingsOf text m) o₁ o₂
+writers-are text m o₁ o₂ ready o e = e ∙ trace-holds text m o₁ ready o .writers
 
-pub writers-few : (m : Machine) (o₁ o₂ : Order) → Traceable m → writersOf (settingsOf m) o₁ o₂ ≤ generators
-writers-few m o₁ o₂ ready = omega (arith, count-below-le (settingsOf m .writes) (ticksOf m), ready .ticks)
+pub writers-few : (text : Text) (m : Machine) (o₁ o₂ : Order) → Traceable m → writersOf (settingsOf text m) o₁ o₂ ≤ generators
+writers-few text m o₁ o₂ ready = omega (arith, count-below-le (settingsOf text m .writes) (ticksOf m), ready .ticks)
 
 -- None fails just where the orders agree.
-pub none-named : (m : Machine) (o₁ o₂ : Order) {f : Failing} → f ≡ firstPoint (settingsOf m) o₁ o₂ → eqb (f .point) 0 ≡ agrees (settingsOf m) o₁ o₂
-none-named m o₁ o₂ e = rw e (first-agrees (settingsOf m) o₁ o₂)
+pub none-named : (text : Text) (m : Machine) (o₁ o₂ : Order) {f : Failing} → f ≡ firstPoint (settingsOf text m) o₁ o₂ → eqb (f .point) 0 ≡ agrees (settingsOf text m) o₁ o₂
+none-named text m o₁ o₂ e = rw e (first-agrees (settingsOf text m) o₁ o₂)

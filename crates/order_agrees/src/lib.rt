@@ -11,6 +11,7 @@ use order_traces::Feeders;
 use order_traces::GeneratorPlaces;
 use order_traces::SumWords;
 use order_traces::Writers;
+use texts::Text;
 
 // The first of the four points that fails: its number, 1 to 4, the lowest place at which it fails, and for the fourth the generator
 // that is to sound so that a pass shows it. All are 0 where none fails.
@@ -22,6 +23,7 @@ pub struct Failing {
 
 // The fourth point where the others hold.
 fn failing_word(
+    text: Text,
     m: &[u32],
     first: &[u32],
     second: &[u32],
@@ -34,11 +36,12 @@ fn failing_word(
 ) -> Failing
     requires { ⌜ Traceable (now m) ⌝ }
     requires { ⌜ IsOrder (ticksOf (now m)) (now first) × IsOrder (ticksOf (now m)) (now second) ⌝ }
-    requires { ⌜ record { first = now place1; second = now place2 } ≡ sidesOf (now m) (now first) (now second) ⌝ }
-    requires { ⌜ (record { last = now last1; among = now among1 } ≡ traceOf (now m) (now first) .replaced) × (record { last = now last2; among = now among2 } ≡ traceOf (now m) (now second) .replaced) ⌝ }
-    ensures { λ r. ⌜ record { point = r .point; place = r .place; sounding = r .sounding } ≡ failingWord (settingsOf (now (m .entry))) (now (first .entry)) (now (second .entry)) ⌝ }
+    requires { ⌜ record { first = now place1; second = now place2 } ≡ sidesOf text (now m) (now first) (now second) ⌝ }
+    requires { ⌜ (record { last = now last1; among = now among1 } ≡ traceOf text (now m) (now first) .replaced) × (record { last = now last2; among = now among2 } ≡ traceOf text (now m) (now second) .replaced) ⌝ }
+    ensures { λ r. ⌜ record { point = r .point; place = r .place; sounding = r .sounding } ≡ failingWord (settingsOf text (now (m .entry))) (now (first .entry)) (now (second .entry)) ⌝ }
 {
     let w = order_points::word_point(
+        text,
         m,
         first,
         second,
@@ -57,6 +60,7 @@ fn failing_word(
         };
     }
     let sounding = order_sounding::sounding(
+        text,
         m,
         first,
         second,
@@ -77,6 +81,7 @@ fn failing_word(
 
 // The first point that fails, by what the traces of two orders hold; n generators write data.
 fn first_failing(
+    text: Text,
     m: &[u32],
     first: &[u32],
     second: &[u32],
@@ -94,14 +99,14 @@ fn first_failing(
 ) -> Failing
     requires { ⌜ Traceable (now m) ⌝ }
     requires { ⌜ IsOrder (ticksOf (now m)) (now first) × IsOrder (ticksOf (now m)) (now second) ⌝ }
-    requires { ⌜ record { first = now place1; second = now place2 } ≡ sidesOf (now m) (now first) (now second) ⌝ }
-    requires { ⌜ (now fed1 ≡ traceOf (now m) (now first) .fed) × (now fed2 ≡ traceOf (now m) (now second) .fed) ⌝ }
-    requires { ⌜ (now written1 ≡ traceOf (now m) (now first) .written) × (now written2 ≡ traceOf (now m) (now second) .written) ⌝ }
-    requires { ⌜ (record { last = now last1; among = now among1 } ≡ traceOf (now m) (now first) .replaced) × (record { last = now last2; among = now among2 } ≡ traceOf (now m) (now second) .replaced) ⌝ }
-    requires { ⌜ n ≡ traceOf (now m) (now first) .counts .writes ⌝ }
-    ensures { λ r. ⌜ record { point = r .point; place = r .place; sounding = r .sounding } ≡ firstPoint (settingsOf (now (m .entry))) (now (first .entry)) (now (second .entry)) ⌝ }
+    requires { ⌜ record { first = now place1; second = now place2 } ≡ sidesOf text (now m) (now first) (now second) ⌝ }
+    requires { ⌜ (now fed1 ≡ traceOf text (now m) (now first) .fed) × (now fed2 ≡ traceOf text (now m) (now second) .fed) ⌝ }
+    requires { ⌜ (now written1 ≡ traceOf text (now m) (now first) .written) × (now written2 ≡ traceOf text (now m) (now second) .written) ⌝ }
+    requires { ⌜ (record { last = now last1; among = now among1 } ≡ traceOf text (now m) (now first) .replaced) × (record { last = now last2; among = now among2 } ≡ traceOf text (now m) (now second) .replaced) ⌝ }
+    requires { ⌜ n ≡ traceOf text (now m) (now first) .counts .writes ⌝ }
+    ensures { λ r. ⌜ record { point = r .point; place = r .place; sounding = r .sounding } ≡ firstPoint (settingsOf text (now (m .entry))) (now (first .entry)) (now (second .entry)) ⌝ }
 {
-    let g = order_points::neighbour_point(m, first, second, place1, place2);
+    let g = order_points::neighbour_point(text, m, first, second, place1, place2);
     let t = layout::ticks(m);
     if g != t {
         return Failing {
@@ -110,7 +115,7 @@ fn first_failing(
             sounding: 0,
         };
     }
-    let d = order_points::feeder_point(m, first, second, fed1, fed2);
+    let d = order_points::feeder_point(text, m, first, second, fed1, fed2);
     if d != layout::DACS {
         return Failing {
             point: 2,
@@ -118,7 +123,7 @@ fn first_failing(
             sounding: 0,
         };
     }
-    let i = order_points::writer_point(m, first, second, written1, written2, n);
+    let i = order_points::writer_point(text, m, first, second, written1, written2, n);
     if i != n {
         return Failing {
             point: 3,
@@ -127,6 +132,7 @@ fn first_failing(
         };
     }
     failing_word(
+        text,
         m,
         first,
         second,
@@ -140,10 +146,10 @@ fn first_failing(
 }
 
 // The first point that fails.
-pub fn first_point(m: &[u32], first: &[u32], second: &[u32]) -> Failing
+pub fn first_point(text: Text, m: &[u32], first: &[u32], second: &[u32]) -> Failing
     requires { ⌜ Traceable (now m) ⌝ }
     requires { ⌜ IsOrder (ticksOf (now m)) (now first) × IsOrder (ticksOf (now m)) (now second) ⌝ }
-    ensures { λ r. ⌜ record { point = r .point; place = r .place; sounding = r .sounding } ≡ firstPoint (settingsOf (now (m .entry))) (now (first .entry)) (now (second .entry)) ⌝ }
+    ensures { λ r. ⌜ record { point = r .point; place = r .place; sounding = r .sounding } ≡ firstPoint (settingsOf text (now (m .entry))) (now (first .entry)) (now (second .entry)) ⌝ }
 {
     let mut place1 = [0u8; layout::GENERATORS];
     let mut place2 = [0u8; layout::GENERATORS];
@@ -156,6 +162,7 @@ pub fn first_point(m: &[u32], first: &[u32], second: &[u32]) -> Failing
     let mut among1 = [0u32; layout::QUADRANT_WORDS];
     let mut among2 = [0u32; layout::QUADRANT_WORDS];
     let done = order_traces::trace(
+        text,
         m,
         first,
         &mut place1,
@@ -165,6 +172,7 @@ pub fn first_point(m: &[u32], first: &[u32], second: &[u32]) -> Failing
         &mut among1,
     );
     order_traces::trace(
+        text,
         m,
         second,
         &mut place2,
@@ -174,6 +182,7 @@ pub fn first_point(m: &[u32], first: &[u32], second: &[u32]) -> Failing
         &mut among2,
     );
     first_failing(
+        text,
         m,
         first,
         second,
@@ -192,11 +201,11 @@ pub fn first_point(m: &[u32], first: &[u32], second: &[u32]) -> Failing
 }
 
 // Whether none of the four points fails.
-pub fn agrees(m: &[u32], first: &[u32], second: &[u32]) -> bool
+pub fn agrees(text: Text, m: &[u32], first: &[u32], second: &[u32]) -> bool
     requires { ⌜ Traceable (now m) ⌝ }
     requires { ⌜ IsOrder (ticksOf (now m)) (now first) × IsOrder (ticksOf (now m)) (now second) ⌝ }
-    ensures { λ r. ⌜ r ≡ agrees (settingsOf (now (m .entry))) (now (first .entry)) (now (second .entry)) ⌝ }
+    ensures { λ r. ⌜ r ≡ agrees (settingsOf text (now (m .entry))) (now (first .entry)) (now (second .entry)) ⌝ }
 {
-    let failing = first_point(m, first, second);
+    let failing = first_point(text, m, first, second);
     failing.point == 0
 }

@@ -9,6 +9,8 @@ use Rattle.fills.specs.Fills.{filled}
 use Rattle.layout.specs.Layout.{generators, generatorWords, modifierAt, modifierWords, quadrantAt, quadrantWords, GJ, GK, GN, GM, GP, GQ, GL, MMODE}
 use Rattle.layout.specs.Machine.{Machine, Items, gmodeAt}
 use Rattle.layout.specs.Widths.{glBits}
+use Rattle.texts.specs.declared.Text.{Text}
+use Rattle.texts.specs.declared.Text.the-variants.{Of1978}
 use Rattle.modes.specs.Modes.{readData}
 use Rattle.order.specs.Order.{inMode}
 use Rattle.sums.specs.Sums.{generatorLast, modifierLast}
@@ -35,9 +37,9 @@ overflowingGQ = 16777215
 unfoldable pub triggeringContents : Machine → Machine
 triggeringContents m = eachRegister GQ (λ g. overflowingGQ) (eachRegister GP (λ g. overflowingGP) (inactiveModifiers m))
 
--- The word at each GFM is that GFM: generator-last word w is w, modifier-last word w is 64 + w. So F tells which GFM it came through.
-unfoldable pub sendingContents : Machine → Machine
-sendingContents m = eachWord modifierLast (λ w. 64 + w) (eachWord generatorLast (λ w. w) (inactiveModifiers m))
+-- What is sent tells its source. In 1978's text it is F: the word at each GFM is that GFM, generator-last word w is w, modifier-last word w is 64 + w.
+unfoldable pub sendingContents : Text → Machine → Machine
+sendingContents Of1978 m = eachWord modifierLast (λ w. 64 + w) (eachWord generatorLast (λ w. w) (inactiveModifiers m))
 
 -- GL at which V is 0 where GQ is 0, by envelope mode: the exponential of 0 is 4,093.
 abbrev pub silentLevel : ℕ → ℕ
@@ -67,8 +69,8 @@ unfoldable pub onesLast : Machine → Machine
 onesLast m = eachWord modifierLast (λ w. 1) (eachWord generatorLast (λ w. 1) (inactiveModifiers m))
 
 -- Generator s alone sounds: every F is 1, GJ, GK and GN are these, GM and GQ 0. Where s is no generator's number, none does.
-unfoldable pub soundingContents : Machine → ℕ → Machine
-soundingContents m s =
+unfoldable pub soundingContents : Text → Machine → ℕ → Machine
+soundingContents Of1978 m s =
     eachRegister GJ (λ g. soundingGJ)
     (eachRegister GK (λ g. soundingGK)
     (eachRegister GN (λ g. soundingGN)
@@ -83,13 +85,13 @@ abbrev pub byPoint : ℕ → Machine → Machine → Machine → Machine
 byPoint point triggering sounding sending = cond (eqb point 1) triggering (cond (eqb point 4) sounding sending)
 
 -- Contents with the settings of a machine that show where a point fails; s is the generator that is to sound for the fourth.
-unfoldable pub contentsFor : Machine → ℕ → ℕ → Machine
-contentsFor m point s = byPoint point (triggeringContents m) (soundingContents m s) (sendingContents m)
+unfoldable pub contentsFor : Text → Machine → ℕ → ℕ → Machine
+contentsFor text m point s = byPoint point (triggeringContents m) (soundingContents text m s) (sendingContents text m)
 
 -- Item i of the read list: 0; but for the fourth point, where no generator is to sound, items count up from 0.
 abbrev pub itemFor : ℕ → ℕ → ℕ → ℕ
 itemFor point s i = cond (eqb point 4 && eqb s generators) i 0
 
 -- A read list with such items for all 0111s below T, and the others as they were.
-unfoldable pub itemsFor : Machine → ℕ → ℕ → Items → Items
-itemsFor m point s items = filled 0 1 (inMode m readData) (itemFor point s) items
+unfoldable pub itemsFor : Text → Machine → ℕ → ℕ → Items → Items
+itemsFor text m point s items = filled 0 1 (inMode text m readData) (itemFor point s) items

@@ -13,7 +13,9 @@ use lib.Seq.{getD-set-same, getD-set-other}
 use Rattle.lists.specs.Lists.{countBelow}
 use Rattle.lists.proofs.Counts.{count-below-le}
 use Rattle.lists.proofs.Zeros.{zeros-length, zeros-at}
-use Rattle.layout.specs.Machine.{Machine, ticksOf, runModeAt}
+use Rattle.layout.specs.Machine.{Machine, ticksOf}
+use Rattle.texts.specs.Texts.{runModeAt}
+use Rattle.texts.specs.declared.Text.the-variants.{Of1978}
 use Rattle.modes.specs.Modes.{replaces}
 use Rattle.order_agreement.specs.Agreement.{Settings, settingsOf, awaits}
 use Rattle.order_alike.specs.Alike.{countsIn, alike}
@@ -61,17 +63,17 @@ module _ (m : Machine) (countable : Countable m) where
   -- A generator is counted once at each count that is its own.
   counted-length : (k : List ℕ) (g : ℕ) → length (counted m k g) ≡ length k
   unfolding counted
-  counted-length k g = raised-if-length (awaits (settingsOf m) g) reads awaitingAt ∙ raised-if-length (replaces (runModeAt m g)) kind allReadersAt ∙ raised-length k (placeIn m g)
+  counted-length k g = raised-if-length (awaits (settingsOf Of1978 m) g) reads awaitingAt ∙ raised-if-length (replaces (runModeAt Of1978 m g)) kind allReadersAt ∙ raised-length k (placeIn m g)
     where
       kind : List ℕ
       kind = raised k (placeIn m g)
 
       reads : List ℕ
-      reads = cond (replaces (runModeAt m g)) (raised kind allReadersAt) kind
+      reads = cond (replaces (runModeAt Of1978 m g)) (raised kind allReadersAt) kind
 
   -- How often generator g is counted at place j.
   abbrev hits : ℕ → ℕ → ℕ
-  hits j g = bit (eqb (placeIn m g) j) + bit (replaces (runModeAt m g) && eqb allReadersAt j) + bit (awaits (settingsOf m) g && eqb awaitingAt j)
+  hits j g = bit (eqb (placeIn m g) j) + bit (replaces (runModeAt Of1978 m g) && eqb allReadersAt j) + bit (awaits (settingsOf Of1978 m) g && eqb awaitingAt j)
 
   counted-at : (k : List ℕ) (g j : ℕ) → length k ≡ countsLength → g < 256 → getD k j 0 ≤ 256 → getD (counted m k g) j 0 ≡ getD k j 0 + hits j g
   unfolding counted
@@ -81,7 +83,7 @@ module _ (m : Machine) (countable : Countable m) where
       kind = raised k (placeIn m g)
 
       reads : List ℕ
-      reads = cond (replaces (runModeAt m g)) (raised kind allReadersAt) kind
+      reads = cond (replaces (runModeAt Of1978 m g)) (raised kind allReadersAt) kind
 
       first : getD kind j 0 ≡ getD k j 0 + bit (eqb (placeIn m g) j)
       first = raised-at k (placeIn m g) j (omega (arith, size, within g l)) (omega arith)
@@ -89,15 +91,15 @@ module _ (m : Machine) (countable : Countable m) where
       kind-size : length kind ≡ countsLength
       kind-size = raised-length k (placeIn m g) ∙ size
 
-      second : getD reads j 0 ≡ getD kind j 0 + bit (replaces (runModeAt m g) && eqb allReadersAt j)
+      second : getD reads j 0 ≡ getD kind j 0 + bit (replaces (runModeAt Of1978 m g) && eqb allReadersAt j)
       second =
-          raised-if-at (replaces (runModeAt m g)) kind allReadersAt j (omega (arith, kind-size))
+          raised-if-at (replaces (runModeAt Of1978 m g)) kind allReadersAt j (omega (arith, kind-size))
           (omega (arith, first, bit-le (eqb (placeIn m g) j)))
 
-      third : getD (cond (awaits (settingsOf m) g) (raised reads awaitingAt) reads) j 0 ≡ getD reads j 0 + bit (awaits (settingsOf m) g && eqb awaitingAt j)
+      third : getD (cond (awaits (settingsOf Of1978 m) g) (raised reads awaitingAt) reads) j 0 ≡ getD reads j 0 + bit (awaits (settingsOf Of1978 m) g && eqb awaitingAt j)
       third =
-          raised-if-at (awaits (settingsOf m) g) reads awaitingAt j (omega (arith, raised-if-length (replaces (runModeAt m g)) kind allReadersAt, kind-size))
-          (omega (arith, first, second, bit-le (eqb (placeIn m g) j), bit-le (replaces (runModeAt m g) && eqb allReadersAt j)))
+          raised-if-at (awaits (settingsOf Of1978 m) g) reads awaitingAt j (omega (arith, raised-if-length (replaces (runModeAt Of1978 m g)) kind allReadersAt, kind-size))
+          (omega (arith, first, second, bit-le (eqb (placeIn m g) j), bit-le (replaces (runModeAt Of1978 m g) && eqb allReadersAt j)))
 
   to-length : (n : ℕ) → length (countedTo m n) ≡ countsLength
   unfolding countedTo
@@ -116,14 +118,14 @@ module _ (m : Machine) (countable : Countable m) where
   -- At a kind's place.
   at-kind : (j g : ℕ) → j < othersAt → hits j g ≡ bit (eqb (placeIn m g) j)
   at-kind j g l =
-      rw (ne-eqb allReadersAt j (λ e. omega arith), ne-eqb awaitingAt j (λ e. omega arith), no (replaces (runModeAt m g)), no (awaits (settingsOf m) g))
+      rw (ne-eqb allReadersAt j (λ e. omega arith), ne-eqb awaitingAt j (λ e. omega arith), no (replaces (runModeAt Of1978 m g)), no (awaits (settingsOf Of1978 m) g))
       (omega arith)
     where
       no : (b : Bool) → (b && false) ≡ false
       no true = refl
       no false = refl
 
-  pub same-counts : SameCounts (held (countedTo m (ticksOf m))) (countsIn (settingsOf m))
+  pub same-counts : SameCounts (held (countedTo m (ticksOf m))) (countsIn (settingsOf Of1978 m))
   same-counts =
       record {
         awaiting = holds awaitingAt (omega arith) (awaits s) at-awaiting (ticksOf m) few;
@@ -143,7 +145,7 @@ module _ (m : Machine) (countable : Countable m) where
       }
     where
       s : Settings
-      s = settingsOf m
+      s = settingsOf Of1978 m
 
       few : ticksOf m ≤ 256
       few = countable .ticks
@@ -156,14 +158,14 @@ module _ (m : Machine) (countable : Countable m) where
       no true = refl
       no false = refl
 
-      at-readers : (g : ℕ) → g < 256 → hits allReadersAt g ≡ bit (replaces (runModeAt m g))
+      at-readers : (g : ℕ) → g < 256 → hits allReadersAt g ≡ bit (replaces (runModeAt Of1978 m g))
       at-readers g l =
-          rw (ne-eqb (placeIn m g) allReadersAt (λ e. omega (arith, within g l)), yes (replaces (runModeAt m g)), no (awaits (settingsOf m) g)) (omega arith)
+          rw (ne-eqb (placeIn m g) allReadersAt (λ e. omega (arith, within g l)), yes (replaces (runModeAt Of1978 m g)), no (awaits (settingsOf Of1978 m) g)) (omega arith)
 
-      at-awaiting : (g : ℕ) → g < 256 → hits awaitingAt g ≡ bit (awaits (settingsOf m) g)
+      at-awaiting : (g : ℕ) → g < 256 → hits awaitingAt g ≡ bit (awaits (settingsOf Of1978 m) g)
       at-awaiting g l =
-          rw (ne-eqb (placeIn m g) awaitingAt (λ e. omega (arith, within g l)), yes (awaits (settingsOf m) g), no (replaces (runModeAt m g))) (omega arith)
+          rw (ne-eqb (placeIn m g) awaitingAt (λ e. omega (arith, within g l)), yes (awaits (settingsOf Of1978 m) g), no (replaces (runModeAt Of1978 m g))) (omega arith)
 
   -- So the rule answers the same.
-  pub held-alike : alike (held (countedTo m (ticksOf m))) ≡ alike (countsIn (settingsOf m))
-  held-alike = same-alike (held (countedTo m (ticksOf m))) (countsIn (settingsOf m)) same-counts
+  pub held-alike : alike (held (countedTo m (ticksOf m))) ≡ alike (countsIn (settingsOf Of1978 m))
+  held-alike = same-alike (held (countedTo m (ticksOf m))) (countsIn (settingsOf Of1978 m)) same-counts

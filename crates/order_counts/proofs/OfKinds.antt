@@ -10,7 +10,9 @@ use borrow.Author.Tests.{eqb-true, eq-eqb, ne-eqb}
 use lib.Dec.{eqb, lit<}
 use Rattle.lists.specs.Lists.{isOneOf}
 use Rattle.lists.proofs.Below.{both-ways, and-first, and-second, and-both}
-use Rattle.layout.specs.Machine.{Machine, runModeAt, gsumAt, gfmAt, dacNumberAt}
+use Rattle.layout.specs.Machine.{Machine, gsumAt, gfmAt}
+use Rattle.texts.specs.Texts.{runModeAt, dacNumberAt}
+use Rattle.texts.specs.declared.Text.the-variants.{Of1978}
 use Rattle.modes.specs.Modes.{writeData, writeDAC, adds, replaces}
 use Rattle.modes.proofs.Exclusions.{on-not-off}
 use Rattle.modes.proofs.RunModes.{replaces-alone}
@@ -37,14 +39,14 @@ pairs d v e u lv lu =
 
 module _ (m : Machine) (g : ℕ) where
   abbrev run : ℕ
-  run = runModeAt m g
+  run = runModeAt Of1978 m g
 
   -- The kinds.
   kinds : {R : Type 0}
       → (replaces run ≡ true → placeIn m g ≡ readersAt (gsumAt m g) → R)
       → (replaces run ≡ false → adds run ≡ true → placeIn m g ≡ addersAt (gsumAt m g) → R)
       → (replaces run ≡ false → adds run ≡ false → eqb run writeData ≡ true → placeIn m g ≡ writersAt (gfmAt m g) → R)
-      → (replaces run ≡ false → adds run ≡ false → eqb run writeData ≡ false → eqb run writeDAC ≡ true → placeIn m g ≡ feedersAt (dacNumberAt m g) (gfmAt m g) → R)
+      → (replaces run ≡ false → adds run ≡ false → eqb run writeData ≡ false → eqb run writeDAC ≡ true → placeIn m g ≡ feedersAt (dacNumberAt Of1978 m g) (gfmAt m g) → R)
       → (replaces run ≡ false → adds run ≡ false → eqb run writeData ≡ false → eqb run writeDAC ≡ false → placeIn m g ≡ othersAt → R)
       → R
   unfolding placeIn
@@ -76,7 +78,7 @@ module _ (m : Machine) (g : ℕ) where
   and-true false = refl
 
   module _ (gsum : gsumAt m g < 64) (gfm : gfmAt m g < 128) where
-    dac : dacNumberAt m g < 16
+    dac : dacNumberAt Of1978 m g < 16
     dac = mod-lt _ (lit< tt)
 
     -- Below the places that are not of a kind.
@@ -126,16 +128,16 @@ module _ (m : Machine) (g : ℕ) where
         far : eqb run writeData ≡ false → placeIn m g ≢ 128 + v → eqb (placeIn m g) (128 + v) ≡ (eqb run writeData && eqb (gfmAt m g) v)
         far a h = ne-eqb (placeIn m g) (128 + v) h ∙ sym (rw a)
 
-    pub feeder-at : (d v : ℕ) → d < 16 → v < 128 → eqb (placeIn m g) (feedersAt d v) ≡ ((eqb run writeDAC && eqb (dacNumberAt m g) d) && eqb (gfmAt m g) v)
+    pub feeder-at : (d v : ℕ) → d < 16 → v < 128 → eqb (placeIn m g) (feedersAt d v) ≡ ((eqb run writeDAC && eqb (dacNumberAt Of1978 m g) d) && eqb (gfmAt m g) v)
     unfolding replaces adds isOneOf
     feeder-at d v ld lv =
         kinds
         (λ a e. far (reader-not writeDAC a refl) (λ q. omega (arith, e)))
         (λ a b e. far (adder-not writeDAC b refl) (λ q. omega (arith, e)))
         (λ a b c e. far (writer-not c) (λ q. omega (arith, e)))
-        (λ a b c f e. rw (e, f) (pairs (dacNumberAt m g) (gfmAt m g) d v gfm lv))
+        (λ a b c f e. rw (e, f) (pairs (dacNumberAt Of1978 m g) (gfmAt m g) d v gfm lv))
         (λ a b c f e. far f (λ q. omega (arith, e)))
       where
         far : eqb run writeDAC ≡ false → placeIn m g ≢ 256 + 128 * d + v
-            → eqb (placeIn m g) (256 + 128 * d + v) ≡ ((eqb run writeDAC && eqb (dacNumberAt m g) d) && eqb (gfmAt m g) v)
+            → eqb (placeIn m g) (256 + 128 * d + v) ≡ ((eqb run writeDAC && eqb (dacNumberAt Of1978 m g) d) && eqb (gfmAt m g) v)
         far a h = ne-eqb (placeIn m g) (256 + 128 * d + v) h ∙ sym (rw a)

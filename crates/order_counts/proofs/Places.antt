@@ -7,7 +7,9 @@ use Prim.Native.Nat.{ℕ, _+_, _*_, _<_}
 use native.Mathlib.Omega.{arith}
 use borrow.Author.Tests.{eq-eqb, ne-eqb}
 use lib.Dec.{eqb}
-use Rattle.layout.specs.Machine.{Machine, runModeAt, gsumAt, gfmAt, dacNumberAt}
+use Rattle.layout.specs.Machine.{Machine, gsumAt, gfmAt}
+use Rattle.texts.specs.Texts.{runModeAt, dacNumberAt}
+use Rattle.texts.specs.declared.Text.the-variants.{Of1978}
 use Rattle.modes.specs.Modes.{readData, writeData, writeDAC, adds, replaces}
 use Rattle.modes.proofs.RunModes.{replaces-is}
 use Rattle.order_counts.specs.KeptCounts.{countsLength, placeIn}
@@ -17,45 +19,45 @@ pub record Placed (m : Machine) (g i : ℕ) : Type 0 where
   pub is : i ≡ placeIn m g
   pub below : i < countsLength
 
-module _ (m : Machine) (g : ℕ) {run : ℕ} (is : run ≡ runModeAt m g) where
+module _ (m : Machine) (g : ℕ) {run : ℕ} (is : run ≡ runModeAt Of1978 m g) where
   pub reader-place : run ≡ readData → {w : ℕ} → w ≡ gsumAt m g → w < 64 → Placed m g (0 + w)
   unfolding placeIn
   reader-place r {w} e l =
-      let q : replaces (runModeAt m g) ≡ true = rw (← is) (replaces-is run ∙ eq-eqb run readData r) in
+      let q : replaces (runModeAt Of1978 m g) ≡ true = rw (← is) (replaces-is run ∙ eq-eqb run readData r) in
       record { is = rw (q, ← e) (omega arith); below = omega arith }
 
   module _ (no-reader : run ≢ readData) where
-    other : replaces (runModeAt m g) ≡ false
+    other : replaces (runModeAt Of1978 m g) ≡ false
     other = rw (← is) (replaces-is run ∙ ne-eqb run readData no-reader)
 
     pub adder-place : adds run ≡ true → {w : ℕ} → w ≡ gsumAt m g → w < 64 → Placed m g (64 + w)
     unfolding placeIn
     adder-place a {w} e l =
-        let q : adds (runModeAt m g) ≡ true = rw (← is) a in
+        let q : adds (runModeAt Of1978 m g) ≡ true = rw (← is) a in
         record { is = rw (other, q, ← e); below = omega arith }
 
     module _ (no-adder : adds run ≡ false) where
-      quiet : adds (runModeAt m g) ≡ false
+      quiet : adds (runModeAt Of1978 m g) ≡ false
       quiet = rw (← is) no-adder
 
       pub writer-place : run ≡ writeData → {v : ℕ} → v ≡ gfmAt m g → v < 128 → Placed m g (128 + v)
       unfolding placeIn
       writer-place w {v} e l =
-          let q : eqb (runModeAt m g) writeData ≡ true = rw (← is) (eq-eqb run writeData w) in
+          let q : eqb (runModeAt Of1978 m g) writeData ≡ true = rw (← is) (eq-eqb run writeData w) in
           record { is = rw (other, quiet, q, ← e); below = omega arith }
 
       module _ (no-writer : run ≢ writeData) where
-        kept : eqb (runModeAt m g) writeData ≡ false
+        kept : eqb (runModeAt Of1978 m g) writeData ≡ false
         kept = rw (← is) (ne-eqb run writeData no-writer)
 
-        pub feeder-place : run ≡ writeDAC → {d v : ℕ} → d ≡ dacNumberAt m g → d < 16 → v ≡ gfmAt m g → v < 128 → Placed m g (256 + 128 * d + v)
+        pub feeder-place : run ≡ writeDAC → {d v : ℕ} → d ≡ dacNumberAt Of1978 m g → d < 16 → v ≡ gfmAt m g → v < 128 → Placed m g (256 + 128 * d + v)
         unfolding placeIn
         feeder-place f {d} {v} e l a b =
-            let q : eqb (runModeAt m g) writeDAC ≡ true = rw (← is) (eq-eqb run writeDAC f) in
+            let q : eqb (runModeAt Of1978 m g) writeDAC ≡ true = rw (← is) (eq-eqb run writeDAC f) in
             record { is = rw (other, quiet, kept, q, ← e, ← a); below = omega arith }
 
         pub other-place : run ≢ writeDAC → Placed m g 2304
         unfolding placeIn
         other-place f =
-            let q : eqb (runModeAt m g) writeDAC ≡ false = rw (← is) (ne-eqb run writeDAC f) in
+            let q : eqb (runModeAt Of1978 m g) writeDAC ≡ false = rw (← is) (ne-eqb run writeDAC f) in
             record { is = rw (other, quiet, kept, q); below = omega arith }

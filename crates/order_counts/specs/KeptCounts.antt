@@ -7,7 +7,9 @@ use lib.Dec.{eqb}
 use lib.ListN.{getD, set}
 use Rattle.lists.specs.Lists.{zeros}
 use Rattle.layout.specs.Layout.{generators, quadrantWords}
-use Rattle.layout.specs.Machine.{Machine, Reaches, ticksOf, runModeAt, gsumAt, gfmAt, dacNumberAt}
+use Rattle.layout.specs.Machine.{Machine, Reaches, ticksOf, gsumAt, gfmAt}
+use Rattle.texts.specs.Texts.{runModeAt, dacNumberAt}
+use Rattle.texts.specs.declared.Text.the-variants.{Of1978}
 use Rattle.modes.specs.Modes.{writeData, writeDAC, adds, replaces}
 use Rattle.order_agreement.specs.Agreement.{settingsOf, awaits}
 use Rattle.order_alike.specs.Alike.{Counts, sources}
@@ -60,10 +62,10 @@ held k =
 -- The place of generator g's kind.
 unfoldable pub placeIn : Machine → ℕ → ℕ
 placeIn m g =
-    cond (replaces (runModeAt m g)) (readersAt (gsumAt m g))
-    (cond (adds (runModeAt m g)) (addersAt (gsumAt m g))
-    (cond (eqb (runModeAt m g) writeData) (writersAt (gfmAt m g))
-    (cond (eqb (runModeAt m g) writeDAC) (feedersAt (dacNumberAt m g) (gfmAt m g))
+    cond (replaces (runModeAt Of1978 m g)) (readersAt (gsumAt m g))
+    (cond (adds (runModeAt Of1978 m g)) (addersAt (gsumAt m g))
+    (cond (eqb (runModeAt Of1978 m g) writeData) (writersAt (gfmAt m g))
+    (cond (eqb (runModeAt Of1978 m g) writeDAC) (feedersAt (dacNumberAt Of1978 m g) (gfmAt m g))
     othersAt)))
 
 -- One more at place i, as a word.
@@ -74,8 +76,8 @@ raised k i = set k i ((getD k i 0 + 1) % 2 ^ 32)
 unfoldable pub counted : Machine → List ℕ → ℕ → List ℕ
 counted m k g =
     let kind = raised k (placeIn m g) in
-    let reads = cond (replaces (runModeAt m g)) (raised kind allReadersAt) kind in
-    cond (awaits (settingsOf m) g) (raised reads awaitingAt) reads
+    let reads = cond (replaces (runModeAt Of1978 m g)) (raised kind allReadersAt) kind in
+    cond (awaits (settingsOf Of1978 m) g) (raised reads awaitingAt) reads
 
 -- The generators below n are counted.
 unfoldable pub countedTo : Machine → ℕ → List ℕ

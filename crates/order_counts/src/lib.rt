@@ -6,6 +6,7 @@ ghost use Rattle.lists.specs.Lists.{zeros};
 ghost use Rattle.layout.specs.Layout.{generators};
 ghost use Rattle.layout.specs.Machine.{ticksOf};
 ghost use Rattle.order_counts.specs.KeptCounts.{Countable, countsLength, placeIn, raised, counted, countedTo};
+use texts::Text;
 
 // Where the counts of 0111s and of adding generators by sum word stand, of writers by GFM, and of feeders by DAC and GFM;
 // of the generators that are none of these; of all 0111s; of the generators that wait and have a lower neighbour that can trigger.
@@ -36,7 +37,7 @@ fn place(m: &[u32], g: usize) -> usize
     requires { ⌜ g < generators ⌝ }
     ensures { λ r. ⌜ (r ≡ placeIn (now (m .entry)) g) × (r < countsLength) ⌝ }
 {
-    let run = layout::run_mode(m, g);
+    let run = texts::run_mode(Text::Of1978, m, g);
     if run == modes::READ_DATA {
         return READERS_AT + layout::gsum(m, g);
     }
@@ -47,7 +48,9 @@ fn place(m: &[u32], g: usize) -> usize
         return WRITERS_AT + layout::wide(layout::gfm(m, g));
     }
     if run == modes::WRITE_DAC {
-        return FEEDERS_AT + SOURCES * layout::dac_number(m, g) + layout::wide(layout::gfm(m, g));
+        return FEEDERS_AT
+            + SOURCES * texts::dac_number(Text::Of1978, m, g)
+            + layout::wide(layout::gfm(m, g));
     }
     OTHERS_AT
 }
@@ -78,8 +81,8 @@ pub fn count_generator(m: &[u32], counts: &mut Counts, g: usize)
     ensures { λ r. ⌜ now (counts .exit) ≡ counted (now (m .entry)) (now (counts .entry)) g ⌝ }
 {
     let i = place(m, g);
-    let reads = layout::run_mode(m, g) == modes::READ_DATA;
-    let awaits = order_roles::awaits(m, g);
+    let reads = texts::run_mode(Text::Of1978, m, g) == modes::READ_DATA;
+    let awaits = order_roles::awaits(Text::Of1978, m, g);
     raise(counts, i);
     raise_if(counts, ALL_READERS_AT, reads);
     raise_if(counts, AWAITING_AT, awaits);

@@ -19,7 +19,7 @@ use Rattle.bench_numbers.specs.Numbers.{decimalIn}
 use Rattle.bench_numbers.specs.declared.Number.{Number}
 use Rattle.bench_numbers.specs.declared.Number.the-variants.{Is, No}
 use Rattle.bench_lines.specs.Lines.{afterStart, linesOf, ended}
-use Rattle.bench_lines.proofs.TextLines.{Ended, within, lines-next, lines-end}
+use Rattle.bench_lines.proofs.FileLines.{Ended, within, lines-next, lines-end}
 use Rattle.order_file.specs.OrderFile.{orderStart, entryOf, entry, allEntries, isOrderFile, orderOf, Answer, noOrderFile, readOf}
 
 -- A line by its start.
@@ -44,10 +44,10 @@ withLines n es ls =
     (record { number = 0; count = n + length ls; entries = sets es n (map (λ l. entry (entryOf l)) ls) })
     noOrderFile
 
--- All lines of a text make what reading it answers; no line more leaves the entries as they are.
-lines-all : (text : List ℕ) → ended text ≡ true → withLines 0 (zeros generators) (linesOf text) ≡ readOf text
+-- All lines of a file make what reading it answers; no line more leaves the entries as they are.
+lines-all : (file : List ℕ) → ended file ≡ true → withLines 0 (zeros generators) (linesOf file) ≡ readOf file
 unfolding withLines readOf isOrderFile orderOf
-lines-all text e = rw (e, zero-add, length-map (linesOf text) (λ l. entry (entryOf l)))
+lines-all file e = rw (e, zero-add, length-map (linesOf file) (λ l. entry (entryOf l)))
 
 lines-none : (n : ℕ) (es : Order) → n ≤ generators → record { number = 0; count = n; entries = es } ≡ withLines n es []
 unfolding withLines allEntries
@@ -71,40 +71,40 @@ module _ (n : ℕ) (es : Order) (l : List ℕ) (ls : List (List ℕ)) where
   line-no-room h = let i : generators < n + suc (length ls) = omega arith in rw (lt-leb (n + suc (length ls)) generators i)
 
 -- The sweep under way: the lines that are left make what reading answers.
-pub record Reading (text : List ℕ) (at count : ℕ) (es : Order) : Type 0 where
-  pub here : at ≤ length text
+pub record Reading (file : List ℕ) (at count : ℕ) (es : Order) : Type 0 where
+  pub here : at ≤ length file
   pub few : count ≤ generators
-  pub rest : withLines count es (linesOf (drop at text)) ≡ readOf text
+  pub rest : withLines count es (linesOf (drop at file)) ≡ readOf file
 
-pub begins : (text : List ℕ) → ended text ≡ true → Reading text 0 0 (replicate generators 0)
+pub begins : (file : List ℕ) → ended file ≡ true → Reading file 0 0 (replicate generators 0)
 unfolding zeros
-begins text e = record { here = omega arith; few = omega arith; rest = lines-all text e }
+begins file e = record { here = omega arith; few = omega arith; rest = lines-all file e }
 
-module _ (text : List ℕ) {at count : ℕ} {es : Order} (r : Reading text at count es) where
-  pub ends : length text ≤ at → record { number = 0; count = count; entries = es } ≡ readOf text
-  ends h = lines-none count es (r .few) ∙ sym (ap (withLines count es) (lines-end text at h)) ∙ r .rest
+module _ (file : List ℕ) {at count : ℕ} {es : Order} (r : Reading file at count es) where
+  pub ends : length file ≤ at → record { number = 0; count = count; entries = es } ≡ readOf file
+  ends h = lines-none count es (r .few) ∙ sym (ap (withLines count es) (lines-end file at h)) ∙ r .rest
 
-  module _ (end : Ended text) (h : at < length text) {k : ℕ} (e : k ≡ bytesBefore (code "\n") (drop at text)) where
-    left : withLines count es (take k (drop at text) ∷ linesOf (drop (at + k + 1) text)) ≡ readOf text
-    left = sym (ap (withLines count es) (lines-next text end at h e)) ∙ r .rest
+  module _ (end : Ended file) (h : at < length file) {k : ℕ} (e : k ≡ bytesBefore (code "\n") (drop at file)) where
+    left : withLines count es (take k (drop at file) ∷ linesOf (drop (at + k + 1) file)) ≡ readOf file
+    left = sym (ap (withLines count es) (lines-next file end at h e)) ∙ r .rest
 
-    pub no-room : generators ≤ count → noOrderFile ≡ readOf text
-    no-room i = line-no-room count es (take k (drop at text)) (linesOf (drop (at + k + 1) text)) i ∙ left
+    pub no-room : generators ≤ count → noOrderFile ≡ readOf file
+    no-room i = line-no-room count es (take k (drop at file)) (linesOf (drop (at + k + 1) file)) i ∙ left
 
-    module _ {found : Number} (f : found ≡ entryOf (take k (drop at text))) where
-      pub no-entry : found ≡ No → noOrderFile ≡ readOf text
-      no-entry i = line-no-entry count es (take k (drop at text)) (linesOf (drop (at + k + 1) text)) (sym f ∙ i) ∙ left
+    module _ {found : Number} (f : found ≡ entryOf (take k (drop at file))) where
+      pub no-entry : found ≡ No → noOrderFile ≡ readOf file
+      no-entry i = line-no-entry count es (take k (drop at file)) (linesOf (drop (at + k + 1) file)) (sym f ∙ i) ∙ left
 
-      pub goes-on : {g : ℕ} → found ≡ Is g → count < generators → Reading text (at + k + 1) (count + 1) (set es count g)
+      pub goes-on : {g : ℕ} → found ≡ Is g → count < generators → Reading file (at + k + 1) (count + 1) (set es count g)
       goes-on i room =
-          let w = within text end at h e in
+          let w = within file end at h e in
           record {
             here = omega arith;
             few = omega arith;
-            rest = sym (line-entry count es (take k (drop at text)) (linesOf (drop (at + k + 1) text)) (sym f ∙ i)) ∙ left;
+            rest = sym (line-entry count es (take k (drop at file)) (linesOf (drop (at + k + 1) file)) (sym f ∙ i)) ∙ left;
           }
 
--- A text that is not ended is no order file.
-pub unended : (text : List ℕ) → ended text ≡ false → noOrderFile ≡ readOf text
+-- A file that is not ended is no order file.
+pub unended : (file : List ℕ) → ended file ≡ false → noOrderFile ≡ readOf file
 unfolding readOf isOrderFile
-unended text e = rw e
+unended file e = rw e

@@ -37,27 +37,27 @@ unfoldable pub allEntries : List (List ℕ) → Bool
 allEntries [] = true
 allEntries (l ∷ ls) = isEntry (entryOf l) && allEntries ls
 
--- Whether a text is an order file: at most 65,536 bytes, every line ends in LF, and 1 to 256 lines each name a generator.
+-- Whether a file is an order file: at most 65,536 bytes, every line ends in LF, and 1 to 256 lines each name a generator.
 unfoldable pub isOrderFile : List ℕ → Bool
-isOrderFile text = ended text && leb (length (linesOf text)) generators && allEntries (linesOf text)
+isOrderFile file = ended file && leb (length (linesOf file)) generators && allEntries (linesOf file)
 
 -- The order that it names.
 unfoldable pub orderOf : List ℕ → Order
-orderOf text = map (λ l. entry (entryOf l)) (linesOf text)
+orderOf file = map (λ l. entry (entryOf l)) (linesOf file)
 
--- An answer: 9 where a text is no order file or 0, how many entries there are, and the entries, with zeros after them.
+-- An answer: 9 where a file is no order file or 0, how many entries there are, and the entries, with zeros after them.
 pub record Answer : Type 0 where
   pub number : ℕ
   pub count : ℕ
   pub entries : Order
 
--- The answer to a text that is none.
+-- The answer to a file that is none.
 unfoldable pub noOrderFile : Answer
 noOrderFile = record { number = 9; count = 0; entries = zeros generators }
 
--- What reading a text answers.
+-- What reading a file answers.
 unfoldable pub readOf : List ℕ → Answer
-readOf text =
-    cond (isOrderFile text)
-    (record { number = 0; count = length (orderOf text); entries = sets (zeros generators) 0 (orderOf text) })
+readOf file =
+    cond (isOrderFile file)
+    (record { number = 0; count = length (orderOf file); entries = sets (zeros generators) 0 (orderOf file) })
     noOrderFile

@@ -5,7 +5,7 @@ ghost use Rattle.bench_lines.specs.Lines.{ended};
 ghost use Rattle.order_file.specs.OrderFile.{entryOf, noOrderFile, readOf};
 use bench_numbers::Number;
 
-// What an order file says: 9 where a text is none or 0, how many entries there are, and the entries with zeros after them.
+// What an order file says: 9 where a file is none or 0, how many entries there are, and the entries with zeros after them.
 pub struct Entries {
     pub number: u32,
     pub count: usize,
@@ -24,7 +24,7 @@ fn read_entry(line: &[u8]) -> Number
     Number::No
 }
 
-// The answer to a text that is no order file.
+// The answer to a file that is no order file.
 fn no_order_file() -> Entries
     ensures { λ r. ⌜ record { number = r .number; count = r .count; entries = r .entries } ≡ noOrderFile ⌝ }
 {
@@ -35,17 +35,17 @@ fn no_order_file() -> Entries
     }
 }
 
-// Reads the lines of a text, each an entry, until one is none or there are too many.
-fn read_lines(text: &[u8]) -> Entries
-    requires { ⌜ ended (now text) ≡ true ⌝ }
-    ensures { λ r. ⌜ record { number = r .number; count = r .count; entries = r .entries } ≡ readOf (now (text .entry)) ⌝ }
+// Reads the lines of a file, each an entry, until one is none or there are too many.
+fn read_lines(file: &[u8]) -> Entries
+    requires { ⌜ ended (now file) ≡ true ⌝ }
+    ensures { λ r. ⌜ record { number = r .number; count = r .count; entries = r .entries } ≡ readOf (now (file .entry)) ⌝ }
 {
     let mut entries = [0u32; layout::GENERATORS];
     let mut count = 0;
     let mut at = 0;
-    while at < text.len() {
-        let k = bench_bytes::find(bench_bytes::after(text, at), b'\n');
-        let Number::Is(g) = read_entry(&text[at..at + k]) else {
+    while at < file.len() {
+        let k = bench_bytes::find(bench_bytes::after(file, at), b'\n');
+        let Number::Is(g) = read_entry(&file[at..at + k]) else {
             return no_order_file();
         };
         if layout::GENERATORS <= count {
@@ -63,11 +63,11 @@ fn read_lines(text: &[u8]) -> Entries
 }
 
 // Reads an order file.
-pub fn read(text: &[u8]) -> Entries
-    ensures { λ r. ⌜ record { number = r .number; count = r .count; entries = r .entries } ≡ readOf (now (text .entry)) ⌝ }
+pub fn read(file: &[u8]) -> Entries
+    ensures { λ r. ⌜ record { number = r .number; count = r .count; entries = r .entries } ≡ readOf (now (file .entry)) ⌝ }
 {
-    if !bench_lines::ended(text) {
+    if !bench_lines::ended(file) {
         return no_order_file();
     }
-    read_lines(text)
+    read_lines(file)
 }

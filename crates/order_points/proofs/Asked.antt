@@ -8,56 +8,58 @@ use Prim.Native.Nat.{ℕ, _-_}
 use lib.ListN.{getD, set}
 use borrow.Author.Tests.{eq-eqb, ne-eqb}
 use Rattle.modes.specs.Modes.{adds}
-use Rattle.layout.specs.Machine.{Machine, runModeAt, gsumAt}
+use Rattle.layout.specs.Machine.{Machine, gsumAt}
+use Rattle.texts.specs.Texts.{runModeAt, distanceOf}
+use Rattle.texts.specs.declared.Text.{Text}
 use Rattle.order_agreement.specs.Agreement.{settingsOf, awaits}
 use Rattle.order_points.specs.Loops.{Sides, sideBy, neighbourBy, adderBy, markedBy}
 
 -- The first point at g, where it awaits nothing and where it does.
-module _ (m : Machine) (sides : Sides) (g : ℕ) where
-  pub nothing-awaited : awaits (settingsOf m) g ≡ false → true ≡ neighbourBy m sides g
+module _ (text : Text) (m : Machine) (sides : Sides) (g : ℕ) where
+  pub nothing-awaited : awaits (settingsOf text m) g ≡ false → true ≡ neighbourBy text m sides g
   unfolding neighbourBy
   nothing-awaited e = rw e
 
-  pub by-sides : awaits (settingsOf m) g ≡ true → sideBy sides (g - 1) g ≡ neighbourBy m sides g
+  pub by-sides : awaits (settingsOf text m) g ≡ true → {distance : ℕ} → distance ≡ distanceOf text → sideBy sides (g - distance) g ≡ neighbourBy text m sides g
   unfolding neighbourBy
-  by-sides e = rw e
+  by-sides e d = rw (e, d)
 
 -- Generator g and its word: it doesn't add; the word has no 0111; the sides.
-module _ (m : Machine) (sides : Sides) (last : List ℕ) (g : ℕ) {run : ℕ} (is : run ≡ runModeAt m g) where
-  add-none : adds run ≡ false → adderBy m sides last (gsumAt m g) g ≡ true
+module _ (text : Text) (m : Machine) (sides : Sides) (last : List ℕ) (g : ℕ) {run : ℕ} (is : run ≡ runModeAt text m g) where
+  add-none : adds run ≡ false → adderBy text m sides last (gsumAt m g) g ≡ true
   unfolding adderBy
   add-none h =
-      let e : adds (runModeAt m g) ≡ false = rw (← is) h in
+      let e : adds (runModeAt text m g) ≡ false = rw (← is) h in
       rw (eq-eqb (gsumAt m g) (gsumAt m g) refl, e)
 
   module _ (h : adds run ≡ true) {w l : ℕ} (is-w : w ≡ gsumAt m g) (is-l : l ≡ getD last w 0) where
     there : l ≡ getD last (gsumAt m g) 0
     there = rw (← is-w) is-l
 
-    on : adds (runModeAt m g) ≡ true
+    on : adds (runModeAt text m g) ≡ true
     on = rw (← is) h
 
-    replaced-none : l ≡ 0 → adderBy m sides last (gsumAt m g) g ≡ true
+    replaced-none : l ≡ 0 → adderBy text m sides last (gsumAt m g) g ≡ true
     unfolding adderBy
     replaced-none z = rw (eq-eqb (gsumAt m g) (gsumAt m g) refl, on, ← there, eq-eqb l 0 z)
 
-    side-of : l ≢ 0 → adderBy m sides last (gsumAt m g) g ≡ sideBy sides (l - 1) g
+    side-of : l ≢ 0 → adderBy text m sides last (gsumAt m g) g ≡ sideBy sides (l - 1) g
     unfolding adderBy
     side-of z = rw (eq-eqb (gsumAt m g) (gsumAt m g) refl, on, ← there, ne-eqb l 0 z)
 
 -- What this makes of the marks.
-module _ (m : Machine) (sides : Sides) (last marks : List ℕ) (g : ℕ) {run : ℕ} (is : run ≡ runModeAt m g) where
-  pub no-add : adds run ≡ false → marks ≡ markedBy m sides last g marks
-  no-add h = rw (add-none m sides last g is h)
+module _ (text : Text) (m : Machine) (sides : Sides) (last marks : List ℕ) (g : ℕ) {run : ℕ} (is : run ≡ runModeAt text m g) where
+  pub no-add : adds run ≡ false → marks ≡ markedBy text m sides last g marks
+  no-add h = rw (add-none text m sides last g is h)
 
   module _ (h : adds run ≡ true) {w l : ℕ} (is-w : w ≡ gsumAt m g) (is-l : l ≡ getD last w 0) where
-    pub no-replaced : l ≡ 0 → marks ≡ markedBy m sides last g marks
-    no-replaced z = rw (replaced-none m sides last g is h is-w is-l z)
+    pub no-replaced : l ≡ 0 → marks ≡ markedBy text m sides last g marks
+    no-replaced z = rw (replaced-none text m sides last g is h is-w is-l z)
 
     pub one-side : l ≢ 0 → sideBy sides (l - 1) g ≡ true
-        → marks ≡ markedBy m sides last g marks
-    one-side z s = rw (side-of m sides last g is h is-w is-l z, s)
+        → marks ≡ markedBy text m sides last g marks
+    one-side z s = rw (side-of text m sides last g is h is-w is-l z, s)
 
     pub two-sides : l ≢ 0 → sideBy sides (l - 1) g ≡ false
-        → set marks w 1 ≡ markedBy m sides last g marks
-    two-sides z s = rw (side-of m sides last g is h is-w is-l z, s, is-w)
+        → set marks w 1 ≡ markedBy text m sides last g marks
+    two-sides z s = rw (side-of text m sides last g is h is-w is-l z, s, is-w)

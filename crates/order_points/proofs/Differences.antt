@@ -9,6 +9,7 @@ use lib.Dec.{eqb}
 use Rattle.lists.proofs.Counts.{count-below-le}
 use Rattle.layout.specs.Layout.{generators, dacs}
 use Rattle.layout.specs.Machine.{Machine, Order, ticksOf}
+use Rattle.texts.specs.declared.Text.{Text}
 use Rattle.order_lists.specs.Sequences.{some, lastOf, firstFailing, latest}
 use Rattle.order_lists.proofs.Orders.{some-orders}
 use Rattle.order_lists.proofs.Loops.{failing-same}
@@ -30,29 +31,29 @@ latest-same t o₁ o₂ (a, b) p f =
     go true = refl
     go false = refl
 
-module _ (m : Machine) (o₁ o₂ : Order) (ready : Traceable m) (ordered : IsOrder (ticksOf m) o₁ × IsOrder (ticksOf m) o₂) where
-  pub feeders-held : {held₁ held₂ : List ℕ} → (held₁ ≡ traceOf m o₁ .fed) × (held₂ ≡ traceOf m o₂ .fed)
-      → firstFailing (sameAt held₁ held₂) dacs ≡ feederPoint (settingsOf m) o₁ o₂
+module _ (text : Text) (m : Machine) (o₁ o₂ : Order) (ready : Traceable m) (ordered : IsOrder (ticksOf m) o₁ × IsOrder (ticksOf m) o₂) where
+  pub feeders-held : {held₁ held₂ : List ℕ} → (held₁ ≡ traceOf text m o₁ .fed) × (held₂ ≡ traceOf text m o₂ .fed)
+      → firstFailing (sameAt held₁ held₂) dacs ≡ feederPoint (settingsOf text m) o₁ o₂
   unfolding feederPoint sameAt
   feeders-held (e₁, e₂) =
       rw (e₁, e₂)
-      (failing-same (sameAt (traceOf m o₁ .fed) (traceOf m o₂ .fed)) (feederSame (settingsOf m) o₁ o₂) dacs
-      (λ d h. rw (trace-holds m o₁ ready (ordered .0) .feeder d h, trace-holds m o₂ ready (ordered .1) .feeder d h)
-      (latest-same (ticksOf m) o₁ o₂ ordered (settingsOf m .feeds d) (settingsOf m .source))))
+      (failing-same (sameAt (traceOf text m o₁ .fed) (traceOf text m o₂ .fed)) (feederSame (settingsOf text m) o₁ o₂) dacs
+      (λ d h. rw (trace-holds text m o₁ ready (ordered .0) .feeder d h, trace-holds text m o₂ ready (ordered .1) .feeder d h)
+      (latest-same (ticksOf m) o₁ o₂ ordered (settingsOf text m .feeds d) (settingsOf text m .source))))
 
   -- Both orders have as many writers, which are at most as many as there are generators.
-  same-writers : traceOf m o₁ .counts .writes ≡ traceOf m o₂ .counts .writes
-  same-writers = rw (trace-holds m o₁ ready (ordered .0) .writers, trace-holds m o₂ ready (ordered .1) .writers) refl
+  same-writers : traceOf text m o₁ .counts .writes ≡ traceOf text m o₂ .counts .writes
+  same-writers = rw (trace-holds text m o₁ ready (ordered .0) .writers, trace-holds text m o₂ ready (ordered .1) .writers) refl
 
-  pub few-writers : {n : ℕ} → n ≡ traceOf m o₁ .counts .writes → n ≤ generators
+  pub few-writers : {n : ℕ} → n ≡ traceOf text m o₁ .counts .writes → n ≤ generators
   few-writers e =
-      omega (arith, e, trace-holds m o₁ ready (ordered .0) .writers, count-below-le (settingsOf m .writes) (ticksOf m), ready .ticks)
+      omega (arith, e, trace-holds text m o₁ ready (ordered .0) .writers, count-below-le (settingsOf text m .writes) (ticksOf m), ready .ticks)
 
-  pub writers-held : {held₁ held₂ : List ℕ} {n : ℕ} → (held₁ ≡ traceOf m o₁ .written) × (held₂ ≡ traceOf m o₂ .written)
-      → n ≡ traceOf m o₁ .counts .writes → firstFailing (sameAt held₁ held₂) n ≡ writerPoint (settingsOf m) o₁ o₂
+  pub writers-held : {held₁ held₂ : List ℕ} {n : ℕ} → (held₁ ≡ traceOf text m o₁ .written) × (held₂ ≡ traceOf text m o₂ .written)
+      → n ≡ traceOf text m o₁ .counts .writes → firstFailing (sameAt held₁ held₂) n ≡ writerPoint (settingsOf text m) o₁ o₂
   unfolding writerPoint sameAt
   writers-held (e₁, e₂) e =
       rw (e₁, e₂, e)
-      (failing-same (sameAt (traceOf m o₁ .written) (traceOf m o₂ .written)) (writerSame (settingsOf m) o₁ o₂) (traceOf m o₁ .counts .writes)
-      (λ i h. rw (trace-holds m o₁ ready (ordered .0) .source i h, trace-holds m o₂ ready (ordered .1) .source i (rw same-writers at h)))
-      ∙ ap (firstFailing (writerSame (settingsOf m) o₁ o₂)) (trace-holds m o₁ ready (ordered .0) .writers))
+      (failing-same (sameAt (traceOf text m o₁ .written) (traceOf text m o₂ .written)) (writerSame (settingsOf text m) o₁ o₂) (traceOf text m o₁ .counts .writes)
+      (λ i h. rw (trace-holds text m o₁ ready (ordered .0) .source i h, trace-holds text m o₂ ready (ordered .1) .source i (rw same-writers at h)))
+      ∙ ap (firstFailing (writerSame (settingsOf text m) o₁ o₂)) (trace-holds text m o₁ ready (ordered .0) .writers))

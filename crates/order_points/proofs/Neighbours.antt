@@ -8,6 +8,8 @@ use borrow.Author.Tests.{leb-true}
 use lib.Dec.{leb}
 use Rattle.lists.proofs.Below.{and-first}
 use Rattle.layout.specs.Machine.{Machine, Order, ticksOf}
+use Rattle.texts.specs.Texts.{distanceOf}
+use Rattle.texts.specs.declared.Text.{Text}
 use Rattle.order_lists.specs.Sequences.{firstFailing, before}
 use Rattle.order_lists.proofs.Loops.{failing-same}
 use Rattle.order.specs.Order.{IsOrder}
@@ -17,28 +19,28 @@ use Rattle.order_traces.specs.Traces.{Traceable}
 use Rattle.order_traces.proofs.Holds.{trace-holds}
 use Rattle.order_points.specs.Loops.{Sides, sidesOf, sideBy, neighbourBy}
 
-module _ (m : Machine) (o₁ o₂ : Order) (ready : Traceable m) (ordered : IsOrder (ticksOf m) o₁ × IsOrder (ticksOf m) o₂) where
+module _ (text : Text) (m : Machine) (o₁ o₂ : Order) (ready : Traceable m) (ordered : IsOrder (ticksOf m) o₁ × IsOrder (ticksOf m) o₂) where
   -- Which side g stands on of h.
-  pub sides-held : (g h : ℕ) → g < ticksOf m → h < ticksOf m → sideBy (sidesOf m o₁ o₂) g h ≡ Bool·beq (before g h o₁) (before g h o₂)
+  pub sides-held : (g h : ℕ) → g < ticksOf m → h < ticksOf m → sideBy (sidesOf text m o₁ o₂) g h ≡ Bool·beq (before g h o₁) (before g h o₂)
   unfolding before
   sides-held g h a b =
-      let first = trace-holds m o₁ ready (ordered .0) in
-      let second = trace-holds m o₂ ready (ordered .1) in
+      let first = trace-holds text m o₁ ready (ordered .0) in
+      let second = trace-holds text m o₂ ready (ordered .1) in
       rw (first .place g a, first .place h b, second .place g a, second .place h b)
 
-  neighbour-held : (g : ℕ) → g < ticksOf m → neighbourBy m (sidesOf m o₁ o₂) g ≡ neighbourSame (settingsOf m) o₁ o₂ g
+  neighbour-held : (g : ℕ) → g < ticksOf m → neighbourBy text m (sidesOf text m o₁ o₂) g ≡ neighbourSame (settingsOf text m) o₁ o₂ g
   unfolding neighbourBy
   neighbour-held g h =
-      go (leb 1 g && settingsOf m .waits g && settingsOf m .triggering (g - 1)) refl
+      go (leb (distanceOf text) g && settingsOf text m .waits g && settingsOf text m .triggering (g - distanceOf text)) refl
     where
-      go : (b : Bool) → (leb 1 g && settingsOf m .waits g && settingsOf m .triggering (g - 1)) ≡ b
-          → cond b (sideBy (sidesOf m o₁ o₂) (g - 1) g) true ≡ cond b (Bool·beq (before (g - 1) g o₁) (before (g - 1) g o₂)) true
+      go : (b : Bool) → (leb (distanceOf text) g && settingsOf text m .waits g && settingsOf text m .triggering (g - distanceOf text)) ≡ b
+          → cond b (sideBy (sidesOf text m o₁ o₂) (g - distanceOf text) g) true ≡ cond b (Bool·beq (before (g - distanceOf text) g o₁) (before (g - distanceOf text) g o₂)) true
       go true e =
-          let a = and-first (leb 1 g && settingsOf m .waits g) (settingsOf m .triggering (g - 1)) e in
-          let l = leb-true 1 g (and-first (leb 1 g) (settingsOf m .waits g) a) in
-          sides-held (g - 1) g (omega arith) h
+          let a = and-first (leb (distanceOf text) g && settingsOf text m .waits g) (settingsOf text m .triggering (g - distanceOf text)) e in
+          let l = leb-true (distanceOf text) g (and-first (leb (distanceOf text) g) (settingsOf text m .waits g) a) in
+          sides-held (g - distanceOf text) g (omega arith) h
       go false e = refl
 
-  pub neighbours-held : {sides : Sides} → sides ≡ sidesOf m o₁ o₂ → firstFailing (neighbourBy m sides) (ticksOf m) ≡ neighbourPoint (settingsOf m) o₁ o₂
+  pub neighbours-held : {sides : Sides} → sides ≡ sidesOf text m o₁ o₂ → firstFailing (neighbourBy text m sides) (ticksOf m) ≡ neighbourPoint (settingsOf text m) o₁ o₂
   unfolding neighbourPoint
-  neighbours-held e = rw e (failing-same (neighbourBy m (sidesOf m o₁ o₂)) (neighbourSame (settingsOf m) o₁ o₂) (ticksOf m) neighbour-held)
+  neighbours-held e = rw e (failing-same (neighbourBy text m (sidesOf text m o₁ o₂)) (neighbourSame (settingsOf text m) o₁ o₂) (ticksOf m) neighbour-held)

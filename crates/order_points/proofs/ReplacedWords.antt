@@ -16,6 +16,7 @@ use Rattle.lists.proofs.Below.{below-same, below-from}
 use Rattle.lists.proofs.Zeros.{zeros-length, zeros-at}
 use Rattle.layout.specs.Layout.{generators, quadrantWords}
 use Rattle.layout.specs.Machine.{Machine, Order, ticksOf, gsumAt}
+use Rattle.texts.specs.declared.Text.{Text}
 use Rattle.order_lists.specs.Sequences.{some, lastOf, before, firstFailing, latest}
 use Rattle.order_lists.proofs.Orders.{some-orders, last-below}
 use Rattle.order_lists.proofs.Loops.{failing-same}
@@ -28,29 +29,29 @@ use Rattle.order_points.specs.Loops.{Sides, sidesOf, sideBy, sameAt, add
 use Rattle.order_points.proofs.Neighbours.{sides-held}
 
 -- The marks of the generators below n: a word has none just where each of them stands on the same side.
-record MarksHold (m : Machine) (sides : Sides) (last marks : List ℕ) (n : ℕ) : Type 0 where
+record MarksHold (text : Text) (m : Machine) (sides : Sides) (last marks : List ℕ) (n : ℕ) : Type 0 where
   pub marks-length : length marks ≡ quadrantWords
-  pub mark : (w : ℕ) → w < quadrantWords → eqb (getD marks w 0) 0 ≡ allBelow (adderBy m sides last w) n
+  pub mark : (w : ℕ) → w < quadrantWords → eqb (getD marks w 0) 0 ≡ allBelow (adderBy text m sides last w) n
 
-module _ (m : Machine) (sides : Sides) (last : List ℕ) where
-  marks-none : MarksHold m sides last (zeros quadrantWords) 0
+module _ (text : Text) (m : Machine) (sides : Sides) (last : List ℕ) where
+  marks-none : MarksHold text m sides last (zeros quadrantWords) 0
   marks-none = record { marks-length = zeros-length quadrantWords; mark = λ w h. rw (zeros-at quadrantWords w h) }
 
   -- A generator says nothing of another word.
-  elsewhere : (w g : ℕ) → eqb (gsumAt m g) w ≡ false → adderBy m sides last w g ≡ true
+  elsewhere : (w g : ℕ) → eqb (gsumAt m g) w ≡ false → adderBy text m sides last w g ≡ true
   unfolding adderBy
   elsewhere w g e = rw e
 
-  marks-next : (marks : List ℕ) (g : ℕ) → gsumAt m g < quadrantWords → MarksHold m sides last marks g
-      → MarksHold m sides last (markedBy m sides last g marks) (suc g)
+  marks-next : (marks : List ℕ) (g : ℕ) → gsumAt m g < quadrantWords → MarksHold text m sides last marks g
+      → MarksHold text m sides last (markedBy text m sides last g marks) (suc g)
   marks-next marks g low k =
-      record { marks-length = long (adderBy m sides last (gsumAt m g) g); mark = λ w h. by-word w h (eqb (gsumAt m g) w) refl }
+      record { marks-length = long (adderBy text m sides last (gsumAt m g) g); mark = λ w h. by-word w h (eqb (gsumAt m g) w) refl }
     where
       long : (b : Bool) → length (cond b marks (set marks (gsumAt m g) 1)) ≡ quadrantWords
       long true = k .marks-length
       long false = length-set marks (gsumAt m g) 1 ∙ k .marks-length
 
-      here : (b : Bool) → eqb (getD (cond b marks (set marks (gsumAt m g) 1)) (gsumAt m g) 0) 0 ≡ (b && allBelow (adderBy m sides last (gsumAt m g)) g)
+      here : (b : Bool) → eqb (getD (cond b marks (set marks (gsumAt m g) 1)) (gsumAt m g) 0) 0 ≡ (b && allBelow (adderBy text m sides last (gsumAt m g)) g)
       here true = k .mark (gsumAt m g) low
       here false = rw (getD-set-same marks (gsumAt m g) 1 0 (rw (k .marks-length) low))
 
@@ -59,148 +60,148 @@ module _ (m : Machine) (sides : Sides) (last : List ℕ) where
       other w q false = getD-set-other marks (gsumAt m g) w 1 0 (λ x. eqb-false (gsumAt m g) w q (sym x))
 
       by-word : (w : ℕ) → w < quadrantWords → (c : Bool) → eqb (gsumAt m g) w ≡ c
-          → eqb (getD (markedBy m sides last g marks) w 0) 0 ≡ (adderBy m sides last w g && allBelow (adderBy m sides last w) g)
-      by-word w h true q = rw (← (eqb-true (gsumAt m g) w q)) (here (adderBy m sides last (gsumAt m g) g))
-      by-word w h false q = rw (elsewhere w g q, other w q (adderBy m sides last (gsumAt m g) g)) (k .mark w h)
+          → eqb (getD (markedBy text m sides last g marks) w 0) 0 ≡ (adderBy text m sides last w g && allBelow (adderBy text m sides last w) g)
+      by-word w h true q = rw (← (eqb-true (gsumAt m g) w q)) (here (adderBy text m sides last (gsumAt m g) g))
+      by-word w h false q = rw (elsewhere w g q, other w q (adderBy text m sides last (gsumAt m g) g)) (k .mark w h)
 
-  marks-hold : Traceable m → (n : ℕ) → n ≤ generators → MarksHold m sides last (marksOf m sides last n) n
+  marks-hold : Traceable m → (n : ℕ) → n ≤ generators → MarksHold text m sides last (marksOf text m sides last n) n
   unfolding marksOf
   marks-hold ready zero h = marks-none
-  marks-hold ready (suc n) h = marks-next (marksOf m sides last n) n (ready .gsums n (omega arith)) (marks-hold ready n (omega arith))
+  marks-hold ready (suc n) h = marks-next (marksOf text m sides last n) n (ready .gsums n (omega arith)) (marks-hold ready n (omega arith))
 
   -- The loop: none yet, and one generator more.
-  pub marked-none : {marks : List ℕ} → marks ≡ zeros quadrantWords → marks ≡ marksOf m sides last 0
+  pub marked-none : {marks : List ℕ} → marks ≡ zeros quadrantWords → marks ≡ marksOf text m sides last 0
   unfolding marksOf
   marked-none e = e
 
-  pub marked-next : (g : ℕ) {marks marked : List ℕ} → marks ≡ marksOf m sides last g → marked ≡ markedBy m sides last g marks
-      → marked ≡ marksOf m sides last (g + 1)
+  pub marked-next : (g : ℕ) {marks marked : List ℕ} → marks ≡ marksOf text m sides last g → marked ≡ markedBy text m sides last g marks
+      → marked ≡ marksOf text m sides last (g + 1)
   unfolding marksOf
   marked-next g e f = rw (add-one g, f, e)
 
 -- The bound on what is held of the last 0111s.
-pub lasts-within : (m : Machine) (order : Order) → Traceable m → IsOrder (ticksOf m) order → {r : Replaced} → r ≡ traceOf m order .replaced → LastsWithin (r .last)
+pub lasts-within : (text : Text) (m : Machine) (order : Order) → Traceable m → IsOrder (ticksOf m) order → {r : Replaced} → r ≡ traceOf text m order .replaced → LastsWithin (r .last)
 unfolding latest
-lasts-within m order ready o e =
-    rw e (record { within = λ w h. rw (trace-holds m order ready o .last w h) (within w (some (replacesWord (settingsOf m) w) order) refl) })
+lasts-within text m order ready o e =
+    rw e (record { within = λ w h. rw (trace-holds text m order ready o .last w h) (within w (some (replacesWord (settingsOf text m) w) order) refl) })
   where
-    within : (w : ℕ) (b : Bool) → some (replacesWord (settingsOf m) w) order ≡ b → cond b (suc (lastOf (replacesWord (settingsOf m) w) order)) 0 ≤ generators
-    within w true e = omega (arith, last-below (ticksOf m) order (o .once) (o .below) (replacesWord (settingsOf m) w) e, ready .ticks)
+    within : (w : ℕ) (b : Bool) → some (replacesWord (settingsOf text m) w) order ≡ b → cond b (suc (lastOf (replacesWord (settingsOf text m) w) order)) 0 ≤ generators
+    within w true e = omega (arith, last-below (ticksOf m) order (o .once) (o .below) (replacesWord (settingsOf text m) w) e, ready .ticks)
     within w false e = omega arith
 
-module _ (m : Machine) (o₁ o₂ : Order) (ready : Traceable m) (ordered : IsOrder (ticksOf m) o₁ × IsOrder (ticksOf m) o₂) where
+module _ (text : Text) (m : Machine) (o₁ o₂ : Order) (ready : Traceable m) (ordered : IsOrder (ticksOf m) o₁ × IsOrder (ticksOf m) o₂) where
   -- The two traces, the places that they hold, and the marks.
   abbrev first : Replaced
-  first = traceOf m o₁ .replaced
+  first = traceOf text m o₁ .replaced
 
   abbrev second : Replaced
-  second = traceOf m o₂ .replaced
+  second = traceOf text m o₂ .replaced
 
   abbrev both : Sides
-  both = sidesOf m o₁ o₂
+  both = sidesOf text m o₁ o₂
 
   abbrev marks : List ℕ
-  marks = marksOf m (sidesOf m o₁ o₂) (traceOf m o₁ .replaced .last) (ticksOf m)
+  marks = marksOf text m (sidesOf text m o₁ o₂) (traceOf text m o₁ .replaced .last) (ticksOf m)
 
-  held₁ : Holds m o₁ (traceOf m o₁)
-  held₁ = trace-holds m o₁ ready (ordered .0)
+  held₁ : Holds text m o₁ (traceOf text m o₁)
+  held₁ = trace-holds text m o₁ ready (ordered .0)
 
-  held₂ : Holds m o₂ (traceOf m o₂)
-  held₂ = trace-holds m o₂ ready (ordered .1)
+  held₂ : Holds text m o₂ (traceOf text m o₂)
+  held₂ = trace-holds text m o₂ ready (ordered .1)
 
-  mark : (w : ℕ) → w < quadrantWords → eqb (getD marks w 0) 0 ≡ allBelow (adderBy m both (first .last) w) (ticksOf m)
-  mark = marks-hold m both (first .last) ready (ticksOf m) (ready .ticks) .mark
+  mark : (w : ℕ) → w < quadrantWords → eqb (getD marks w 0) 0 ≡ allBelow (adderBy text m both (first .last) w) (ticksOf m)
+  mark = marks-hold text m both (first .last) ready (ticksOf m) (ready .ticks) .mark
 
-  some-two : (w : ℕ) → some (replacesWord (settingsOf m) w) o₂ ≡ some (replacesWord (settingsOf m) w) o₁
+  some-two : (w : ℕ) → some (replacesWord (settingsOf text m) w) o₂ ≡ some (replacesWord (settingsOf text m) w) o₁
   some-two w =
-      sym (some-orders (ticksOf m) o₁ o₂ (ordered .0 .once) (ordered .1 .once) (ordered .0 .below) (ordered .1 .below) (replacesWord (settingsOf m) w))
+      sym (some-orders (ticksOf m) o₁ o₂ (ordered .0 .once) (ordered .1 .once) (ordered .0 .below) (ordered .1 .below) (replacesWord (settingsOf text m) w))
 
   -- A word with a 0111.
-  module _ (w : ℕ) (h : w < quadrantWords) (e : some (replacesWord (settingsOf m) w) o₁ ≡ true) where
-    pub first-last : getD (traceOf m o₁ .replaced .last) w 0 ≡ suc (lastReplacing (settingsOf m) w o₁)
+  module _ (w : ℕ) (h : w < quadrantWords) (e : some (replacesWord (settingsOf text m) w) o₁ ≡ true) where
+    pub first-last : getD (traceOf text m o₁ .replaced .last) w 0 ≡ suc (lastReplacing (settingsOf text m) w o₁)
     unfolding latest
     first-last = held₁ .last w h ∙ rw e
 
-    pub second-last : getD (traceOf m o₂ .replaced .last) w 0 ≡ suc (lastReplacing (settingsOf m) w o₂)
+    pub second-last : getD (traceOf text m o₂ .replaced .last) w 0 ≡ suc (lastReplacing (settingsOf text m) w o₂)
     unfolding latest
     second-last = held₂ .last w h ∙ rw (some-two w, e)
 
-    pub first-among : getD (traceOf m o₁ .replaced .among) w 0 ≡ placeReplacing (settingsOf m) w o₁
+    pub first-among : getD (traceOf text m o₁ .replaced .among) w 0 ≡ placeReplacing (settingsOf text m) w o₁
     unfolding latest
     first-among = held₁ .among w h ∙ rw e
 
-    pub second-among : getD (traceOf m o₂ .replaced .among) w 0 ≡ placeReplacing (settingsOf m) w o₂
+    pub second-among : getD (traceOf text m o₂ .replaced .among) w 0 ≡ placeReplacing (settingsOf text m) w o₂
     unfolding latest
     second-among = held₂ .among w h ∙ rw (some-two w, e)
 
     adder-held : (g : ℕ) → g < ticksOf m
-        → adderBy m both (first .last) w g
-        ≡ cond (addsToWord (settingsOf m) w g) (Bool·beq (before (lastReplacing (settingsOf m) w o₁) g o₁) (before (lastReplacing (settingsOf m) w o₁) g o₂)) true
+        → adderBy text m both (first .last) w g
+        ≡ cond (addsToWord (settingsOf text m) w g) (Bool·beq (before (lastReplacing (settingsOf text m) w o₁) g o₁) (before (lastReplacing (settingsOf text m) w o₁) g o₂)) true
     unfolding adderBy
     adder-held g l =
-        let p : suc (lastReplacing (settingsOf m) w o₁) - 1 ≡ lastReplacing (settingsOf m) w o₁ = omega arith in
-        rw (first-last, eqb·suc-zero (lastReplacing (settingsOf m) w o₁), p, and-true (addsToWord (settingsOf m) w g), on-sides) refl
+        let p : suc (lastReplacing (settingsOf text m) w o₁) - 1 ≡ lastReplacing (settingsOf text m) w o₁ = omega arith in
+        rw (first-last, eqb·suc-zero (lastReplacing (settingsOf text m) w o₁), p, and-true (addsToWord (settingsOf text m) w g), on-sides) refl
       where
-        on-sides : sideBy both (lastReplacing (settingsOf m) w o₁) g
-            ≡ Bool·beq (before (lastReplacing (settingsOf m) w o₁) g o₁) (before (lastReplacing (settingsOf m) w o₁) g o₂)
+        on-sides : sideBy both (lastReplacing (settingsOf text m) w o₁) g
+            ≡ Bool·beq (before (lastReplacing (settingsOf text m) w o₁) g o₁) (before (lastReplacing (settingsOf text m) w o₁) g o₂)
         on-sides =
-            sides-held m o₁ o₂ ready ordered (lastReplacing (settingsOf m) w o₁) g
-            (last-below (ticksOf m) o₁ (ordered .0 .once) (ordered .0 .below) (replacesWord (settingsOf m) w) e) l
+            sides-held text m o₁ o₂ ready ordered (lastReplacing (settingsOf text m) w o₁) g
+            (last-below (ticksOf m) o₁ (ordered .0 .once) (ordered .0 .below) (replacesWord (settingsOf text m) w) e) l
 
-    adder-agrees : lastReplacing (settingsOf m) w o₁ ≡ lastReplacing (settingsOf m) w o₂ → (g : ℕ) → g < ticksOf m
-        → adderBy m both (first .last) w g
-        ≡ cond (addsToWord (settingsOf m) w g) (Bool·beq (afterReplacing (settingsOf m) w g o₁) (afterReplacing (settingsOf m) w g o₂)) true
+    adder-agrees : lastReplacing (settingsOf text m) w o₁ ≡ lastReplacing (settingsOf text m) w o₂ → (g : ℕ) → g < ticksOf m
+        → adderBy text m both (first .last) w g
+        ≡ cond (addsToWord (settingsOf text m) w g) (Bool·beq (afterReplacing (settingsOf text m) w g o₁) (afterReplacing (settingsOf text m) w g o₂)) true
     adder-agrees q g l =
         adder-held g l
-        ∙ ap (λ (x : ℕ). cond (addsToWord (settingsOf m) w g) (Bool·beq (before (lastReplacing (settingsOf m) w o₁) g o₁) (before x g o₂)) true) q
+        ∙ ap (λ (x : ℕ). cond (addsToWord (settingsOf text m) w g) (Bool·beq (before (lastReplacing (settingsOf text m) w o₁) g o₁) (before x g o₂)) true) q
 
-    word-there : wordBy first second marks w ≡ wordSame (settingsOf m) o₁ o₂ w
+    word-there : wordBy first second marks w ≡ wordSame (settingsOf text m) o₁ o₂ w
     unfolding wordBy sameAt
     word-there =
-        rw (e, first-last, second-last, first-among, second-among, mark w h, eqb·suc-suc (lastReplacing (settingsOf m) w o₁) (lastReplacing (settingsOf m) w o₂))
-        (go (eqb (lastReplacing (settingsOf m) w o₁) (lastReplacing (settingsOf m) w o₂)) refl
-        (eqb (placeReplacing (settingsOf m) w o₁) (placeReplacing (settingsOf m) w o₂)))
+        rw (e, first-last, second-last, first-among, second-among, mark w h, eqb·suc-suc (lastReplacing (settingsOf text m) w o₁) (lastReplacing (settingsOf text m) w o₂))
+        (go (eqb (lastReplacing (settingsOf text m) w o₁) (lastReplacing (settingsOf text m) w o₂)) refl
+        (eqb (placeReplacing (settingsOf text m) w o₁) (placeReplacing (settingsOf text m) w o₂)))
       where
-        go : (a : Bool) → eqb (lastReplacing (settingsOf m) w o₁) (lastReplacing (settingsOf m) w o₂) ≡ a → (b : Bool)
-            → ((a && b) && allBelow (adderBy m both (first .last) w) (ticksOf m))
+        go : (a : Bool) → eqb (lastReplacing (settingsOf text m) w o₁) (lastReplacing (settingsOf text m) w o₂) ≡ a → (b : Bool)
+            → ((a && b) && allBelow (adderBy text m both (first .last) w) (ticksOf m))
             ≡ ((a && b)
             && allBelow
-            (λ g. cond (addsToWord (settingsOf m) w g) (Bool·beq (afterReplacing (settingsOf m) w g o₁) (afterReplacing (settingsOf m) w g o₂)) true)
+            (λ g. cond (addsToWord (settingsOf text m) w g) (Bool·beq (afterReplacing (settingsOf text m) w g o₁) (afterReplacing (settingsOf text m) w g o₂)) true)
             (ticksOf m))
         go true q b =
             ap (λ (v : Bool). (true && b) && v)
-            (below-same (adderBy m both (first .last) w)
-            (λ g. cond (addsToWord (settingsOf m) w g) (Bool·beq (afterReplacing (settingsOf m) w g o₁) (afterReplacing (settingsOf m) w g o₂)) true)
-            (ticksOf m) (adder-agrees (eqb-true (lastReplacing (settingsOf m) w o₁) (lastReplacing (settingsOf m) w o₂) q)))
+            (below-same (adderBy text m both (first .last) w)
+            (λ g. cond (addsToWord (settingsOf text m) w g) (Bool·beq (afterReplacing (settingsOf text m) w g o₁) (afterReplacing (settingsOf text m) w g o₂)) true)
+            (ticksOf m) (adder-agrees (eqb-true (lastReplacing (settingsOf text m) w o₁) (lastReplacing (settingsOf text m) w o₂) q)))
         go false q b = refl
 
   -- A word without one.
-  module _ (w : ℕ) (h : w < quadrantWords) (e : some (replacesWord (settingsOf m) w) o₁ ≡ false) where
-    nothing : (order : Order) (t : Trace) → some (replacesWord (settingsOf m) w) order ≡ false → Holds m order t
+  module _ (w : ℕ) (h : w < quadrantWords) (e : some (replacesWord (settingsOf text m) w) o₁ ≡ false) where
+    nothing : (order : Order) (t : Trace) → some (replacesWord (settingsOf text m) w) order ≡ false → Holds text m order t
         → (getD (t .replaced .last) w 0 ≡ 0) × (getD (t .replaced .among) w 0 ≡ 0)
     unfolding latest
     nothing order t n r = (r .last w h ∙ rw n, r .among w h ∙ rw n)
 
-    none-held : (g : ℕ) → g < ticksOf m → adderBy m both (first .last) w g ≡ true
+    none-held : (g : ℕ) → g < ticksOf m → adderBy text m both (first .last) w g ≡ true
     unfolding adderBy
-    none-held g l = rw (nothing o₁ (traceOf m o₁) e held₁ .0, and-false (addsToWord (settingsOf m) w g))
+    none-held g l = rw (nothing o₁ (traceOf text m o₁) e held₁ .0, and-false (addsToWord (settingsOf text m) w g))
 
-    word-none : wordBy first second marks w ≡ wordSame (settingsOf m) o₁ o₂ w
+    word-none : wordBy first second marks w ≡ wordSame (settingsOf text m) o₁ o₂ w
     unfolding wordBy sameAt
     word-none =
-        let a = nothing o₁ (traceOf m o₁) e held₁ in
-        let b = nothing o₂ (traceOf m o₂) (some-two w ∙ e) held₂ in
-        rw (e, a .0, a .1, b .0, b .1, mark w h) (below-from (adderBy m both (first .last) w) (ticksOf m) none-held)
+        let a = nothing o₁ (traceOf text m o₁) e held₁ in
+        let b = nothing o₂ (traceOf text m o₂) (some-two w ∙ e) held₂ in
+        rw (e, a .0, a .1, b .0, b .1, mark w h) (below-from (adderBy text m both (first .last) w) (ticksOf m) none-held)
 
-  word-held : (w : ℕ) → w < quadrantWords → wordBy first second marks w ≡ wordSame (settingsOf m) o₁ o₂ w
-  word-held w h = go (some (replacesWord (settingsOf m) w) o₁) refl
+  word-held : (w : ℕ) → w < quadrantWords → wordBy first second marks w ≡ wordSame (settingsOf text m) o₁ o₂ w
+  word-held w h = go (some (replacesWord (settingsOf text m) w) o₁) refl
     where
-      go : (b : Bool) → some (replacesWord (settingsOf m) w) o₁ ≡ b → wordBy first second marks w ≡ wordSame (settingsOf m) o₁ o₂ w
+      go : (b : Bool) → some (replacesWord (settingsOf text m) w) o₁ ≡ b → wordBy first second marks w ≡ wordSame (settingsOf text m) o₁ o₂ w
       go true e = word-there w h e
       go false e = word-none w h e
 
-  pub words-held : (s : Sides) (r₁ r₂ : Replaced) {marked : List ℕ} → s ≡ sidesOf m o₁ o₂ → (r₁ ≡ traceOf m o₁ .replaced) × (r₂ ≡ traceOf m o₂ .replaced)
-      → marked ≡ marksOf m s (r₁ .last) (ticksOf m) → firstFailing (wordBy r₁ r₂ marked) quadrantWords ≡ wordPoint (settingsOf m) o₁ o₂
+  pub words-held : (s : Sides) (r₁ r₂ : Replaced) {marked : List ℕ} → s ≡ sidesOf text m o₁ o₂ → (r₁ ≡ traceOf text m o₁ .replaced) × (r₂ ≡ traceOf text m o₂ .replaced)
+      → marked ≡ marksOf text m s (r₁ .last) (ticksOf m) → firstFailing (wordBy r₁ r₂ marked) quadrantWords ≡ wordPoint (settingsOf text m) o₁ o₂
   unfolding wordPoint
   words-held s r₁ r₂ es (e₁, e₂) em =
-      rw (em, es, e₁, e₂) (failing-same (wordBy first second marks) (wordSame (settingsOf m) o₁ o₂) quadrantWords word-held)
+      rw (em, es, e₁, e₂) (failing-same (wordBy first second marks) (wordSame (settingsOf text m) o₁ o₂) quadrantWords word-held)

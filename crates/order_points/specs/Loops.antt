@@ -8,6 +8,7 @@ use lib.ListN.{getD, set}
 use Rattle.lists.specs.Lists.{zeros}
 use Rattle.layout.specs.Layout.{generators, quadrantWords}
 use Rattle.layout.specs.Machine.{Machine, Order, gsumAt}
+use Rattle.texts.specs.declared.Text.{Text}
 use Rattle.order_agreement.specs.Agreement.{settingsOf, awaits, addsToWord}
 use Rattle.order_traces.specs.Traces.{Replaced, traceOf}
 
@@ -16,8 +17,8 @@ pub record Sides : Type 0 where
   pub first : List ℕ
   pub second : List ℕ
 
-abbrev pub sidesOf : Machine → Order → Order → Sides
-sidesOf m o₁ o₂ = record { first = traceOf m o₁ .place; second = traceOf m o₂ .place }
+abbrev pub sidesOf : Text → Machine → Order → Order → Sides
+sidesOf text m o₁ o₂ = record { first = traceOf text m o₁ .place; second = traceOf text m o₂ .place }
 
 -- Whether g stands before h.
 abbrev pub earlier : List ℕ → ℕ → ℕ → Bool
@@ -28,9 +29,9 @@ abbrev pub sideBy : Sides → ℕ → ℕ → Bool
 sideBy s g h = Bool·beq (earlier (s .first) g h) (earlier (s .second) g h)
 
 -- The first point at generator g.
-unfoldable pub neighbourBy : Machine → Sides → ℕ → Bool
-neighbourBy m sides g =
-    let s = settingsOf m in
+unfoldable pub neighbourBy : Text → Machine → Sides → ℕ → Bool
+neighbourBy text m sides g =
+    let s = settingsOf text m in
     cond (awaits s g) (sideBy sides (g - s .distance) g) true
 
 -- Whether two arrays hold the same number.
@@ -42,17 +43,17 @@ pub record LastsWithin (last : List ℕ) : Type 0 where
   pub within : (w : ℕ) → w < quadrantWords → getD last w 0 ≤ generators
 
 -- Whether g, if it adds to word w, stands on the same side of the word's last 0111 in both orders.
-unfoldable pub adderBy : Machine → Sides → List ℕ → ℕ → ℕ → Bool
-adderBy m sides last w g =
-    cond (addsToWord (settingsOf m) w g && not (eqb (getD last w 0) 0)) (sideBy sides (getD last w 0 - 1) g) true
+unfoldable pub adderBy : Text → Machine → Sides → List ℕ → ℕ → ℕ → Bool
+adderBy text m sides last w g =
+    cond (addsToWord (settingsOf text m) w g && not (eqb (getD last w 0) 0)) (sideBy sides (getD last w 0 - 1) g) true
 
 -- A mark for the word of g, if g adds to it on another side; and the marks of all generators below n.
-abbrev pub markedBy : Machine → Sides → List ℕ → ℕ → List ℕ → List ℕ
-markedBy m sides last g marks = cond (adderBy m sides last (gsumAt m g) g) marks (set marks (gsumAt m g) 1)
+abbrev pub markedBy : Text → Machine → Sides → List ℕ → ℕ → List ℕ → List ℕ
+markedBy text m sides last g marks = cond (adderBy text m sides last (gsumAt m g) g) marks (set marks (gsumAt m g) 1)
 
-unfoldable pub marksOf : Machine → Sides → List ℕ → ℕ → List ℕ
-marksOf m sides last zero = zeros quadrantWords
-marksOf m sides last (suc n) = markedBy m sides last n (marksOf m sides last n)
+unfoldable pub marksOf : Text → Machine → Sides → List ℕ → ℕ → List ℕ
+marksOf text m sides last zero = zeros quadrantWords
+marksOf text m sides last (suc n) = markedBy text m sides last n (marksOf text m sides last n)
 
 -- The fourth point at word w.
 unfoldable pub wordBy : Replaced → Replaced → List ℕ → ℕ → Bool

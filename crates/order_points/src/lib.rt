@@ -16,6 +16,7 @@ use order_traces::Feeders;
 use order_traces::GeneratorPlaces;
 use order_traces::SumWords;
 use order_traces::Writers;
+use texts::Text;
 
 // A mark for each sum word.
 type Marks = [u8; layout::QUADRANT_WORDS];
@@ -29,19 +30,27 @@ pub fn same_side(place1: &GeneratorPlaces, place2: &GeneratorPlaces, g: usize, h
 }
 
 // The first point at generator g.
-fn neighbour_same(m: &[u32], place1: &GeneratorPlaces, place2: &GeneratorPlaces, g: usize) -> bool
+fn neighbour_same(
+    text: Text,
+    m: &[u32],
+    place1: &GeneratorPlaces,
+    place2: &GeneratorPlaces,
+    g: usize,
+) -> bool
     requires { ⌜ Reaches (now m) ⌝ }
     requires { ⌜ g < generators ⌝ }
-    ensures { λ r. ⌜ r ≡ neighbourBy (now (m .entry)) (record { first = now (place1 .entry); second = now (place2 .entry) }) g ⌝ }
+    ensures { λ r. ⌜ r ≡ neighbourBy text (now (m .entry)) (record { first = now (place1 .entry); second = now (place2 .entry) }) g ⌝ }
 {
-    if !order_roles::awaits(m, g) {
+    if !order_roles::awaits(text, m, g) {
         return true;
     }
-    same_side(place1, place2, g - 1, g)
+    let distance = texts::distance(text);
+    same_side(place1, place2, g - distance, g)
 }
 
 // The lowest generator that waits and has a lower neighbour that can trigger on another side; T where there is none.
 pub fn neighbour_point(
+    text: Text,
     m: &[u32],
     first: &[u32],
     second: &[u32],
@@ -50,13 +59,13 @@ pub fn neighbour_point(
 ) -> usize
     requires { ⌜ Traceable (now m) ⌝ }
     requires { ⌜ IsOrder (ticksOf (now m)) (now first) × IsOrder (ticksOf (now m)) (now second) ⌝ }
-    requires { ⌜ record { first = now place1; second = now place2 } ≡ sidesOf (now m) (now first) (now second) ⌝ }
-    ensures { λ r. ⌜ r ≡ neighbourPoint (settingsOf (now (m .entry))) (now (first .entry)) (now (second .entry)) ⌝ }
+    requires { ⌜ record { first = now place1; second = now place2 } ≡ sidesOf text (now m) (now first) (now second) ⌝ }
+    ensures { λ r. ⌜ r ≡ neighbourPoint (settingsOf text (now (m .entry))) (now (first .entry)) (now (second .entry)) ⌝ }
 {
     let t = layout::ticks(m);
     let mut g: usize = 0;
     while g < t {
-        if !neighbour_same(m, place1, place2, g) {
+        if !neighbour_same(text, m, place1, place2, g) {
             return g;
         }
         g += 1;
@@ -81,6 +90,7 @@ fn first_difference(first: &[u32], second: &[u32], n: usize) -> usize
 
 // The lowest DAC that is fed last through another GFM; DACS where there is none.
 pub fn feeder_point(
+    text: Text,
     m: &[u32],
     first: &[u32],
     second: &[u32],
@@ -89,14 +99,15 @@ pub fn feeder_point(
 ) -> usize
     requires { ⌜ Traceable (now m) ⌝ }
     requires { ⌜ IsOrder (ticksOf (now m)) (now first) × IsOrder (ticksOf (now m)) (now second) ⌝ }
-    requires { ⌜ (now fed1 ≡ traceOf (now m) (now first) .fed) × (now fed2 ≡ traceOf (now m) (now second) .fed) ⌝ }
-    ensures { λ r. ⌜ r ≡ feederPoint (settingsOf (now (m .entry))) (now (first .entry)) (now (second .entry)) ⌝ }
+    requires { ⌜ (now fed1 ≡ traceOf text (now m) (now first) .fed) × (now fed2 ≡ traceOf text (now m) (now second) .fed) ⌝ }
+    ensures { λ r. ⌜ r ≡ feederPoint (settingsOf text (now (m .entry))) (now (first .entry)) (now (second .entry)) ⌝ }
 {
     first_difference(fed1, fed2, layout::DACS)
 }
 
 // The lowest place at which the GFMs of the written data, n in each order, differ; n where there is none.
 pub fn writer_point(
+    text: Text,
     m: &[u32],
     first: &[u32],
     second: &[u32],
@@ -106,15 +117,16 @@ pub fn writer_point(
 ) -> usize
     requires { ⌜ Traceable (now m) ⌝ }
     requires { ⌜ IsOrder (ticksOf (now m)) (now first) × IsOrder (ticksOf (now m)) (now second) ⌝ }
-    requires { ⌜ (now written1 ≡ traceOf (now m) (now first) .written) × (now written2 ≡ traceOf (now m) (now second) .written) ⌝ }
-    requires { ⌜ n ≡ traceOf (now m) (now first) .counts .writes ⌝ }
-    ensures { λ r. ⌜ r ≡ writerPoint (settingsOf (now (m .entry))) (now (first .entry)) (now (second .entry)) ⌝ }
+    requires { ⌜ (now written1 ≡ traceOf text (now m) (now first) .written) × (now written2 ≡ traceOf text (now m) (now second) .written) ⌝ }
+    requires { ⌜ n ≡ traceOf text (now m) (now first) .counts .writes ⌝ }
+    ensures { λ r. ⌜ r ≡ writerPoint (settingsOf text (now (m .entry))) (now (first .entry)) (now (second .entry)) ⌝ }
 {
     first_difference(written1, written2, n)
 }
 
 // If generator g adds to a word and stands on another side of the word's last 0111 in one order than in the other, the word is marked.
 fn adder(
+    text: Text,
     m: &[u32],
     place1: &GeneratorPlaces,
     place2: &GeneratorPlaces,
@@ -124,9 +136,9 @@ fn adder(
 )
     requires { ⌜ Traceable (now m) ⌝ }
     requires { ⌜ LastsWithin (now last) × (g < generators) ⌝ }
-    ensures { λ r. ⌜ now (marks .exit) ≡ markedBy (now (m .entry)) (record { first = now (place1 .entry); second = now (place2 .entry) }) (now (last .entry)) g (now (marks .entry)) ⌝ }
+    ensures { λ r. ⌜ now (marks .exit) ≡ markedBy text (now (m .entry)) (record { first = now (place1 .entry); second = now (place2 .entry) }) (now (last .entry)) g (now (marks .entry)) ⌝ }
 {
-    if !order_roles::adding(layout::run_mode(m, g)) {
+    if !order_roles::adding(texts::run_mode(text, m, g)) {
         return;
     }
     let w = layout::gsum(m, g);
@@ -142,6 +154,7 @@ fn adder(
 
 // The words are marked of which an adding generator stands on another side of the last 0111 in one order than in the other.
 fn adders(
+    text: Text,
     m: &[u32],
     place1: &GeneratorPlaces,
     place2: &GeneratorPlaces,
@@ -151,12 +164,12 @@ fn adders(
     requires { ⌜ Traceable (now m) ⌝ }
     requires { ⌜ LastsWithin (now last) ⌝ }
     requires { ⌜ now marks ≡ zeros quadrantWords ⌝ }
-    ensures { λ r. ⌜ now (marks .exit) ≡ marksOf (now (m .entry)) (record { first = now (place1 .entry); second = now (place2 .entry) }) (now (last .entry)) (ticksOf (now (m .entry))) ⌝ }
+    ensures { λ r. ⌜ now (marks .exit) ≡ marksOf text (now (m .entry)) (record { first = now (place1 .entry); second = now (place2 .entry) }) (now (last .entry)) (ticksOf (now (m .entry))) ⌝ }
 {
     let t = layout::ticks(m);
     let mut g: usize = 0;
     while g < t {
-        adder(m, place1, place2, last, marks, g);
+        adder(text, m, place1, place2, last, marks, g);
         g += 1;
     }
 }
@@ -199,6 +212,7 @@ fn words(
 // The lowest word with a 0111 that has another last one, or at another place among all 0111s, or other adding generators after it;
 // QUADRANT_WORDS where there is none.
 pub fn word_point(
+    text: Text,
     m: &[u32],
     first: &[u32],
     second: &[u32],
@@ -211,11 +225,11 @@ pub fn word_point(
 ) -> usize
     requires { ⌜ Traceable (now m) ⌝ }
     requires { ⌜ IsOrder (ticksOf (now m)) (now first) × IsOrder (ticksOf (now m)) (now second) ⌝ }
-    requires { ⌜ record { first = now place1; second = now place2 } ≡ sidesOf (now m) (now first) (now second) ⌝ }
-    requires { ⌜ (record { last = now last1; among = now among1 } ≡ traceOf (now m) (now first) .replaced) × (record { last = now last2; among = now among2 } ≡ traceOf (now m) (now second) .replaced) ⌝ }
-    ensures { λ r. ⌜ r ≡ wordPoint (settingsOf (now (m .entry))) (now (first .entry)) (now (second .entry)) ⌝ }
+    requires { ⌜ record { first = now place1; second = now place2 } ≡ sidesOf text (now m) (now first) (now second) ⌝ }
+    requires { ⌜ (record { last = now last1; among = now among1 } ≡ traceOf text (now m) (now first) .replaced) × (record { last = now last2; among = now among2 } ≡ traceOf text (now m) (now second) .replaced) ⌝ }
+    ensures { λ r. ⌜ r ≡ wordPoint (settingsOf text (now (m .entry))) (now (first .entry)) (now (second .entry)) ⌝ }
 {
     let mut marks = [0u8; layout::QUADRANT_WORDS];
-    adders(m, place1, place2, last1, &mut marks);
+    adders(text, m, place1, place2, last1, &mut marks);
     words(last1, last2, among1, among2, &marks)
 }

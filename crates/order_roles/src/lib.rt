@@ -5,6 +5,7 @@ ghost use Rattle.layout.specs.Layout.{generators};
 ghost use Rattle.layout.specs.Machine.{Reaches};
 ghost use Rattle.modes.specs.Modes.{free, adds};
 ghost use Rattle.order_agreement.specs.Agreement.{settingsOf, awaits};
+use texts::Text;
 
 // Whether a run mode can trigger.
 pub fn triggering(run: u32) -> bool
@@ -21,16 +22,17 @@ pub fn adding(run: u32) -> bool
 }
 
 // Whether generator g waits and has a lower neighbour that can trigger.
-pub fn awaits(m: &[u32], g: usize) -> bool
+pub fn awaits(text: Text, m: &[u32], g: usize) -> bool
     requires { ⌜ Reaches (now m) ⌝ }
     requires { ⌜ g < generators ⌝ }
-    ensures { λ r. ⌜ r ≡ awaits (settingsOf (now (m .entry))) g ⌝ }
+    ensures { λ r. ⌜ r ≡ awaits (settingsOf text (now (m .entry))) g ⌝ }
 {
-    if g == 0 {
+    let distance = texts::distance(text);
+    if g < distance {
         return false;
     }
-    if layout::run_mode(m, g) != modes::WAIT {
+    if texts::run_mode(text, m, g) != modes::WAIT {
         return false;
     }
-    triggering(layout::run_mode(m, g - 1))
+    triggering(texts::run_mode(text, m, g - distance))
 }

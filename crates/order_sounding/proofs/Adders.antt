@@ -7,19 +7,21 @@ use Prim.Native.Nat.{ℕ}
 use borrow.Author.Tests.{eq-eqb, ne-eqb}
 use lib.Dec.{eqb}
 use Rattle.modes.specs.Modes.{adds}
-use Rattle.layout.specs.Machine.{Machine, runModeAt, gsumAt}
+use Rattle.layout.specs.Machine.{Machine, gsumAt}
+use Rattle.texts.specs.Texts.{runModeAt}
+use Rattle.texts.specs.declared.Text.{Text}
 use Rattle.order_points.specs.Loops.{Sides, sideBy}
 use Rattle.order_sounding.specs.Loops.{adderOn}
 
-module _ (m : Machine) (sides : Sides) (w l g : ℕ) where
-  pub another-word : {x : ℕ} → x ≡ gsumAt m g → x ≢ w → true ≡ adderOn m sides w l g
+module _ (text : Text) (m : Machine) (sides : Sides) (w l g : ℕ) where
+  pub another-word : {x : ℕ} → x ≡ gsumAt m g → x ≢ w → true ≡ adderOn text m sides w l g
   unfolding adderOn
   another-word e h = rw (← e, ne-eqb _ w h)
 
-  pub adds-none : {run : ℕ} → run ≡ runModeAt m g → adds run ≡ false → true ≡ adderOn m sides w l g
+  pub adds-none : {run : ℕ} → run ≡ runModeAt text m g → adds run ≡ false → true ≡ adderOn text m sides w l g
   unfolding adderOn
   adds-none e h = rw (← e, h, and-false (eqb (gsumAt m g) w))
 
-  pub on-side : {x run : ℕ} → x ≡ gsumAt m g → x ≡ w → run ≡ runModeAt m g → adds run ≡ true → {b : Bool} → b ≡ sideBy sides l g → b ≡ adderOn m sides w l g
+  pub on-side : {x run : ℕ} → x ≡ gsumAt m g → x ≡ w → run ≡ runModeAt text m g → adds run ≡ true → {b : Bool} → b ≡ sideBy sides l g → b ≡ adderOn text m sides w l g
   unfolding adderOn
   on-side e q f h s = rw (← e, eq-eqb _ w q, ← f, h) s

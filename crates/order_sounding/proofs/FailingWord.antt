@@ -9,6 +9,7 @@ use borrow.Author.Tests.{eq-eqb, ne-eqb}
 use lib.ListN.{getD}
 use Rattle.layout.specs.Layout.{generators, quadrantWords}
 use Rattle.layout.specs.Machine.{Machine, Order, ticksOf}
+use Rattle.texts.specs.declared.Text.{Text}
 use Rattle.order.specs.Order.{IsOrder}
 use Rattle.order_lists.specs.Sequences.{some, firstFailing}
 use Rattle.order_lists.proofs.Orders.{last-below}
@@ -26,70 +27,70 @@ condition-there : (c p : Bool) → cond c p true ≡ false → c ≡ true
 condition-there true p e = refl
 condition-there false p e = absurd (true≢false e)
 
-module _ (m : Machine) (o₁ o₂ : Order) (ready : Traceable m) (ordered : IsOrder (ticksOf m) o₁ × IsOrder (ticksOf m) o₂)
-    {r₁ r₂ : Replaced} (held : (r₁ ≡ traceOf m o₁ .replaced) × (r₂ ≡ traceOf m o₂ .replaced))
-    (w : ℕ) (fails : (w < quadrantWords) × (wordSame (settingsOf m) o₁ o₂ w ≡ false)) where
-  there : some (replacesWord (settingsOf m) w) o₁ ≡ true
+module _ (text : Text) (m : Machine) (o₁ o₂ : Order) (ready : Traceable m) (ordered : IsOrder (ticksOf m) o₁ × IsOrder (ticksOf m) o₂)
+    {r₁ r₂ : Replaced} (held : (r₁ ≡ traceOf text m o₁ .replaced) × (r₂ ≡ traceOf text m o₂ .replaced))
+    (w : ℕ) (fails : (w < quadrantWords) × (wordSame (settingsOf text m) o₁ o₂ w ≡ false)) where
+  there : some (replacesWord (settingsOf text m) w) o₁ ≡ true
   there = condition-there _ _ (fails .1)
 
   -- What the traces hold of the word.
-  last₁ : getD (r₁ .last) w 0 ≡ suc (lastReplacing (settingsOf m) w o₁)
-  last₁ = rw (held .0) (first-last m o₁ o₂ ready ordered w (fails .0) there)
+  last₁ : getD (r₁ .last) w 0 ≡ suc (lastReplacing (settingsOf text m) w o₁)
+  last₁ = rw (held .0) (first-last text m o₁ o₂ ready ordered w (fails .0) there)
 
-  last₂ : getD (r₂ .last) w 0 ≡ suc (lastReplacing (settingsOf m) w o₂)
-  last₂ = rw (held .1) (second-last m o₁ o₂ ready ordered w (fails .0) there)
+  last₂ : getD (r₂ .last) w 0 ≡ suc (lastReplacing (settingsOf text m) w o₂)
+  last₂ = rw (held .1) (second-last text m o₁ o₂ ready ordered w (fails .0) there)
 
-  among₁ : getD (r₁ .among) w 0 ≡ placeReplacing (settingsOf m) w o₁
-  among₁ = rw (held .0) (first-among m o₁ o₂ ready ordered w (fails .0) there)
+  among₁ : getD (r₁ .among) w 0 ≡ placeReplacing (settingsOf text m) w o₁
+  among₁ = rw (held .0) (first-among text m o₁ o₂ ready ordered w (fails .0) there)
 
-  among₂ : getD (r₂ .among) w 0 ≡ placeReplacing (settingsOf m) w o₂
-  among₂ = rw (held .1) (second-among m o₁ o₂ ready ordered w (fails .0) there)
+  among₂ : getD (r₂ .among) w 0 ≡ placeReplacing (settingsOf text m) w o₂
+  among₂ = rw (held .1) (second-among text m o₁ o₂ ready ordered w (fails .0) there)
 
   -- So there is a last 0111, and it is a generator below T.
   pub some-last : {x : ℕ} → x ≡ getD (r₁ .last) w 0 → 1 ≤ x
   some-last e = omega (arith, e, last₁)
 
-  last-is : {x : ℕ} → x ≡ getD (r₁ .last) w 0 → x - 1 ≡ lastReplacing (settingsOf m) w o₁
+  last-is : {x : ℕ} → x ≡ getD (r₁ .last) w 0 → x - 1 ≡ lastReplacing (settingsOf text m) w o₁
   last-is e = omega (arith, e, last₁)
 
   pub last-within : {x : ℕ} → x ≡ getD (r₁ .last) w 0 → x - 1 < generators
   last-within e =
-      omega (arith, last-is e, last-below (ticksOf m) o₁ (ordered .0 .once) (ordered .0 .below) (replacesWord (settingsOf m) w) there, ready .ticks)
+      omega (arith, last-is e, last-below (ticksOf m) o₁ (ordered .0 .once) (ordered .0 .below) (replacesWord (settingsOf text m) w) there, ready .ticks)
 
   -- By the branches that the code takes.
-  pub another-last : {x : ℕ} → x ≡ getD (r₁ .last) w 0 → getD (r₁ .last) w 0 ≢ getD (r₂ .last) w 0 → x - 1 ≡ soundingAt (settingsOf m) o₁ o₂ w
+  pub another-last : {x : ℕ} → x ≡ getD (r₁ .last) w 0 → getD (r₁ .last) w 0 ≢ getD (r₂ .last) w 0 → x - 1 ≡ soundingAt (settingsOf text m) o₁ o₂ w
   unfolding soundingAt
-  another-last e h = last-is e ∙ rw (ne-eqb (lastReplacing (settingsOf m) w o₁) (lastReplacing (settingsOf m) w o₂) (λ q. h (last₁ ∙ ap suc q ∙ sym last₂)))
+  another-last e h = last-is e ∙ rw (ne-eqb (lastReplacing (settingsOf text m) w o₁) (lastReplacing (settingsOf text m) w o₂) (λ q. h (last₁ ∙ ap suc q ∙ sym last₂)))
 
   module _ (same : getD (r₁ .last) w 0 ≡ getD (r₂ .last) w 0) where
-    same-last : lastReplacing (settingsOf m) w o₁ ≡ lastReplacing (settingsOf m) w o₂
+    same-last : lastReplacing (settingsOf text m) w o₁ ≡ lastReplacing (settingsOf text m) w o₂
     same-last = omega (arith, last₁, last₂, same)
 
-    pub another-place : getD (r₁ .among) w 0 ≢ getD (r₂ .among) w 0 → generators ≡ soundingAt (settingsOf m) o₁ o₂ w
+    pub another-place : getD (r₁ .among) w 0 ≢ getD (r₂ .among) w 0 → generators ≡ soundingAt (settingsOf text m) o₁ o₂ w
     unfolding soundingAt
     another-place h =
         rw (
-          eq-eqb (lastReplacing (settingsOf m) w o₁) (lastReplacing (settingsOf m) w o₂) same-last,
-          ne-eqb (placeReplacing (settingsOf m) w o₁) (placeReplacing (settingsOf m) w o₂) (λ q. h (among₁ ∙ q ∙ sym among₂)),
+          eq-eqb (lastReplacing (settingsOf text m) w o₁) (lastReplacing (settingsOf text m) w o₂) same-last,
+          ne-eqb (placeReplacing (settingsOf text m) w o₁) (placeReplacing (settingsOf text m) w o₂) (λ q. h (among₁ ∙ q ∙ sym among₂)),
         )
 
-    adder-held : (g : ℕ) → g < ticksOf m → adderOn m (sidesOf m o₁ o₂) w (lastReplacing (settingsOf m) w o₁) g ≡ adderSame (settingsOf m) o₁ o₂ w g
+    adder-held : (g : ℕ) → g < ticksOf m → adderOn text m (sidesOf text m o₁ o₂) w (lastReplacing (settingsOf text m) w o₁) g ≡ adderSame (settingsOf text m) o₁ o₂ w g
     unfolding adderOn
     adder-held g h =
         rw (
-          sides-held m o₁ o₂ ready ordered (lastReplacing (settingsOf m) w o₁) g
-              (last-below (ticksOf m) o₁ (ordered .0 .once) (ordered .0 .below) (replacesWord (settingsOf m) w) there) h,
+          sides-held text m o₁ o₂ ready ordered (lastReplacing (settingsOf text m) w o₁) g
+              (last-below (ticksOf m) o₁ (ordered .0 .once) (ordered .0 .below) (replacesWord (settingsOf text m) w) there) h,
           ← same-last,
         )
 
-    pub another-side : getD (r₁ .among) w 0 ≡ getD (r₂ .among) w 0 → {x : ℕ} → x ≡ getD (r₁ .last) w 0 → {sides : Sides} → sides ≡ sidesOf m o₁ o₂
-        → firstFailing (adderOn m sides w (x - 1)) (ticksOf m) ≡ soundingAt (settingsOf m) o₁ o₂ w
+    pub another-side : getD (r₁ .among) w 0 ≡ getD (r₂ .among) w 0 → {x : ℕ} → x ≡ getD (r₁ .last) w 0 → {sides : Sides} → sides ≡ sidesOf text m o₁ o₂
+        → firstFailing (adderOn text m sides w (x - 1)) (ticksOf m) ≡ soundingAt (settingsOf text m) o₁ o₂ w
     unfolding soundingAt
     another-side q e s =
         rw (
           s,
           last-is e,
-          eq-eqb (lastReplacing (settingsOf m) w o₁) (lastReplacing (settingsOf m) w o₂) same-last,
-          eq-eqb (placeReplacing (settingsOf m) w o₁) (placeReplacing (settingsOf m) w o₂) (sym among₁ ∙ q ∙ among₂),
+          eq-eqb (lastReplacing (settingsOf text m) w o₁) (lastReplacing (settingsOf text m) w o₂) same-last,
+          eq-eqb (placeReplacing (settingsOf text m) w o₁) (placeReplacing (settingsOf text m) w o₂) (sym among₁ ∙ q ∙ among₂),
         )
-        (failing-same (adderOn m (sidesOf m o₁ o₂) w (lastReplacing (settingsOf m) w o₁)) (adderSame (settingsOf m) o₁ o₂ w) (ticksOf m) adder-held)
+        (failing-same (adderOn text m (sidesOf text m o₁ o₂) w (lastReplacing (settingsOf text m) w o₁)) (adderSame (settingsOf text m) o₁ o₂ w) (ticksOf m) adder-held)

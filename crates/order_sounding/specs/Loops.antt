@@ -3,9 +3,10 @@
 use Prim.Native.Nat.{ℕ}
 use mathlib.Core.Bool.{Bool, true, cond}
 use Rattle.layout.specs.Machine.{Machine}
+use Rattle.texts.specs.declared.Text.{Text}
 use Rattle.order_agreement.specs.Agreement.{settingsOf, addsToWord}
 use Rattle.order_points.specs.Loops.{Sides, sideBy}
 
 -- Whether g, if it adds to word w, stands on the same side of generator l in both orders.
-unfoldable pub adderOn : Machine → Sides → ℕ → ℕ → ℕ → Bool
-adderOn m sides w l g = cond (addsToWord (settingsOf m) w g) (sideBy sides l g) true
+unfoldable pub adderOn : Text → Machine → Sides → ℕ → ℕ → ℕ → Bool
+adderOn text m sides w l g = cond (addsToWord (settingsOf text m) w g) (sideBy sides l g) true

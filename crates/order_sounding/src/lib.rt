@@ -14,9 +14,11 @@ ghost use Rattle.order_points.specs.Loops.{sidesOf};
 ghost use Rattle.order_sounding.specs.Loops.{adderOn};
 use order_traces::GeneratorPlaces;
 use order_traces::SumWords;
+use texts::Text;
 
 // Whether g, if it adds to word w, stands on the same side of generator l in both orders.
 fn adder_same(
+    text: Text,
     m: &[u32],
     place1: &GeneratorPlaces,
     place2: &GeneratorPlaces,
@@ -26,12 +28,12 @@ fn adder_same(
 ) -> bool
     requires { ⌜ Reaches (now m) ⌝ }
     requires { ⌜ (l < generators) × (g < generators) ⌝ }
-    ensures { λ r. ⌜ r ≡ adderOn (now (m .entry)) (record { first = now (place1 .entry); second = now (place2 .entry) }) w l g ⌝ }
+    ensures { λ r. ⌜ r ≡ adderOn text (now (m .entry)) (record { first = now (place1 .entry); second = now (place2 .entry) }) w l g ⌝ }
 {
     if layout::gsum(m, g) != w {
         return true;
     }
-    if !order_roles::adding(layout::run_mode(m, g)) {
+    if !order_roles::adding(texts::run_mode(text, m, g)) {
         return true;
     }
     order_points::same_side(place1, place2, l, g)
@@ -39,6 +41,7 @@ fn adder_same(
 
 // The lowest generator that adds to word w and stands on another side of generator l; T where there is none.
 fn adder_point(
+    text: Text,
     m: &[u32],
     place1: &GeneratorPlaces,
     place2: &GeneratorPlaces,
@@ -47,12 +50,12 @@ fn adder_point(
 ) -> usize
     requires { ⌜ Traceable (now m) ⌝ }
     requires { ⌜ l < generators ⌝ }
-    ensures { λ r. ⌜ r ≡ firstFailing (adderOn (now (m .entry)) (record { first = now (place1 .entry); second = now (place2 .entry) }) w l) (ticksOf (now (m .entry))) ⌝ }
+    ensures { λ r. ⌜ r ≡ firstFailing (adderOn text (now (m .entry)) (record { first = now (place1 .entry); second = now (place2 .entry) }) w l) (ticksOf (now (m .entry))) ⌝ }
 {
     let t = layout::ticks(m);
     let mut g: usize = 0;
     while g < t {
-        if !adder_same(m, place1, place2, w, l, g) {
+        if !adder_same(text, m, place1, place2, w, l, g) {
             return g;
         }
         g += 1;
@@ -62,6 +65,7 @@ fn adder_point(
 
 // The generator that is to sound at a word at which the fourth point fails; GENERATORS where none is.
 pub fn sounding(
+    text: Text,
     m: &[u32],
     first: &[u32],
     second: &[u32],
@@ -75,10 +79,10 @@ pub fn sounding(
 ) -> usize
     requires { ⌜ Traceable (now m) ⌝ }
     requires { ⌜ IsOrder (ticksOf (now m)) (now first) × IsOrder (ticksOf (now m)) (now second) ⌝ }
-    requires { ⌜ record { first = now place1; second = now place2 } ≡ sidesOf (now m) (now first) (now second) ⌝ }
-    requires { ⌜ (record { last = now last1; among = now among1 } ≡ traceOf (now m) (now first) .replaced) × (record { last = now last2; among = now among2 } ≡ traceOf (now m) (now second) .replaced) ⌝ }
-    requires { ⌜ (w < quadrantWords) × (wordSame (settingsOf (now m)) (now first) (now second) w ≡ false) ⌝ }
-    ensures { λ r. ⌜ r ≡ soundingAt (settingsOf (now (m .entry))) (now (first .entry)) (now (second .entry)) w ⌝ }
+    requires { ⌜ record { first = now place1; second = now place2 } ≡ sidesOf text (now m) (now first) (now second) ⌝ }
+    requires { ⌜ (record { last = now last1; among = now among1 } ≡ traceOf text (now m) (now first) .replaced) × (record { last = now last2; among = now among2 } ≡ traceOf text (now m) (now second) .replaced) ⌝ }
+    requires { ⌜ (w < quadrantWords) × (wordSame (settingsOf text (now m)) (now first) (now second) w ≡ false) ⌝ }
+    ensures { λ r. ⌜ r ≡ soundingAt (settingsOf text (now (m .entry))) (now (first .entry)) (now (second .entry)) w ⌝ }
 {
     let l = layout::wide(last1[w]) - 1;
     if last1[w] != last2[w] {
@@ -87,5 +91,5 @@ pub fn sounding(
     if among1[w] != among2[w] {
         return layout::GENERATORS;
     }
-    adder_point(m, place1, place2, w, l)
+    adder_point(text, m, place1, place2, w, l)
 }

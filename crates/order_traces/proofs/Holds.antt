@@ -5,7 +5,6 @@ use mathlib.Core.Bool.{Bool, true, false, cond, _&&_, and-comm}
 use mathlib.Core.List.{List, map}
 use Prim.Native.Nat.{ℕ, zero, suc, _+_, _≤_, _<_}
 use native.Mathlib.Omega.{arith}
-use native.Mathlib.Nat.{mod-lt}
 use native.Mathlib.Numerals.{add-one}
 use borrow.Author.Tests.{eqb-true, eqb-false}
 use lib.Dec.{eqb}
@@ -13,8 +12,12 @@ use lib.ListN.{length, getD, set, drop, length-set}
 use lib.Seq.{drop-cons, getD-set-same, getD-set-other}
 use Rattle.lists.specs.Lists.{countBelow}
 use Rattle.lists.proofs.Zeros.{zeros-length, zeros-at}
-use Rattle.layout.specs.Layout.{generators, quadrantWords, dacs, generatorAt}
-use Rattle.layout.specs.Machine.{Machine, Order, ticksOf, runModeAt, gsumAt, gfmAt, dacNumberAt}
+use Rattle.layout.specs.Layout.{generators, quadrantWords, dacs}
+use Rattle.layout.specs.Machine.{Machine, Order, ticksOf, gsumAt}
+use Rattle.texts.specs.Texts.{runModeAt, dacNumberAt}
+use Rattle.texts.specs.declared.Text.{Text}
+use Rattle.texts.specs.Texts.{sourceAt}
+use Rattle.texts.proofs.Dacs.{dac-low}
 use Rattle.modes.specs.Modes.{readData, writeData, writeDAC}
 use Rattle.modes.proofs.RunModes.{replaces-is}
 use Rattle.order_lists.specs.Sequences.{keep, placeOf, latest}
@@ -28,15 +31,15 @@ use Rattle.order_traces.proofs.Steps.{traced-all}
 use Rattle.order_traces.proofs.Arrays.{set-where, length-set-where, map-inside, latest-next, latest-end, kept-place, placed-next}
 
 -- A word's 0111s, as the code asks for them.
-replaces-word : (m : Machine) (w g : ℕ) → replacesWord (settingsOf m) w g ≡ (eqb (runModeAt m g) readData && eqb (gsumAt m g) w)
-replaces-word m w g = rw (replaces-is (runModeAt m g)) (and-comm (eqb (gsumAt m g) w) (eqb (runModeAt m g) readData))
+replaces-word : (text : Text) (m : Machine) (w g : ℕ) → replacesWord (settingsOf text m) w g ≡ (eqb (runModeAt text m g) readData && eqb (gsumAt m g) w)
+replaces-word text m w g = rw (replaces-is (runModeAt text m g)) (and-comm (eqb (gsumAt m g) w) (eqb (runModeAt text m g) readData))
 
 -- The place of a generator among the 0111s of an order.
-abbrev pub placeAmong : Machine → Order → ℕ → ℕ
-placeAmong m order g = placeOf g (keep (settingsOf m .replacing) order)
+abbrev pub placeAmong : (text : Text) → Machine → Order → ℕ → ℕ
+placeAmong text m order g = placeOf g (keep (settingsOf text m .replacing) order)
 
 -- What a trace holds of the first i entries of an order, with what is left.
-record Walked (m : Machine) (order : Order) (i : ℕ) (t : Trace) : Type 0 where
+record Walked (text : Text) (m : Machine) (order : Order) (i : ℕ) (t : Trace) : Type 0 where
   pub place-length : length (t .place) ≡ generators
   pub fed-length : length (t .fed) ≡ dacs
   pub written-length : length (t .written) ≡ generators
@@ -45,21 +48,21 @@ record Walked (m : Machine) (order : Order) (i : ℕ) (t : Trace) : Type 0 where
   pub writes-low : t .counts .writes ≤ i
   pub places : (g : ℕ) → placeOf g order < i → getD (t .place) g 0 ≡ placeOf g order
   pub feeders : (d : ℕ) → d < dacs
-      → latest (settingsOf m .feeds d) (settingsOf m .source) (drop i order) (getD (t .fed) d 0) ≡ latest (settingsOf m .feeds d) (settingsOf m .source) order 0
-  pub kept-writers : keep (settingsOf m .writes) (drop i order) ≡ drop (t .counts .writes) (keep (settingsOf m .writes) order)
-  pub writers-most : t .counts .writes ≤ length (keep (settingsOf m .writes) order)
-  pub sources : (k : ℕ) → k < t .counts .writes → getD (t .written) k 0 ≡ getD (map (settingsOf m .source) (keep (settingsOf m .writes) order)) k 0
-  pub kept-readers : keep (settingsOf m .replacing) (drop i order) ≡ drop (t .counts .reads) (keep (settingsOf m .replacing) order)
+      → latest (settingsOf text m .feeds d) (settingsOf text m .source) (drop i order) (getD (t .fed) d 0) ≡ latest (settingsOf text m .feeds d) (settingsOf text m .source) order 0
+  pub kept-writers : keep (settingsOf text m .writes) (drop i order) ≡ drop (t .counts .writes) (keep (settingsOf text m .writes) order)
+  pub writers-most : t .counts .writes ≤ length (keep (settingsOf text m .writes) order)
+  pub sources : (k : ℕ) → k < t .counts .writes → getD (t .written) k 0 ≡ getD (map (settingsOf text m .source) (keep (settingsOf text m .writes) order)) k 0
+  pub kept-readers : keep (settingsOf text m .replacing) (drop i order) ≡ drop (t .counts .reads) (keep (settingsOf text m .replacing) order)
   pub lasts : (w : ℕ) → w < quadrantWords
-      → latest (replacesWord (settingsOf m) w) suc (drop i order) (getD (t .replaced .last) w 0) ≡ latest (replacesWord (settingsOf m) w) suc order 0
+      → latest (replacesWord (settingsOf text m) w) suc (drop i order) (getD (t .replaced .last) w 0) ≡ latest (replacesWord (settingsOf text m) w) suc order 0
   pub among : (w : ℕ) → w < quadrantWords
-      → latest (replacesWord (settingsOf m) w) (placeAmong m order) (drop i order) (getD (t .replaced .among) w 0)
-      ≡ latest (replacesWord (settingsOf m) w) (placeAmong m order) order 0
+      → latest (replacesWord (settingsOf text m) w) (placeAmong text m order) (drop i order) (getD (t .replaced .among) w 0)
+      ≡ latest (replacesWord (settingsOf text m) w) (placeAmong text m order) order 0
 
 -- None yet.
-walked-none : (m : Machine) (order : Order) → Walked m order 0 untraced
+walked-none : (text : Text) (m : Machine) (order : Order) → Walked text m order 0 untraced
 unfolding untraced
-walked-none m order =
+walked-none text m order =
     record {
       place-length = zeros-length generators;
       fed-length = zeros-length dacs;
@@ -78,7 +81,7 @@ walked-none m order =
     }
 
 -- One entry more.
-module _ (m : Machine) (order : Order) (i : ℕ) (ready : Traceable m) (o : IsOrder (ticksOf m) order) (inside : i < length order) where
+module _ (text : Text) (m : Machine) (order : Order) (i : ℕ) (ready : Traceable m) (o : IsOrder (ticksOf m) order) (inside : i < length order) where
   low : getD order i 0 < generators
   low = omega (arith, o .below i inside, ready .ticks)
 
@@ -137,16 +140,16 @@ module _ (m : Machine) (order : Order) (i : ℕ) (ready : Traceable m) (o : IsOr
   among-by true g n r = refl
   among-by false g n r = refl
 
-  module _ (t : Trace) (w : Walked m order i t) where
+  module _ (t : Trace) (w : Walked text m order i t) where
     -- The generator, the trace with it, and whether it reads data.
     abbrev g : ℕ
     g = getD order i 0
 
     abbrev u : Trace
-    u = traceStep m i (getD order i 0) t
+    u = traceStep text m i (getD order i 0) t
 
     abbrev reads : Bool
-    reads = eqb (runModeAt m (getD order i 0)) readData
+    reads = eqb (runModeAt text m (getD order i 0)) readData
 
     last-is : u .replaced .last ≡ cond reads (set (t .replaced .last) (gsumAt m g) (g + 1)) (t .replaced .last)
     unfolding traceStep
@@ -156,92 +159,92 @@ module _ (m : Machine) (order : Order) (i : ℕ) (ready : Traceable m) (o : IsOr
     unfolding traceStep
     among-is = among-by reads g (t .counts .reads) (t .replaced)
 
-    next-last : (k : ℕ) → getD (u .replaced .last) k 0 ≡ cond (replacesWord (settingsOf m) k g) (suc g) (getD (t .replaced .last) k 0)
+    next-last : (k : ℕ) → getD (u .replaced .last) k 0 ≡ cond (replacesWord (settingsOf text m) k g) (suc g) (getD (t .replaced .last) k 0)
     next-last k =
-        rw (last-is, replaces-word m k g, ← (add-one g))
+        rw (last-is, replaces-word text m k g, ← (add-one g))
         (set-where reads (t .replaced .last) (gsumAt m g) (g + 1) k (rw (w .last-length) (ready .gsums g low)))
 
-    next-among : (k : ℕ) → getD (u .replaced .among) k 0 ≡ cond (replacesWord (settingsOf m) k g) (placeAmong m order g) (getD (t .replaced .among) k 0)
+    next-among : (k : ℕ) → getD (u .replaced .among) k 0 ≡ cond (replacesWord (settingsOf text m) k g) (placeAmong text m order g) (getD (t .replaced .among) k 0)
     next-among k =
-        rw (among-is, replaces-word m k g)
+        rw (among-is, replaces-word text m k g)
         (set-where reads (t .replaced .among) (gsumAt m g) (t .counts .reads) k (rw (w .among-length) (ready .gsums g low))
         ∙ go reads refl)
       where
         go : (b : Bool) → reads ≡ b
             → cond (b && eqb (gsumAt m g) k) (t .counts .reads) (getD (t .replaced .among) k 0)
-            ≡ cond (b && eqb (gsumAt m g) k) (placeAmong m order g) (getD (t .replaced .among) k 0)
+            ≡ cond (b && eqb (gsumAt m g) k) (placeAmong text m order g) (getD (t .replaced .among) k 0)
         go true q =
-            rw (kept-place (ticksOf m) order o i inside (settingsOf m .replacing) (t .counts .reads) (w .kept-readers)
-            (replaces-is (runModeAt m g) ∙ q))
+            rw (kept-place (ticksOf m) order o i inside (settingsOf text m .replacing) (t .counts .reads) (w .kept-readers)
+            (replaces-is (runModeAt text m g) ∙ q))
         go false q = refl
 
-    walked-next : Walked m order (i + 1) (traceStep m i (getD order i 0) t)
+    walked-next : Walked text m order (i + 1) (traceStep text m i (getD order i 0) t)
     unfolding traceStep
     walked-next =
         record {
           place-length = length-set (t .place) g i ∙ w .place-length;
-          fed-length = length-set-where (eqb (runModeAt m g) writeDAC) (t .fed) (dacNumberAt m g) (gfmAt m g) ∙ w .fed-length;
-          written-length = length-set-where (eqb (runModeAt m g) writeData) (t .written) (t .counts .writes) (gfmAt m g) ∙ w .written-length;
+          fed-length = length-set-where (eqb (runModeAt text m g) writeDAC) (t .fed) (dacNumberAt text m g) (sourceAt text m g) ∙ w .fed-length;
+          written-length = length-set-where (eqb (runModeAt text m g) writeData) (t .written) (t .counts .writes) (sourceAt text m g) ∙ w .written-length;
           last-length = rw last-is (length-set-where reads (t .replaced .last) (gsumAt m g) (g + 1) ∙ w .last-length);
           among-length = rw among-is (length-set-where reads (t .replaced .among) (gsumAt m g) (t .counts .reads) ∙ w .among-length);
-          writes-low = next-low (eqb (runModeAt m g) writeData) (t .counts .writes) (w .writes-low);
+          writes-low = next-low (eqb (runModeAt text m g) writeData) (t .counts .writes) (w .writes-low);
           places = placed-next (ticksOf m) order o i inside (t .place) (rw (w .place-length) low) (w .places);
-          feeders = λ d h. next-latest (settingsOf m .feeds d) (settingsOf m .source) (getD (t .fed) d 0)
-              (set-where (eqb (runModeAt m g) writeDAC) (t .fed) (dacNumberAt m g) (gfmAt m g) d (rw (w .fed-length) dac))
+          feeders = λ d h. next-latest (settingsOf text m .feeds d) (settingsOf text m .source) (getD (t .fed) d 0)
+              (set-where (eqb (runModeAt text m g) writeDAC) (t .fed) (dacNumberAt text m g) (sourceAt text m g) d (rw (w .fed-length) dac))
               (w .feeders d h);
-          kept-writers = next-kept (settingsOf m .writes) (t .counts .writes) (w .kept-writers);
-          writers-most = next-most (settingsOf m .writes) (t .counts .writes) (w .kept-writers) (w .writers-most);
-          sources = next-sources (settingsOf m .writes) (settingsOf m .source) (t .counts .writes) (t .written) (w .kept-writers) fits (w .sources);
-          kept-readers = rw (← (replaces-is (runModeAt m g))) (next-kept (settingsOf m .replacing) (t .counts .reads) (w .kept-readers));
-          lasts = λ k h. next-latest (replacesWord (settingsOf m) k) suc (getD (t .replaced .last) k 0) (next-last k) (w .lasts k h);
-          among = λ k h. next-latest (replacesWord (settingsOf m) k) (placeAmong m order) (getD (t .replaced .among) k 0) (next-among k) (w .among k h);
+          kept-writers = next-kept (settingsOf text m .writes) (t .counts .writes) (w .kept-writers);
+          writers-most = next-most (settingsOf text m .writes) (t .counts .writes) (w .kept-writers) (w .writers-most);
+          sources = next-sources (settingsOf text m .writes) (settingsOf text m .source) (t .counts .writes) (t .written) (w .kept-writers) fits (w .sources);
+          kept-readers = rw (← (replaces-is (runModeAt text m g))) (next-kept (settingsOf text m .replacing) (t .counts .reads) (w .kept-readers));
+          lasts = λ k h. next-latest (replacesWord (settingsOf text m) k) suc (getD (t .replaced .last) k 0) (next-last k) (w .lasts k h);
+          among = λ k h. next-latest (replacesWord (settingsOf text m) k) (placeAmong text m order) (getD (t .replaced .among) k 0) (next-among k) (w .among k h);
         }
       where
-        dac : dacNumberAt m g < dacs
-        dac = mod-lt (getD m (generatorAt g) 0) (omega arith)
+        dac : dacNumberAt text m g < dacs
+        dac = dac-low text m g
 
         fits : t .counts .writes < length (t .written)
         fits = omega (arith, w .written-length, w .writes-low, o .entries, ready .ticks)
 
 -- All entries from place i on.
-module _ (m : Machine) (order : Order) (ready : Traceable m) (o : IsOrder (ticksOf m) order) where
-  walked-from : (k i : ℕ) (t : Trace) → k + i ≡ length order → Walked m order i t → Walked m order (length order) (traceFrom m i (drop i order) t)
+module _ (text : Text) (m : Machine) (order : Order) (ready : Traceable m) (o : IsOrder (ticksOf m) order) where
+  walked-from : (k i : ℕ) (t : Trace) → k + i ≡ length order → Walked text m order i t → Walked text m order (length order) (traceFrom text m i (drop i order) t)
   unfolding traceFrom
   walked-from zero i t e w =
       let end : length order ≡ i = omega arith in
-      rw (traced-all m order i t (omega arith), end) w
+      rw (traced-all text m order i t (omega arith), end) w
   walked-from (suc k) i t e w =
       let inside : i < length order = omega arith in
       rw (drop-cons order i 0 inside)
-      (walked-from k (suc i) (traceStep m i (getD order i 0) t) (omega arith) (rw (add-one i) at (walked-next m order i ready o inside t w)))
+      (walked-from k (suc i) (traceStep text m i (getD order i 0) t) (omega arith) (rw (add-one i) at (walked-next text m order i ready o inside t w)))
 
 -- What a trace of an order holds: places, last feeders, sources of the written data and how many they are, last 0111s and their places among all.
-pub record Holds (m : Machine) (order : Order) (t : Trace) : Type 0 where
+pub record Holds (text : Text) (m : Machine) (order : Order) (t : Trace) : Type 0 where
   pub place : (g : ℕ) → g < ticksOf m → getD (t .place) g 0 ≡ placeOf g order
-  pub feeder : (d : ℕ) → d < dacs → getD (t .fed) d 0 ≡ latest (settingsOf m .feeds d) (settingsOf m .source) order 0
-  pub writers : t .counts .writes ≡ countBelow (settingsOf m .writes) (ticksOf m)
-  pub source : (i : ℕ) → i < t .counts .writes → getD (t .written) i 0 ≡ getD (map (settingsOf m .source) (keep (settingsOf m .writes) order)) i 0
-  pub last : (w : ℕ) → w < quadrantWords → getD (t .replaced .last) w 0 ≡ latest (replacesWord (settingsOf m) w) suc order 0
-  pub among : (w : ℕ) → w < quadrantWords → getD (t .replaced .among) w 0 ≡ latest (replacesWord (settingsOf m) w) (placeAmong m order) order 0
+  pub feeder : (d : ℕ) → d < dacs → getD (t .fed) d 0 ≡ latest (settingsOf text m .feeds d) (settingsOf text m .source) order 0
+  pub writers : t .counts .writes ≡ countBelow (settingsOf text m .writes) (ticksOf m)
+  pub source : (i : ℕ) → i < t .counts .writes → getD (t .written) i 0 ≡ getD (map (settingsOf text m .source) (keep (settingsOf text m .writes) order)) i 0
+  pub last : (w : ℕ) → w < quadrantWords → getD (t .replaced .last) w 0 ≡ latest (replacesWord (settingsOf text m) w) suc order 0
+  pub among : (w : ℕ) → w < quadrantWords → getD (t .replaced .among) w 0 ≡ latest (replacesWord (settingsOf text m) w) (placeAmong text m order) order 0
 
-holds-all : (m : Machine) (order : Order) (t : Trace) → IsOrder (ticksOf m) order → Walked m order (length order) t → Holds m order t
-holds-all m order t o w =
+holds-all : (text : Text) (m : Machine) (order : Order) (t : Trace) → IsOrder (ticksOf m) order → Walked text m order (length order) t → Holds text m order t
+holds-all text m order t o w =
     record {
       place = λ g h. w .places g (place-inside g order (omega (arith, o .once g h)));
-      feeder = λ d h. sym (latest-end (settingsOf m .feeds d) (settingsOf m .source) order (length order) (getD (t .fed) d 0) end) ∙ w .feeders d h;
-      writers = all ∙ length-keep (ticksOf m) order (o .once) (o .below) (settingsOf m .writes);
+      feeder = λ d h. sym (latest-end (settingsOf text m .feeds d) (settingsOf text m .source) order (length order) (getD (t .fed) d 0) end) ∙ w .feeders d h;
+      writers = all ∙ length-keep (ticksOf m) order (o .once) (o .below) (settingsOf text m .writes);
       source = w .sources;
-      last = λ k h. sym (latest-end (replacesWord (settingsOf m) k) suc order (length order) (getD (t .replaced .last) k 0) end) ∙ w .lasts k h;
+      last = λ k h. sym (latest-end (replacesWord (settingsOf text m) k) suc order (length order) (getD (t .replaced .last) k 0) end) ∙ w .lasts k h;
       among = λ k h.
-          sym (latest-end (replacesWord (settingsOf m) k) (placeAmong m order) order (length order) (getD (t .replaced .among) k 0) end) ∙ w .among k h;
+          sym (latest-end (replacesWord (settingsOf text m) k) (placeAmong text m order) order (length order) (getD (t .replaced .among) k 0) end) ∙ w .among k h;
     }
   where
     end : length order ≤ length order
     end = omega arith
 
-    all : t .counts .writes ≡ length (keep (settingsOf m .writes) order)
-    all = omega (arith, w .writers-most, kept-end (settingsOf m .writes) order (length order) (t .counts .writes) (w .kept-writers) end)
+    all : t .counts .writes ≡ length (keep (settingsOf text m .writes) order)
+    all = omega (arith, w .writers-most, kept-end (settingsOf text m .writes) order (length order) (t .counts .writes) (w .kept-writers) end)
 
-pub trace-holds : (m : Machine) (order : Order) → Traceable m → IsOrder (ticksOf m) order → Holds m order (traceOf m order)
+pub trace-holds : (text : Text) (m : Machine) (order : Order) → Traceable m → IsOrder (ticksOf m) order → Holds text m order (traceOf text m order)
 unfolding traceOf
-trace-holds m order ready o = holds-all m order _ o (walked-from m order ready o (length order) 0 untraced (omega arith) (walked-none m order))
+trace-holds text m order ready o = holds-all text m order _ o (walked-from text m order ready o (length order) 0 untraced (omega arith) (walked-none text m order))

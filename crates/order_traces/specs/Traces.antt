@@ -7,7 +7,10 @@ use lib.Dec.{eqb}
 use lib.ListN.{set}
 use Rattle.lists.specs.Lists.{zeros}
 use Rattle.layout.specs.Layout.{generators, quadrantWords, dacs}
-use Rattle.layout.specs.Machine.{Machine, Order, Reaches, ticksOf, runModeAt, gsumAt, gfmAt, dacNumberAt}
+use Rattle.layout.specs.Machine.{Machine, Order, Reaches, ticksOf, gsumAt}
+use Rattle.texts.specs.Texts.{runModeAt, dacNumberAt}
+use Rattle.texts.specs.declared.Text.{Text}
+use Rattle.texts.specs.Texts.{sourceAt}
 use Rattle.modes.specs.Modes.{readData, writeData, writeDAC}
 use Rattle.order.specs.declared.Counts.{Counts}
 
@@ -22,7 +25,7 @@ pub record Replaced : Type 0 where
   pub last : List ℕ
   pub among : List ℕ
 
--- The place of each generator; of each DAC the GFM of its last feeder, 0 where there is none; the GFMs of the written data, in order;
+-- The place of each generator; of each DAC the source of its last feeder, 0 where there is none; the sources of the written data, in order;
 -- the last 0111 of each sum word; how many generators have read and written data.
 pub record Trace : Type 0 where
   pub place : List ℕ
@@ -47,25 +50,25 @@ abbrev pub replacedBy : Machine → ℕ → ℕ → Replaced → Replaced
 replacedBy m g n r = record { last = set (r .last) (gsumAt m g) (g + 1); among = set (r .among) (gsumAt m g) n }
 
 -- Generator g at place i of an order: 0010 feeds a DAC, 0011 writes data, 0111 reads data and replaces a word.
-unfoldable pub traceStep : Machine → ℕ → ℕ → Trace → Trace
-traceStep m i g t =
-    let feeds = eqb (runModeAt m g) writeDAC in
-    let writes = eqb (runModeAt m g) writeData in
-    let reads = eqb (runModeAt m g) readData in
+unfoldable pub traceStep : Text → Machine → ℕ → ℕ → Trace → Trace
+traceStep text m i g t =
+    let feeds = eqb (runModeAt text m g) writeDAC in
+    let writes = eqb (runModeAt text m g) writeData in
+    let reads = eqb (runModeAt text m g) readData in
     let done = t .counts in
     record {
       place = set (t .place) g i;
-      fed = cond feeds (set (t .fed) (dacNumberAt m g) (gfmAt m g)) (t .fed);
-      written = cond writes (set (t .written) (done .writes) (gfmAt m g)) (t .written);
+      fed = cond feeds (set (t .fed) (dacNumberAt text m g) (sourceAt text m g)) (t .fed);
+      written = cond writes (set (t .written) (done .writes) (sourceAt text m g)) (t .written);
       replaced = cond reads (replacedBy m g (done .reads) (t .replaced)) (t .replaced);
       counts = record { reads = cond reads (done .reads + 1) (done .reads); writes = cond writes (done .writes + 1) (done .writes) };
     }
 
 -- The entries of an order from place i on, in turn.
-unfoldable pub traceFrom : Machine → ℕ → Order → Trace → Trace
-traceFrom m i [] t = t
-traceFrom m i (g ∷ order) t = traceFrom m (suc i) order (traceStep m i g t)
+unfoldable pub traceFrom : Text → Machine → ℕ → Order → Trace → Trace
+traceFrom text m i [] t = t
+traceFrom text m i (g ∷ order) t = traceFrom text m (suc i) order (traceStep text m i g t)
 
 -- The trace of an order.
-unfoldable pub traceOf : Machine → Order → Trace
-traceOf m order = traceFrom m 0 order untraced
+unfoldable pub traceOf : Text → Machine → Order → Trace
+traceOf text m order = traceFrom text m 0 order untraced

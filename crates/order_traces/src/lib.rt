@@ -6,6 +6,7 @@ ghost use Rattle.layout.specs.Machine.{ticksOf};
 ghost use Rattle.order.specs.Order.{IsOrder};
 ghost use Rattle.order_traces.specs.Traces.{Traceable, untraced, replacedBy, traceStep, traceOf};
 use order::Counts;
+use texts::Text;
 
 // A number for each generator: its place in an order.
 pub type GeneratorPlaces = [u8; layout::GENERATORS];
@@ -32,6 +33,7 @@ fn replace(m: &[u32], last: &mut SumWords, among: &mut SumWords, n: usize, g: us
 
 // Generator g at place i of an order.
 fn step(
+    text: Text,
     m: &[u32],
     place: &mut GeneratorPlaces,
     fed: &mut Feeders,
@@ -44,18 +46,18 @@ fn step(
 ) -> Counts
     requires { ⌜ Traceable (now m) ⌝ }
     requires { ⌜ (i < generators) × (g < generators) × (done .reads < generators) × (done .writes < generators) ⌝ }
-    ensures { λ r. ⌜ record { place = now (place .exit); fed = now (fed .exit); written = now (written .exit); replaced = record { last = now (last .exit); among = now (among .exit) }; counts = r } ≡ traceStep (now (m .entry)) i g (record { place = now (place .entry); fed = now (fed .entry); written = now (written .entry); replaced = record { last = now (last .entry); among = now (among .entry) }; counts = done }) ⌝ }
+    ensures { λ r. ⌜ record { place = now (place .exit); fed = now (fed .exit); written = now (written .exit); replaced = record { last = now (last .exit); among = now (among .exit) }; counts = r } ≡ traceStep text (now (m .entry)) i g (record { place = now (place .entry); fed = now (fed .entry); written = now (written .entry); replaced = record { last = now (last .entry); among = now (among .entry) }; counts = done }) ⌝ }
 {
     place[g] = i as u8;
-    let run = layout::run_mode(m, g);
+    let run = texts::run_mode(text, m, g);
     if run == modes::WRITE_DAC {
-        let d = layout::dac_number(m, g);
-        fed[d] = layout::gfm(m, g);
+        let d = texts::dac_number(text, m, g);
+        fed[d] = texts::source(text, m, g);
         return done;
     }
     if run == modes::WRITE_DATA {
         let n = done.writes;
-        written[n] = layout::gfm(m, g);
+        written[n] = texts::source(text, m, g);
         return Counts {
             reads: done.reads,
             writes: n + 1,
@@ -74,6 +76,7 @@ fn step(
 
 // The trace of an order, in arrays of zeros; how many generators read and write data.
 pub fn trace(
+    text: Text,
     m: &[u32],
     order: &[u32],
     place: &mut GeneratorPlaces,
@@ -85,7 +88,7 @@ pub fn trace(
     requires { ⌜ Traceable (now m) ⌝ }
     requires { ⌜ IsOrder (ticksOf (now m)) (now order) ⌝ }
     requires { ⌜ record { place = now place; fed = now fed; written = now written; replaced = record { last = now last; among = now among }; counts = record { reads = 0; writes = 0 } } ≡ untraced ⌝ }
-    ensures { λ r. ⌜ record { place = now (place .exit); fed = now (fed .exit); written = now (written .exit); replaced = record { last = now (last .exit); among = now (among .exit) }; counts = r } ≡ traceOf (now (m .entry)) (now (order .entry)) ⌝ }
+    ensures { λ r. ⌜ record { place = now (place .exit); fed = now (fed .exit); written = now (written .exit); replaced = record { last = now (last .exit); among = now (among .exit) }; counts = r } ≡ traceOf text (now (m .entry)) (now (order .entry)) ⌝ }
 {
     let mut done = Counts {
         reads: 0,
@@ -94,7 +97,7 @@ pub fn trace(
     let mut i: usize = 0;
     while i < order.len() {
         let g = layout::wide(order[i]);
-        let next = step(m, place, fed, written, last, among, done, i, g);
+        let next = step(text, m, place, fed, written, last, among, done, i, g);
         done = next;
         i += 1;
     }

@@ -11,7 +11,9 @@ use lib.Dec.{eqb, leb}
 use lib.ListN.{length}
 use Rattle.lists.proofs.Counts.{count-below-le}
 use Rattle.layout.specs.Layout.{machineLength, generators}
-use Rattle.layout.specs.Machine.{Machine, Order, Items, ticksOf, runModeAt}
+use Rattle.layout.specs.Machine.{Machine, Order, Items, ticksOf}
+use Rattle.texts.specs.Texts.{runModeAt}
+use Rattle.texts.specs.declared.Text.{Text}
 use Rattle.questions.specs.Questions.{asked}
 use Rattle.modes.specs.Modes.{readData}
 use Rattle.machine.specs.Questions.{question1, question2}
@@ -27,14 +29,14 @@ use Rattle.compare.proofs.Answers.{compare-passes}
 use Rattle.compare.proofs.Asked.{is-comparable}
 use Rattle.parts.specs.Parts.{Parting, partsRefusal, refused, shown, partsOf}
 
-module _ (m : Machine) (o₁ o₂ : Order) (contents : Machine) (items : Items) where
+module _ (text : Text) (m : Machine) (o₁ o₂ : Order) (contents : Machine) (items : Items) where
   -- The questions of a compare, then two more.
-  by-compare : partsRefusal m o₁ o₂ contents items
-      ≡ cond (eqb (compareRefusal m o₁ o₂) 0) (asked (question1 contents ∷ question7 m items ∷ [])) (compareRefusal m o₁ o₂)
+  by-compare : partsRefusal text m o₁ o₂ contents items
+      ≡ cond (eqb (compareRefusal text m o₁ o₂) 0) (asked (question1 contents ∷ question7 text m items ∷ [])) (compareRefusal text m o₁ o₂)
   unfolding partsRefusal compareRefusal asked
   by-compare =
-      go (question1 m .yes) (question2 m .yes) (question5 (ticksOf m) o₁ .yes) (question6 (ticksOf m) o₁ .yes) (question5 (ticksOf m) o₂ .yes) (question6 (ticksOf m) o₂ .yes)
-      (cond (question1 contents .yes) (cond (question7 m items .yes) 0 7) 1)
+      go (question1 m .yes) (question2 text m .yes) (question5 (ticksOf m) o₁ .yes) (question6 (ticksOf m) o₁ .yes) (question5 (ticksOf m) o₂ .yes) (question6 (ticksOf m) o₂ .yes)
+      (cond (question1 contents .yes) (cond (question7 text m items .yes) 0 7) 1)
     where
       go : (a b c d e f : Bool) (x : ℕ)
           → _≡_ {A = ℕ} (cond a (cond b (cond c (cond d (cond e (cond f x 6) 5) 6) 5) 2) 1)
@@ -47,107 +49,107 @@ module _ (m : Machine) (o₁ o₂ : Order) (contents : Machine) (items : Items) 
       go true false c d e f x = refl
       go false b c d e f x = refl
 
-  pub refused-compare : {n : ℕ} → n ≡ compareRefusal m o₁ o₂ → n ≢ 0 → n ≡ partsRefusal m o₁ o₂ contents items
+  pub refused-compare : {n : ℕ} → n ≡ compareRefusal text m o₁ o₂ → n ≢ 0 → n ≡ partsRefusal text m o₁ o₂ contents items
   refused-compare e h = rw (by-compare, ← e, ne-eqb _ 0 h)
 
-  module _ (passed : compareRefusal m o₁ o₂ ≡ 0) where
-    later : partsRefusal m o₁ o₂ contents items ≡ asked (question1 contents ∷ question7 m items ∷ [])
+  module _ (passed : compareRefusal text m o₁ o₂ ≡ 0) where
+    later : partsRefusal text m o₁ o₂ contents items ≡ asked (question1 contents ∷ question7 text m items ∷ [])
     later = by-compare ∙ rw passed
 
-    pub refused-run : length contents ≢ machineLength → 1 ≡ partsRefusal m o₁ o₂ contents items
+    pub refused-run : length contents ≢ machineLength → 1 ≡ partsRefusal text m o₁ o₂ contents items
     unfolding asked
     refused-run h = rw (later, ne-eqb (length contents) machineLength h)
 
     module _ (whole : length contents ≡ machineLength) where
-      pub refused-items : {n : ℕ} → n ≡ inMode m readData → length items < n → 7 ≡ partsRefusal m o₁ o₂ contents items
+      pub refused-items : {n : ℕ} → n ≡ inMode text m readData → length items < n → 7 ≡ partsRefusal text m o₁ o₂ contents items
       unfolding asked
       refused-items e h = rw (later, eq-eqb (length contents) machineLength whole, ← e, lt-leb _ (length items) h)
 
-      pub none-refused : {n : ℕ} → n ≡ inMode m readData → n ≤ length items → 0 ≡ partsRefusal m o₁ o₂ contents items
+      pub none-refused : {n : ℕ} → n ≡ inMode text m readData → n ≤ length items → 0 ≡ partsRefusal text m o₁ o₂ contents items
       unfolding asked
       none-refused e h = rw (later, eq-eqb (length contents) machineLength whole, ← e, le-leb _ (length items) h)
 
   -- A call that is not refused has passed them.
   pub record PartsPassed : Type 0 where
-    pub compared : compareRefusal m o₁ o₂ ≡ 0
+    pub compared : compareRefusal text m o₁ o₂ ≡ 0
     pub whole : length contents ≡ machineLength
-    pub reads : inMode m readData ≤ length items
+    pub reads : inMode text m readData ≤ length items
 
-  pub parts-passes : partsRefusal m o₁ o₂ contents items ≡ 0 → PartsPassed
+  pub parts-passes : partsRefusal text m o₁ o₂ contents items ≡ 0 → PartsPassed
   unfolding asked
-  parts-passes e = first (eqb (compareRefusal m o₁ o₂) 0) refl
+  parts-passes e = first (eqb (compareRefusal text m o₁ o₂) 0) refl
     where
       two : (a b : Bool) → _≡_ {A = ℕ} (cond a (cond b 0 7) 1) 0 → (a ≡ true) × (b ≡ true)
       two true true q = (refl, refl)
       two true false q = absurd (omega arith)
       two false b q = absurd (omega arith)
 
-      first : (v : Bool) → eqb (compareRefusal m o₁ o₂) 0 ≡ v → PartsPassed
+      first : (v : Bool) → eqb (compareRefusal text m o₁ o₂) 0 ≡ v → PartsPassed
       first true q =
-          let zero = eqb-true (compareRefusal m o₁ o₂) 0 q in
-          let both = two (eqb (length contents) machineLength) (leb (inMode m readData) (length items)) (sym (later zero) ∙ e) in
+          let zero = eqb-true (compareRefusal text m o₁ o₂) 0 q in
+          let both = two (eqb (length contents) machineLength) (leb (inMode text m readData) (length items)) (sym (later zero) ∙ e) in
           record {
             compared = zero;
             whole = eqb-true (length contents) machineLength (both .0);
-            reads = leb-true (inMode m readData) (length items) (both .1);
+            reads = leb-true (inMode text m readData) (length items) (both .1);
           }
-      first false q = absurd (eqb-false (compareRefusal m o₁ o₂) 0 q (sym (by-compare ∙ rw q) ∙ e))
+      first false q = absurd (eqb-false (compareRefusal text m o₁ o₂) 0 q (sym (by-compare ∙ rw q) ∙ e))
 
   -- What such a call hands on: a machine and orders of which traces can be made, runs of a machine's length, and items enough, of at most 256 generators.
   pub record Ready : Type 0 where
     pub traceable : Traceable m
     pub ordered : IsOrder (ticksOf m) o₁ × IsOrder (ticksOf m) o₂
     pub runs : (length m ≡ machineLength) × (length contents ≡ machineLength)
-    pub items-enough : (inMode m readData ≤ length items) × (inMode m readData ≤ generators)
+    pub items-enough : (inMode text m readData ≤ length items) × (inMode text m readData ≤ generators)
 
-  pub is-ready : partsRefusal m o₁ o₂ contents items ≡ 0 → Ready
+  pub is-ready : partsRefusal text m o₁ o₂ contents items ≡ 0 → Ready
   unfolding inMode
   is-ready e =
       let passed = parts-passes e in
-      let compared = is-comparable m o₁ o₂ (passed .compared) in
+      let compared = is-comparable text m o₁ o₂ (passed .compared) in
       record {
         traceable = compared .traceable;
         ordered = compared .ordered;
-        runs = (machine-passes m (compare-passes m o₁ o₂ (passed .compared) .machine) .0, passed .whole);
-        items-enough = (passed .reads, omega (arith, count-below-le (λ g. eqb (runModeAt m g) readData) (ticksOf m), compared .traceable .ticks));
+        runs = (machine-passes text m (compare-passes text m o₁ o₂ (passed .compared) .machine) .0, passed .whole);
+        items-enough = (passed .reads, omega (arith, count-below-le (λ g. eqb (runModeAt text m g) readData) (ticksOf m), compared .traceable .ticks));
       }
 
   -- What is answered, by whether the call is refused.
-  pub parts-number : partsOf m o₁ o₂ contents items .number ≡ partsRefusal m o₁ o₂ contents items
+  pub parts-number : partsOf text m o₁ o₂ contents items .number ≡ partsRefusal text m o₁ o₂ contents items
   unfolding partsOf
-  parts-number = go (eqb (partsRefusal m o₁ o₂ contents items) 0) refl
+  parts-number = go (eqb (partsRefusal text m o₁ o₂ contents items) 0) refl
     where
-      go : (b : Bool) → eqb (partsRefusal m o₁ o₂ contents items) 0 ≡ b
-          → cond b (shown m (firstPoint (settingsOf m) o₁ o₂) contents items) (refused (partsRefusal m o₁ o₂ contents items) contents items) .number
-          ≡ partsRefusal m o₁ o₂ contents items
-      go true e = sym (eqb-true (partsRefusal m o₁ o₂ contents items) 0 e)
+      go : (b : Bool) → eqb (partsRefusal text m o₁ o₂ contents items) 0 ≡ b
+          → cond b (shown text m (firstPoint (settingsOf text m) o₁ o₂) contents items) (refused (partsRefusal text m o₁ o₂ contents items) contents items) .number
+          ≡ partsRefusal text m o₁ o₂ contents items
+      go true e = sym (eqb-true (partsRefusal text m o₁ o₂ contents items) 0 e)
       go false e = refl
 
-  pub parts-shown : partsRefusal m o₁ o₂ contents items ≡ 0 → partsOf m o₁ o₂ contents items ≡ shown m (firstPoint (settingsOf m) o₁ o₂) contents items
+  pub parts-shown : partsRefusal text m o₁ o₂ contents items ≡ 0 → partsOf text m o₁ o₂ contents items ≡ shown text m (firstPoint (settingsOf text m) o₁ o₂) contents items
   unfolding partsOf
   parts-shown e = rw e
 
-  pub parts-refused : partsRefusal m o₁ o₂ contents items ≢ 0
-      → partsOf m o₁ o₂ contents items ≡ refused (partsRefusal m o₁ o₂ contents items) contents items
+  pub parts-refused : partsRefusal text m o₁ o₂ contents items ≢ 0
+      → partsOf text m o₁ o₂ contents items ≡ refused (partsRefusal text m o₁ o₂ contents items) contents items
   unfolding partsOf
-  parts-refused h = rw (ne-eqb (partsRefusal m o₁ o₂ contents items) 0 h)
+  parts-refused h = rw (ne-eqb (partsRefusal text m o₁ o₂ contents items) 0 h)
 
   -- The answer by what the code finds.
-  module _ {number : ℕ} (is : number ≡ partsRefusal m o₁ o₂ contents items) where
-    pub says-refused : number ≢ 0 → refused number contents items ≡ partsOf m o₁ o₂ contents items
+  module _ {number : ℕ} (is : number ≡ partsRefusal text m o₁ o₂ contents items) where
+    pub says-refused : number ≢ 0 → refused number contents items ≡ partsOf text m o₁ o₂ contents items
     unfolding partsOf
     says-refused h = rw (← is, ne-eqb number 0 h)
 
-    module _ (none : number ≡ 0) {f : Failing} (found : f ≡ firstPoint (settingsOf m) o₁ o₂) where
-      shown-is : shown m f contents items ≡ partsOf m o₁ o₂ contents items
+    module _ (none : number ≡ 0) {f : Failing} (found : f ≡ firstPoint (settingsOf text m) o₁ o₂) where
+      shown-is : shown text m f contents items ≡ partsOf text m o₁ o₂ contents items
       shown-is = rw found (sym (parts-shown (sym is ∙ none)))
 
       pub says-equal : f .point ≡ 0
-          → _≡_ {A = Parting} (record { number = 0; point = f .point; place = f .place; contents = contents; items = items }) (partsOf m o₁ o₂ contents items)
+          → _≡_ {A = Parting} (record { number = 0; point = f .point; place = f .place; contents = contents; items = items }) (partsOf text m o₁ o₂ contents items)
       says-equal e = rw (← shown-is, e)
 
-      pub says-parted : f .point ≢ 0 → {n : ℕ} → n ≡ inMode m readData → {written : Machine} {listed : Items}
-          → written ≡ contentsFor m (f .point) (f .sounding) → listed ≡ filled 0 1 n (itemFor (f .point) (f .sounding)) items
-          → _≡_ {A = Parting} (record { number = 0; point = f .point; place = f .place; contents = written; items = listed }) (partsOf m o₁ o₂ contents items)
+      pub says-parted : f .point ≢ 0 → {n : ℕ} → n ≡ inMode text m readData → {written : Machine} {listed : Items}
+          → written ≡ contentsFor text m (f .point) (f .sounding) → listed ≡ filled 0 1 n (itemFor (f .point) (f .sounding)) items
+          → _≡_ {A = Parting} (record { number = 0; point = f .point; place = f .place; contents = written; items = listed }) (partsOf text m o₁ o₂ contents items)
       unfolding itemsFor
       says-parted h en ew el = rw (← shown-is, ne-eqb (f .point) 0 h, ew, el, en)

@@ -5,6 +5,7 @@ use mathlib.Core.Bool.{cond}
 use mathlib.Core.List.{[], _∷_}
 use lib.Dec.{eqb}
 use Rattle.layout.specs.Machine.{Machine, Order, Items, ticksOf}
+use Rattle.texts.specs.declared.Text.{Text}
 use Rattle.questions.specs.Questions.{asked}
 use Rattle.machine.specs.Questions.{question1, question2}
 use Rattle.order.specs.Order.{question5, question6, question7}
@@ -22,17 +23,17 @@ pub record Parting : Type 0 where
   pub items : Items
 
 -- The questions of the call, in sequence: those of a compare, 1 of the run for the contents, and 7 of the read list, asked also where the orders are equal.
-unfoldable pub partsRefusal : Machine → Order → Order → Machine → Items → ℕ
-partsRefusal m o₁ o₂ contents items =
+unfoldable pub partsRefusal : Text → Machine → Order → Order → Machine → Items → ℕ
+partsRefusal text m o₁ o₂ contents items =
     asked
     (question1 m
-    ∷ question2 m
+    ∷ question2 text m
     ∷ question5 (ticksOf m) o₁
     ∷ question6 (ticksOf m) o₁
     ∷ question5 (ticksOf m) o₂
     ∷ question6 (ticksOf m) o₂
     ∷ question1 contents
-    ∷ question7 m items
+    ∷ question7 text m items
     ∷ [])
 
 -- A refused call changes nothing.
@@ -40,18 +41,18 @@ abbrev pub refused : ℕ → Machine → Items → Parting
 refused n contents items = record { number = n; point = 0; place = 0; contents = contents; items = items }
 
 -- The contents and the items by the first point that fails; where none does, the run and the list stay.
-abbrev pub shown : Machine → Failing → Machine → Items → Parting
-shown m f contents items =
+abbrev pub shown : Text → Machine → Failing → Machine → Items → Parting
+shown text m f contents items =
     record {
       number = 0;
       point = f .point;
       place = f .place;
-      contents = cond (eqb (f .point) 0) contents (contentsFor m (f .point) (f .sounding));
-      items = cond (eqb (f .point) 0) items (itemsFor m (f .point) (f .sounding) items);
+      contents = cond (eqb (f .point) 0) contents (contentsFor text m (f .point) (f .sounding));
+      items = cond (eqb (f .point) 0) items (itemsFor text m (f .point) (f .sounding) items);
     }
 
 -- What parts two orders of a machine's generators.
-unfoldable pub partsOf : Machine → Order → Order → Machine → Items → Parting
-partsOf m o₁ o₂ contents items =
-    let n = partsRefusal m o₁ o₂ contents items in
-    cond (eqb n 0) (shown m (firstPoint (settingsOf m) o₁ o₂) contents items) (refused n contents items)
+unfoldable pub partsOf : Text → Machine → Order → Order → Machine → Items → Parting
+partsOf text m o₁ o₂ contents items =
+    let n = partsRefusal text m o₁ o₂ contents items in
+    cond (eqb n 0) (shown text m (firstPoint (settingsOf text m) o₁ o₂) contents items) (refused n contents items)

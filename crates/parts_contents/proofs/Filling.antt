@@ -8,14 +8,15 @@ use native.Mathlib.Nat.{zero-add}
 use lib.Dec.{eqb}
 use Rattle.layout.specs.Layout.{quadrantAt, generators}
 use Rattle.layout.specs.Machine.{Machine}
+use Rattle.texts.specs.declared.Text.the-variants.{Of1978}
 use Rattle.fills.specs.Fills.{filled}
 use Rattle.fills.proofs.Filled.{filled-same}
 use Rattle.sums.specs.Sums.{generatorLast, modifierLast}
 use Rattle.order_contents.specs.Contents.{inactiveModifiers, sendingContents, itemFor}
 
--- The word at each GFM is that GFM.
+-- In the 1978 text the word at each GFM is that GFM.
 pub sends : (m : Machine) {run first second : List ℕ} → run ≡ inactiveModifiers m → first ≡ filled (quadrantAt generatorLast) 1 64 (λ w. 0 + w) run
-    → second ≡ filled (quadrantAt modifierLast) 1 64 (λ w. 64 + w) first → second ≡ sendingContents m
+    → second ≡ filled (quadrantAt modifierLast) 1 64 (λ w. 64 + w) first → second ≡ sendingContents Of1978 m
 unfolding sendingContents
 sends m e f g =
     g ∙ ap (filled (quadrantAt modifierLast) 1 64 (λ w. 64 + w))

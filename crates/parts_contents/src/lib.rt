@@ -5,6 +5,7 @@ ghost use lib.ListN.{length};
 ghost use Rattle.layout.specs.Layout.{machineLength, generators};
 ghost use Rattle.fills.specs.Fills.{filled};
 ghost use Rattle.order_contents.specs.Contents.{inactiveModifiers, triggeringContents, sendingContents, onesLast, soundingContents, contentsFor, itemFor};
+use texts::Text;
 
 // The machine, with every modifier inactive.
 fn inactive(m: &[u32], run: &mut [u32])
@@ -44,9 +45,9 @@ fn triggering(m: &[u32], run: &mut [u32])
 }
 
 // The word at each GFM is that GFM.
-fn sending(m: &[u32], run: &mut [u32])
+fn sending(text: Text, m: &[u32], run: &mut [u32])
     requires { ⌜ (length (now m) ≡ machineLength) × (length (now run) ≡ machineLength) ⌝ }
-    ensures { λ _. ⌜ now (run .exit) ≡ sendingContents (now (m .entry)) ⌝ }
+    ensures { λ _. ⌜ now (run .exit) ≡ sendingContents text (now (m .entry)) ⌝ }
 {
     inactive(m, run);
     fills::number(run, layout::GENERATOR_LAST_AT, layout::QUADRANT_WORDS, 0);
@@ -64,9 +65,9 @@ fn ones(m: &[u32], run: &mut [u32])
 }
 
 // Generator s alone sounds; none does where s is no generator's number.
-fn sounding(m: &[u32], s: usize, run: &mut [u32])
+fn sounding(text: Text, m: &[u32], s: usize, run: &mut [u32])
     requires { ⌜ (length (now m) ≡ machineLength) × (length (now run) ≡ machineLength) ⌝ }
-    ensures { λ _. ⌜ now (run .exit) ≡ soundingContents (now (m .entry)) s ⌝ }
+    ensures { λ _. ⌜ now (run .exit) ≡ soundingContents text (now (m .entry)) s ⌝ }
 {
     let step = layout::GENERATOR_WORDS;
     let n = layout::GENERATORS;
@@ -80,19 +81,19 @@ fn sounding(m: &[u32], s: usize, run: &mut [u32])
 }
 
 // Contents with the settings of a machine that show where a point fails; generator s is to sound for the fourth.
-pub fn contents(m: &[u32], point: u32, s: usize, run: &mut [u32])
+pub fn contents(text: Text, m: &[u32], point: u32, s: usize, run: &mut [u32])
     requires { ⌜ (length (now m) ≡ machineLength) × (length (now run) ≡ machineLength) ⌝ }
-    ensures { λ _. ⌜ now (run .exit) ≡ contentsFor (now (m .entry)) point s ⌝ }
+    ensures { λ _. ⌜ now (run .exit) ≡ contentsFor text (now (m .entry)) point s ⌝ }
 {
     if point == 1 {
         triggering(m, run);
         return;
     }
     if point == 4 {
-        sounding(m, s, run);
+        sounding(text, m, s, run);
         return;
     }
-    sending(m, run);
+    sending(text, m, run);
 }
 
 // The items that go with them, for n generators that read data.

@@ -10,6 +10,7 @@ use lib.ListN.{length, getD}
 use Rattle.lists.specs.Lists.{zeros}
 use Rattle.layout.specs.Layout.{generators}
 use Rattle.layout.specs.Machine.{Machine, Order, Items}
+use Rattle.texts.specs.declared.Text.{Text}
 use Rattle.pass_model.specs.Pass.{Outcome, plainCall, writtenData, passOf}
 use Rattle.parts_shown.specs.declared.Difference.{Difference}
 use Rattle.parts_shown.specs.declared.Difference.the-variants.{Word, Written}
@@ -27,12 +28,12 @@ differenceBetween r s =
     cond (ltb word (length (r .machine))) (Word word) (Written (firstDifferent (writtenData r) (writtenData s)))
 
 -- A pass from contents by an order, over a delay memory of zeros and with a place for every generator that could write.
-abbrev pub passBy : Machine → Items → Order → Outcome
-passBy contents items order = passOf contents (plainCall order items (zeros generators))
+abbrev pub passBy : Text → Machine → Items → Order → Outcome
+passBy text contents items order = passOf text contents (plainCall order items (zeros generators))
 
 -- By what passes from contents by two orders differ.
-abbrev pub differenceShown : Machine → Items → Order → Order → Difference
-differenceShown contents items o₁ o₂ = differenceBetween (passBy contents items o₁) (passBy contents items o₂)
+abbrev pub differenceShown : Text → Machine → Items → Order → Order → Difference
+differenceShown text contents items o₁ o₂ = differenceBetween (passBy text contents items o₁) (passBy text contents items o₂)
 
 -- The first place at which two lists differ, both having it.
 pub record FirstDifferent (xs ys : List ℕ) (i : ℕ) : Type 0 where

@@ -4,6 +4,7 @@ use mathlib.Core.Path.{_≡_}
 use mathlib.Core.List.{[], _∷_}
 use native.Mathlib.Omega.{arith}
 use Rattle.layout.specs.Machine.{Machine, Order, ticksOf}
+use Rattle.texts.specs.declared.Text.{Text}
 use Rattle.questions.specs.Questions.{asked}
 use Rattle.machine.specs.Questions.{question1, question2}
 use Rattle.machine.proofs.Asked.{machine-passes}
@@ -13,17 +14,17 @@ use Rattle.order.proofs.Entries.{order-passes}
 use Rattle.pass_model.proofs.Asked.{few-ticks, entries-below}
 use Rattle.pass_generators.specs.Loops.{Ready, Numbers}
 
-pub is-ready : (m : Machine) → asked (question1 m ∷ question2 m ∷ []) ≡ 0 → Ready m
-is-ready m whole =
-    let passed = machine-passes m whole in
+pub is-ready : (text : Text) (m : Machine) → asked (question1 m ∷ question2 text m ∷ []) ≡ 0 → Ready m
+is-ready text m whole =
+    let passed = machine-passes text m whole in
     record {
       reaches = reaches m (passed .0);
       low = λ g h.
-          let s = sound-generator m (passed .1) g h in
+          let s = sound-generator text m (passed .1) g h in
           record { gj-low = s .gj; gk-low = s .gk; gq-low = s .gq; gmode-low = s .gmode };
     }
 
-pub are-numbers : (m : Machine) (order : Order) → asked (question1 m ∷ question2 m ∷ []) ≡ 0 →
+pub are-numbers : (text : Text) (m : Machine) (order : Order) → asked (question1 m ∷ question2 text m ∷ []) ≡ 0 →
     asked (question5 (ticksOf m) order ∷ question6 (ticksOf m) order ∷ []) ≡ 0 → Numbers order
-are-numbers m order whole e =
-    record { most = omega (arith, order-passes (ticksOf m) order e .entries, few-ticks m order whole); below = entries-below m order whole e }
+are-numbers text m order whole e =
+    record { most = omega (arith, order-passes (ticksOf m) order e .entries, few-ticks text m order whole); below = entries-below text m order whole e }

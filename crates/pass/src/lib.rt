@@ -4,11 +4,13 @@ ghost use Prim.Native.Nat.{_≤_};
 ghost use Rattle.layout.specs.Machine.{Reaches, ticksOf};
 ghost use Rattle.sine.specs.Sine.{quarter};
 ghost use Rattle.exponential.specs.Exponential.{tableSize, entries};
-ghost use Rattle.pass_model.specs.Pass.{counted, ran, passRefusal, passOf};
+ghost use Rattle.questions.specs.Questions.{asked};
+ghost use Rattle.pass_model.specs.Pass.{counted, unitQuestions, ran, passRefusal, passOf};
 ghost use Rattle.pass_generators.specs.Loops.{Ready, Numbers};
 use exponential::Entries;
 use sine::Quarter;
 use sums::Clipped;
+use texts::Text;
 
 // What a pass answers: the number of the refusing question or 0, the items read and written, and a mark for each word of generator-this that left its range.
 pub struct Passed {
@@ -29,6 +31,7 @@ fn count(m: &mut [u32])
 
 // The pass itself: generators in the order, modifiers by number with their delay units, the end of sum memory, the counter.
 pub fn run(
+    text: Text,
     m: &mut [u32],
     order: &[u32],
     items: &[u32],
@@ -41,12 +44,13 @@ pub fn run(
     requires { ⌜ Numbers (now order) ⌝ }
     requires { ⌜ ticksOf (now m) ≤ 256 ⌝ }
     requires { ⌜ (now sine ≡ quarter) × (now decay ≡ entries tableSize) ⌝ }
-    ensures { λ r. ⌜ record { number = r .number; read = r .read; written = r .written; clipped = r .clipped; machine = now (m .exit); places = now (places .exit); memory = now (memory .exit) } ≡ ran (now (m .entry)) (record { order = now (order .entry); items = now (items .entry); places = now (places .entry); memory = now (memory .entry) }) ⌝ }
+    ensures { λ r. ⌜ record { number = r .number; read = r .read; written = r .written; clipped = r .clipped; machine = now (m .exit); places = now (places .exit); memory = now (memory .exit) } ≡ ran text (now (m .entry)) (record { order = now (order .entry); items = now (items .entry); places = now (places .entry); memory = now (memory .entry) }) ⌝ }
 {
     let t = layout::ticks(m);
     let mut s = sums::load(m);
     let mut clipped = [0u8; layout::QUADRANT_WORDS];
     let done = pass_generators::generators(
+        text,
         m,
         &mut s,
         &mut clipped,
@@ -56,7 +60,7 @@ pub fn run(
         sine,
         decay,
     );
-    pass_modifiers::modifiers(m, &mut s, memory, t, t / 2);
+    pass_modifiers::modifiers(text, m, &mut s, memory, t, t / 2);
     sums::close(m, &s);
     count(m);
     Passed {
@@ -67,11 +71,28 @@ pub fn run(
     }
 }
 
-// The first question of a pass that is answered no, or 0.
-fn refusal(m: &[u32], order: &[u32], items: &[u32], places: &[u32], memory: &[u32]) -> u32
-    ensures { λ r. ⌜ r ≡ passRefusal (now (m .entry)) (record { order = now (order .entry); items = now (items .entry); places = now (places .entry); memory = now (memory .entry) }) ⌝ }
+// The first of a text's questions about the delay units that is answered no, or 0.
+pub fn unit_refusal(text: Text, m: &[u32]) -> u32
+    requires { ⌜ Reaches (now m) × (ticksOf (now m) ≤ 256) ⌝ }
+    ensures { λ r. ⌜ r ≡ asked (unitQuestions text (now (m .entry))) ⌝ }
 {
-    let first = machine::refusal(m);
+    match text {
+        Text::Of1978 => delay_questions::delay_refusal(m),
+    }
+}
+
+// The first question of a pass that is answered no, or 0.
+fn refusal(
+    text: Text,
+    m: &[u32],
+    order: &[u32],
+    items: &[u32],
+    places: &[u32],
+    memory: &[u32],
+) -> u32
+    ensures { λ r. ⌜ r ≡ passRefusal text (now (m .entry)) (record { order = now (order .entry); items = now (items .entry); places = now (places .entry); memory = now (memory .entry) }) ⌝ }
+{
+    let first = machine::refusal(text, m);
     if first != 0 {
         return first;
     }
@@ -79,7 +100,7 @@ fn refusal(m: &[u32], order: &[u32], items: &[u32], places: &[u32], memory: &[u3
     if second != 0 {
         return second;
     }
-    let needed = order::in_modes(m);
+    let needed = order::in_modes(text, m);
     if items.len() < needed.reads {
         return 7;
     }
@@ -89,20 +110,21 @@ fn refusal(m: &[u32], order: &[u32], items: &[u32], places: &[u32], memory: &[u3
     if !delay_questions::memory_good(memory) {
         return 10;
     }
-    delay_questions::delay_refusal(m)
+    unit_refusal(text, m)
 }
 
 // A pass. A refusal leaves the machine, the written places and delay memory as they were.
 pub fn pass(
+    text: Text,
     m: &mut [u32],
     order: &[u32],
     items: &[u32],
     places: &mut [u32],
     memory: &mut [u32],
 ) -> Passed
-    ensures { λ r. ⌜ record { number = r .number; read = r .read; written = r .written; clipped = r .clipped; machine = now (m .exit); places = now (places .exit); memory = now (memory .exit) } ≡ passOf (now (m .entry)) (record { order = now (order .entry); items = now (items .entry); places = now (places .entry); memory = now (memory .entry) }) ⌝ }
+    ensures { λ r. ⌜ record { number = r .number; read = r .read; written = r .written; clipped = r .clipped; machine = now (m .exit); places = now (places .exit); memory = now (memory .exit) } ≡ passOf text (now (m .entry)) (record { order = now (order .entry); items = now (items .entry); places = now (places .entry); memory = now (memory .entry) }) ⌝ }
 {
-    let number = refusal(m, order, items, places, memory);
+    let number = refusal(text, m, order, items, places, memory);
     if number != 0 {
         let unmarked = [0u8; layout::QUADRANT_WORDS];
         return Passed {
@@ -114,5 +136,5 @@ pub fn pass(
     }
     let sine = sine::table();
     let decay = exponential::table();
-    run(m, order, items, places, memory, &sine, &decay)
+    run(text, m, order, items, places, memory, &sine, &decay)
 }

@@ -17,9 +17,10 @@ use Rattle.modes.proofs.Exclusions.{quiet, idle, on-not-off, outputs}
 use Rattle.sums.specs.Sums.{fAt}
 use Rattle.generator.specs.declared.Generator.{Generator}
 use Rattle.generator.specs.declared.Sounded.{Sounded}
+use Rattle.texts.specs.declared.Text.the-variants.{Of1978}
 use Rattle.generator.specs.Generator.{runMode, stored, triggers, after, soundedOf}
 use Rattle.generator.proofs.Turns.{rests, after-untold}
-use Rattle.pass_model.specs.Generators.{of1978, generatorOf, turn1978, State, told, fed, summed, step}
+use Rattle.pass_model.specs.Generators.{generatorsOf, generatorOf, turn1978, State, told, fed, summed, step}
 use Rattle.pass_model.proofs.Turns.{waits-silent}
 use Rattle.pass_model.specs.Clipped.{Marks, sumLeaves, markedAt, marked}
 use Rattle.pass_outputs.specs.Outputs.{heard, heardLeaves, Sending, sent}
@@ -39,7 +40,7 @@ module _ (items : Items) (s : State) (g : ℕ) (u : Generator) (f : ℕ) (is-u :
   -- The envelope is on. The step, and its marks.
   pub sounds-on : (marks : Marks) {v : Sounding} → envelopeOn (runMode u) ≡ true →
       v ≡ sounded items (record { words = s .words; sums = s .sums; clipped = marks; triggered = s .triggered; reads = s .reads }) g u f →
-      record { words = v .words; sums = v .sums; triggered = v .triggered; places = s .places; reads = v .reads; writes = s .writes } ≡ step of1978 items s g
+      record { words = v .words; sums = v .sums; triggered = v .triggered; places = s .places; reads = v .reads; writes = s .writes } ≡ step (generatorsOf Of1978) items s g
   unfolding step turn1978 fed summed sounded heard envelopeOn isOneOf
   sounds-on marks on e =
       let r = runMode u in
@@ -47,7 +48,7 @@ module _ (items : Items) (s : State) (g : ℕ) (u : Generator) (f : ℕ) (is-u :
         e,
         ← is-u,
         ← is-f,
-        after-untold u f (told (of1978 .distance) (s .triggered) g) (on-not-off envelopeOn r wait on refl),
+        after-untold u f (told 1 (s .triggered) g) (on-not-off envelopeOn r wait on refl),
         on-not-off envelopeOn r writeDAC on refl,
         on-not-off envelopeOn r writeData on refl,
         outputs r on,
@@ -58,50 +59,50 @@ module _ (items : Items) (s : State) (g : ℕ) (u : Generator) (f : ℕ) (is-u :
 
   pub sounds-marked : (marks : Marks) {v : Sounding} → envelopeOn (runMode u) ≡ true →
       v ≡ sounded items (record { words = s .words; sums = s .sums; clipped = marks; triggered = s .triggered; reads = s .reads }) g u f →
-      v .clipped ≡ marked of1978 items s marks g
+      v .clipped ≡ marked (generatorsOf Of1978) items s marks g
   unfolding marked turn1978 sumLeaves sounded heardLeaves
   sounds-marked marks on e = rw (e, ← is-u, ← is-f, outputs (runMode u) on, not-first)
 
   -- The generator waits.
-  pub waits-on : {words : Machine} → runMode u ≡ wait → words ≡ stored (s .words) (generatorAt g) (after u f (told (of1978 .distance) (s .triggered) g)) →
-      record { words = words; sums = s .sums; triggered = s .triggered; places = s .places; reads = s .reads; writes = s .writes } ≡ step of1978 items s g
+  pub waits-on : {words : Machine} → runMode u ≡ wait → words ≡ stored (s .words) (generatorAt g) (after u f (told 1 (s .triggered) g)) →
+      record { words = words; sums = s .sums; triggered = s .triggered; places = s .places; reads = s .reads; writes = s .writes } ≡ step (generatorsOf Of1978) items s g
   unfolding step turn1978 fed summed
   waits-on w e =
-      let q = waits-silent (s .words) (s .sums) g (told (of1978 .distance) (s .triggered) g) (rw (← is-u) w) in
+      let q = waits-silent (s .words) (s .sums) g (told 1 (s .triggered) g) (rw (← is-u) w) in
       rw (e, q .no-trigger, q .no-add, q .no-replace, q .no-feed, q .no-write, ← is-u, ← is-f)
 
-  pub waits-marked : (marks : Marks) → runMode u ≡ wait → marks ≡ marked of1978 items s marks g
+  pub waits-marked : (marks : Marks) → runMode u ≡ wait → marks ≡ marked (generatorsOf Of1978) items s marks g
   unfolding marked markedAt sumLeaves
   waits-marked marks w =
-      let q = waits-silent (s .words) (s .sums) g (told (of1978 .distance) (s .triggered) g) (rw (← is-u) w) in
+      let q = waits-silent (s .words) (s .sums) g (told 1 (s .triggered) g) (rw (← is-u) w) in
       rw (q .no-replace, q .no-add)
 
   -- Nothing is on.
   pub sends-on : {v : Sending} → WithinWidths (s .words) g → envelopeOn (runMode u) ≡ false → oscillatorOn (runMode u) ≡ false →
       v ≡ sent (record { words = s .words; places = s .places; writes = s .writes }) u f →
-      record { words = v .words; sums = s .sums; triggered = s .triggered; places = v .places; reads = s .reads; writes = v .writes } ≡ step of1978 items s g
+      record { words = v .words; sums = s .sums; triggered = s .triggered; places = v .places; reads = s .reads; writes = v .writes } ≡ step (generatorsOf Of1978) items s g
   unfolding step turn1978 fed summed triggers sent
   sends-on low e o x =
       let q = quiet (runMode u) e in
-      rw (x, ← is-u, ← is-f, rests u f (told (of1978 .distance) (s .triggered) g) e o, q .no-add, q .no-replace, q .not-free, same)
+      rw (x, ← is-u, ← is-f, rests u f (told 1 (s .triggered) g) e o, q .no-add, q .no-replace, q .not-free, same)
     where
       same : stored (s .words) (generatorAt g) u ≡ s .words
       same = rw is-u (put-same (s .words) g low)
 
-  pub sends-marked : (marks : Marks) → envelopeOn (runMode u) ≡ false → marks ≡ marked of1978 items s marks g
+  pub sends-marked : (marks : Marks) → envelopeOn (runMode u) ≡ false → marks ≡ marked (generatorsOf Of1978) items s marks g
   unfolding marked markedAt sumLeaves turn1978
   sends-marked marks e =
       let q = quiet (runMode u) e in
       rw (← is-u, q .no-replace, q .no-add)
 
   -- Inactive or paused.
-  pub step-idle : WithinWidths (s .words) g → runMode u < 2 → s ≡ step of1978 items s g
+  pub step-idle : WithinWidths (s .words) g → runMode u < 2 → s ≡ step (generatorsOf Of1978) items s g
   unfolding sent
   step-idle low h =
       let i = idle (runMode u) h in
       sends-on low (i .no-envelope) (i .no-oscillator) (rw (i .no-DAC, i .no-write))
 
-  pub idle-marked : (marks : Marks) → runMode u < 2 → marks ≡ marked of1978 items s marks g
+  pub idle-marked : (marks : Marks) → runMode u < 2 → marks ≡ marked (generatorsOf Of1978) items s marks g
   idle-marked marks h = sends-marked marks (idle (runMode u) h .no-envelope)
 
 -- What the code does for a generator whose envelope is on: x is what it brings.

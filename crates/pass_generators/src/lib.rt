@@ -8,7 +8,9 @@ ghost use Rattle.exponential.specs.Exponential.{tableSize, entries};
 ghost use Rattle.modes.specs.Modes.{rows, switchesOf, envelopeOn, wait};
 ghost use Rattle.layout.specs.Layout.{generatorAt};
 ghost use Rattle.generator.specs.Generator.{Ranged, stored, runMode, after};
-ghost use Rattle.pass_model.specs.Generators.{of1978, generatorOf, told, step, begun, takenBy};
+ghost use Rattle.texts.specs.Texts.{distanceOf};
+ghost use Rattle.texts.specs.declared.Text.the-variants.{Of1978};
+ghost use Rattle.pass_model.specs.Generators.{generatorsOf, generatorOf, told, step, begun, takenBy};
 ghost use Rattle.pass_model.specs.Clipped.{marked, markedBy};
 ghost use Rattle.pass_generators.specs.Loops.{WithinWidths, Ready, Numbers, sounded};
 use exponential::Entries;
@@ -19,6 +21,7 @@ use pass_outputs::Triggered;
 use sine::Quarter;
 use sums::Clipped;
 use sums::Sums;
+use texts::Text;
 
 // How many items were read and written.
 pub struct Items {
@@ -81,15 +84,15 @@ fn wait(m: &mut [u32], triggered: &Triggered, g: usize, unit: Generator, f: u32)
     requires { ⌜ Reaches (now m) ⌝ }
     requires { ⌜ Ranged unit ⌝ }
     requires { ⌜ (runMode unit ≡ wait) × (f < 2 ^ 20) × (g < 256) ⌝ }
-    ensures { λ r. ⌜ now (m .exit) ≡ stored (now (m .entry)) (generatorAt g) (after unit f (told (of1978 .distance) (now (triggered .entry)) g)) ⌝ }
+    ensures { λ r. ⌜ now (m .exit) ≡ stored (now (m .entry)) (generatorAt g) (after unit f (told (distanceOf Of1978) (now (triggered .entry)) g)) ⌝ }
 {
-    let told = pass_outputs::told(triggered, g);
+    let told = pass_outputs::told(Text::Of1978, triggered, g);
     let after = unit.wait(f, told);
     put_generator_at(m, g, after);
 }
 
-// One generator is taken.
-fn step(
+// One generator of the 1978 text is taken.
+fn step_1978(
     m: &mut [u32],
     s: &mut Sums,
     clipped: &mut Clipped,
@@ -106,8 +109,8 @@ fn step(
     requires { ⌜ WithinWidths (now m) g ⌝ }
     requires { ⌜ (now switches ≡ rows) × (now sine ≡ quarter) × (now decay ≡ entries tableSize) ⌝ }
     requires { ⌜ (g < 256) × (done .reads < 256) × (done .writes < 256) ⌝ }
-    ensures { λ r. ⌜ record { words = now (m .exit); sums = now (s .exit); triggered = now (triggered .exit); places = now (places .exit); reads = r .reads; writes = r .writes } ≡ step of1978 (now (items .entry)) (record { words = now (m .entry); sums = now (s .entry); triggered = now (triggered .entry); places = now (places .entry); reads = done .reads; writes = done .writes }) g ⌝ }
-    ensures { λ _. ⌜ now (clipped .exit) ≡ marked of1978 (now (items .entry)) (record { words = now (m .entry); sums = now (s .entry); triggered = now (triggered .entry); places = now (places .entry); reads = done .reads; writes = done .writes }) (now (clipped .entry)) g ⌝ }
+    ensures { λ r. ⌜ record { words = now (m .exit); sums = now (s .exit); triggered = now (triggered .exit); places = now (places .exit); reads = r .reads; writes = r .writes } ≡ step (generatorsOf Of1978) (now (items .entry)) (record { words = now (m .entry); sums = now (s .entry); triggered = now (triggered .entry); places = now (places .entry); reads = done .reads; writes = done .writes }) g ⌝ }
+    ensures { λ _. ⌜ now (clipped .exit) ≡ marked (generatorsOf Of1978) (now (items .entry)) (record { words = now (m .entry); sums = now (s .entry); triggered = now (triggered .entry); places = now (places .entry); reads = done .reads; writes = done .writes }) (now (clipped .entry)) g ⌝ }
 {
     let unit = generator_at(m, g);
     if unit.gmode < 128 {
@@ -146,8 +149,48 @@ fn step(
     }
 }
 
+// One generator is taken.
+fn step(
+    text: Text,
+    m: &mut [u32],
+    s: &mut Sums,
+    clipped: &mut Clipped,
+    triggered: &mut Triggered,
+    switches: &Rows,
+    sine: &Quarter,
+    decay: &Entries,
+    items: &[u32],
+    places: &mut [u32],
+    done: Items,
+    g: usize,
+) -> Items
+    requires { ⌜ Reaches (now m) ⌝ }
+    requires { ⌜ WithinWidths (now m) g ⌝ }
+    requires { ⌜ (now switches ≡ rows) × (now sine ≡ quarter) × (now decay ≡ entries tableSize) ⌝ }
+    requires { ⌜ (g < 256) × (done .reads < 256) × (done .writes < 256) ⌝ }
+    ensures { λ r. ⌜ record { words = now (m .exit); sums = now (s .exit); triggered = now (triggered .exit); places = now (places .exit); reads = r .reads; writes = r .writes } ≡ step (generatorsOf text) (now (items .entry)) (record { words = now (m .entry); sums = now (s .entry); triggered = now (triggered .entry); places = now (places .entry); reads = done .reads; writes = done .writes }) g ⌝ }
+    ensures { λ _. ⌜ now (clipped .exit) ≡ marked (generatorsOf text) (now (items .entry)) (record { words = now (m .entry); sums = now (s .entry); triggered = now (triggered .entry); places = now (places .entry); reads = done .reads; writes = done .writes }) (now (clipped .entry)) g ⌝ }
+{
+    match text {
+        Text::Of1978 => step_1978(
+            m,
+            s,
+            clipped,
+            triggered,
+            switches,
+            sine,
+            decay,
+            items,
+            places,
+            done,
+            g,
+        ),
+    }
+}
+
 // The generators of an order are taken one after the other, from nothing triggered, read and written; words that left their range are marked. The tables are handed on, so that a caller of many passes copies them once.
 pub fn generators(
+    text: Text,
     m: &mut [u32],
     s: &mut Sums,
     clipped: &mut Clipped,
@@ -160,8 +203,8 @@ pub fn generators(
     requires { ⌜ Ready (now m) ⌝ }
     requires { ⌜ Numbers (now order) ⌝ }
     requires { ⌜ (now sine ≡ quarter) × (now decay ≡ entries tableSize) ⌝ }
-    ensures { λ r. ⌜ record { words = now (m .exit); sums = now (s .exit); places = now (places .exit); reads = r .reads; writes = r .writes } ≡ takenBy of1978 (now (items .entry)) (begun (now (m .entry)) (now (s .entry)) (now (places .entry))) (now (order .entry)) ⌝ }
-    ensures { λ _. ⌜ now (clipped .exit) ≡ markedBy of1978 (now (items .entry)) (begun (now (m .entry)) (now (s .entry)) (now (places .entry))) (now (clipped .entry)) (now (order .entry)) ⌝ }
+    ensures { λ r. ⌜ record { words = now (m .exit); sums = now (s .exit); places = now (places .exit); reads = r .reads; writes = r .writes } ≡ takenBy (generatorsOf text) (now (items .entry)) (begun (now (m .entry)) (now (s .entry)) (now (places .entry))) (now (order .entry)) ⌝ }
+    ensures { λ _. ⌜ now (clipped .exit) ≡ markedBy (generatorsOf text) (now (items .entry)) (begun (now (m .entry)) (now (s .entry)) (now (places .entry))) (now (clipped .entry)) (now (order .entry)) ⌝ }
 {
     let switches = modes::table();
     let mut triggered = [0u8; layout::GENERATORS];
@@ -173,6 +216,7 @@ pub fn generators(
     while i < order.len() {
         let g = layout::wide(order[i]);
         let next = step(
+            text,
             m,
             s,
             clipped,

@@ -15,6 +15,7 @@ use lib.Seq.{getD-set-same, getD-set-other}
 use Rattle.layout.specs.Layout.{modifierAt, quadrantAt, counterAt, delayAt, delayY}
 use Rattle.layout.specs.Machine.{Machine, Sums, Reaches}
 use Rattle.layout.specs.Widths.{counterBits}
+use Rattle.texts.specs.declared.Text.{Text}
 use Rattle.layout.proofs.Reach.{same-reach}
 use Rattle.machine.specs.Questions.{sound}
 use Rattle.sums.specs.Sums.{generatorThis, generatorLast, modifierThis, closed}
@@ -34,110 +35,110 @@ use Rattle.pass_model.proofs.Modifiers.{Elsewhere, turn-seen-low, words-length,
 use Rattle.pass_laws.proofs.SoundPuts.{sound-modifier-put, sound-delay-put, sound-counted, sound-closed}
 
 -- A delay unit's turn keeps a machine sound.
-delayed-sound : (t : ℕ) (h : Held) (u : Modifier) (w : ℕ) → WordsLow (h .memory) → sound (h .words) ≡ true → sound (delayed t h u w .words) ≡ true
-delayed-sound t h u w low e =
+delayed-sound : (text : Text) (t : ℕ) (h : Held) (u : Modifier) (w : ℕ) → WordsLow (h .memory) → sound text (h .words) ≡ true → sound text (delayed text t h u w .words) ≡ true
+delayed-sound text t h u w low e =
     let d = delayOf (h .words) (unitOf u) in
-    words-by t h u w (λ m. sound m ≡ true) e
-    (sound-delay-put (h .words) e (unitOf u) (mod-lt (u .mrm) (pow-pos 5)) (turnOf d (h .memory) w .unit)
+    words-by text t h u w (λ m. sound text m ≡ true) e
+    (sound-delay-put text (h .words) e (unitOf u) (mod-lt (u .mrm) (pow-pos 5)) (turnOf d (h .memory) w .unit)
     (turn-ranged d (h .memory) w (loaded-ranged (drop (delayAt (unitOf u)) (h .words))) low))
 
 -- The modifiers keep a machine sound.
-modified-sound : (t : ℕ) (h : Held) (s : Sums) (n : ℕ) → n ≤ 128 → WordsLow (h .memory) → sound (h .words) ≡ true → sound (modifiedBy t h s n .held .words) ≡ true
+modified-sound : (text : Text) (t : ℕ) (h : Held) (s : Sums) (n : ℕ) → n ≤ 128 → WordsLow (h .memory) → sound text (h .words) ≡ true → sound text (modifiedBy text t h s n .held .words) ≡ true
 unfolding modifiedBy modified modify
-modified-sound t h s zero b low e = e
-modified-sound t h s (suc n) b low e =
-    let v = modified t h s n in
+modified-sound text t h s zero b low e = e
+modified-sound text t h s (suc n) b low e =
+    let v = modified text t h s n in
     let early = earlyView (getD s modifierThis []) n (v .writes) in
     let late = lateView (getD s modifierThis []) n (v .writes) in
     let u = modifierOf (v .held .words) n in
-    let turn = turnSeen t (v .held .words) s early late u in
-    delayed-sound t (record { words = stored (v .held .words) (modifierAt n) (turn .unit); memory = v .held .memory }) u (turn .unit .l1) (memory-low t h s n low)
-    (sound-modifier-put (v .held .words) (modified-sound t h s n (omega arith) low e) n (omega arith) (turn .unit) (turn-seen-low t s early late (v .held .words) n .ranged))
+    let turn = turnSeen text t (v .held .words) s early late u in
+    delayed-sound text t (record { words = stored (v .held .words) (modifierAt n) (turn .unit); memory = v .held .memory }) u (turn .unit .l1) (memory-low text t h s n low)
+    (sound-modifier-put text (v .held .words) (modified-sound text t h s n (omega arith) low e) n (omega arith) (turn .unit) (turn-seen-low text t s early late (v .held .words) n .ranged))
 
-module _ (t : ℕ) (h : Held) (s : Sums) where
+module _ (text : Text) (t : ℕ) (h : Held) (s : Sums) where
   -- The machine's words and sum memory after them.
   abbrev wordsAfter : Machine
-  wordsAfter = modifiedBy t h s (t / 2) .held .words
+  wordsAfter = modifiedBy text t h s (t / 2) .held .words
 
   abbrev sumsAfter : Sums
-  sumsAfter = set s modifierThis (modifiedBy t h s (t / 2) .this)
+  sumsAfter = set s modifierThis (modifiedBy text t h s (t / 2) .this)
 
-  pub completed-length : length (completed t h s .words) ≡ length (h .words)
+  pub completed-length : length (completed text t h s .words) ≡ length (h .words)
   unfolding completed counted
   completed-length =
       length-set (closed wordsAfter sumsAfter) counterAt ((getD (closed wordsAfter sumsAfter) counterAt 0 + 1) % 2 ^ counterBits)
       ∙ closed-length wordsAfter sumsAfter
-      ∙ words-length t h s (t / 2)
+      ∙ words-length text t h s (t / 2)
 
   -- Delay memory keeps its length and its width.
-  pub completed-memory-length : length (completed t h s .memory) ≡ length (h .memory)
+  pub completed-memory-length : length (completed text t h s .memory) ≡ length (h .memory)
   unfolding completed
-  completed-memory-length = memory-length t h s (t / 2)
+  completed-memory-length = memory-length text t h s (t / 2)
 
-  pub completed-memory-low : WordsLow (h .memory) → WordsLow (completed t h s .memory)
+  pub completed-memory-low : WordsLow (h .memory) → WordsLow (completed text t h s .memory)
   unfolding completed
-  completed-memory-low low = memory-low t h s (t / 2) low
+  completed-memory-low low = memory-low text t h s (t / 2) low
 
   module _ (k : Quadrants s) where
-    this-after : getD sumsAfter modifierThis [] ≡ modifiedBy t h s (t / 2) .this
-    this-after = getD-set-same s 2 (modifiedBy t h s (t / 2) .this) [] (omega (arith, k .four))
+    this-after : getD sumsAfter modifierThis [] ≡ modifiedBy text t h s (t / 2) .this
+    this-after = getD-set-same s 2 (modifiedBy text t h s (t / 2) .this) [] (omega (arith, k .four))
 
     other-after : (q : ℕ) → q ≢ 2 → getD sumsAfter q [] ≡ getD s q []
-    other-after q b = getD-set-other s 2 q (modifiedBy t h s (t / 2) .this) [] b
+    other-after q b = getD-set-other s 2 q (modifiedBy text t h s (t / 2) .this) [] b
 
     after-quadrants : Quadrants sumsAfter
     after-quadrants =
         record {
-          four = length-set s 2 (modifiedBy t h s (t / 2) .this) ∙ k .four;
+          four = length-set s 2 (modifiedBy text t h s (t / 2) .this) ∙ k .four;
           each = λ q b. by-number q b (eqb q 2) refl;
         }
       where
         by-number : (q : ℕ) → q < 4 → (b : Bool) → eqb q 2 ≡ b → length (getD sumsAfter q []) ≡ 64
-        by-number q b true e = rw (eqb-true q 2 e) (ap length this-after ∙ this-length t h s (t / 2) ∙ k .each 2 (omega arith))
+        by-number q b true e = rw (eqb-true q 2 e) (ap length this-after ∙ this-length text t h s (t / 2) ∙ k .each 2 (omega arith))
         by-number q b false e = ap length (other-after q (eqb-false q 2 e)) ∙ k .each q b
 
     -- A word that is neither in sum memory nor the counter is as the modifiers leave it.
-    completed-by : (i : ℕ) → Outside i 3840 256 → i ≢ counterAt → getD (completed t h s .words) i 0 ≡ getD wordsAfter i 0
+    completed-by : (i : ℕ) → Outside i 3840 256 → i ≢ counterAt → getD (completed text t h s .words) i 0 ≡ getD wordsAfter i 0
     unfolding completed counted
     completed-by i o c =
         getD-set-other (closed wordsAfter sumsAfter) counterAt i ((getD (closed wordsAfter sumsAfter) counterAt 0 + 1) % 2 ^ counterBits) 0 c
         ∙ closed-outside wordsAfter sumsAfter after-quadrants i o
 
     -- A word that is no M0, M1, L0 or L1 of a modifier that is taken and that no delay unit's turn changes, not in sum memory and not the counter.
-    pub completed-word : (i : ℕ) → Elsewhere i (t / 2) → Outside i 3840 256 → i ≢ counterAt → getD (completed t h s .words) i 0 ≡ getD (h .words) i 0
-    completed-word i a o c = completed-by i o c ∙ words-kept t h s (t / 2) i a
+    pub completed-word : (i : ℕ) → Elsewhere i (t / 2) → Outside i 3840 256 → i ≢ counterAt → getD (completed text t h s .words) i 0 ≡ getD (h .words) i 0
+    completed-word i a o c = completed-by i o c ∙ words-kept text t h s (t / 2) i a
 
     -- Y of a delay unit stays at most Z.
-    pub completed-within : t ≤ 256 → (u : ℕ) → u < 32 → delayAt 32 ≤ length (h .words) → yOf (h .words) u ≤ zOf (h .words) u → yOf (completed t h s .words) u ≤ zOf (h .words) u
+    pub completed-within : t ≤ 256 → (u : ℕ) → u < 32 → delayAt 32 ≤ length (h .words) → yOf (h .words) u ≤ zOf (h .words) u → yOf (completed text t h s .words) u ≤ zOf (h .words) u
     completed-within b u l r e =
         rw (completed-by (delayAt u + delayY) (outside-after (delayAt u + delayY) 3840 256 (omega arith)) (λ q. omega arith))
-        (units-within t h s (t / 2) u (omega arith) l r e)
+        (units-within text t h s (t / 2) u (omega arith) l r e)
 
     -- The counter.
-    pub completed-counter : t ≤ 256 → counterAt < length (h .words) → getD (completed t h s .words) counterAt 0 ≡ (getD (h .words) counterAt 0 + 1) % 2 ^ counterBits
+    pub completed-counter : t ≤ 256 → counterAt < length (h .words) → getD (completed text t h s .words) counterAt 0 ≡ (getD (h .words) counterAt 0 + 1) % 2 ^ counterBits
     unfolding completed counted
     completed-counter b l =
         getD-set-same (closed wordsAfter sumsAfter) counterAt ((getD (closed wordsAfter sumsAfter) counterAt 0 + 1) % 2 ^ counterBits) 0
-        (rw (closed-length wordsAfter sumsAfter, words-length t h s (t / 2)) l)
+        (rw (closed-length wordsAfter sumsAfter, words-length text t h s (t / 2)) l)
         ∙ ap (λ (x : ℕ). (x + 1) % 2 ^ counterBits)
         (closed-outside wordsAfter sumsAfter after-quadrants counterAt (outside-after counterAt 3840 256 (lit≤ tt))
-        ∙ words-between t h s (t / 2) counterAt (omega arith) (lit≤ tt) (lit< tt))
+        ∙ words-between text t h s (t / 2) counterAt (omega arith) (lit≤ tt) (lit< tt))
 
     -- A word of generator-last is what stood in generator-this.
-    pub completed-last : Reaches (h .words) → (w : ℕ) → w < 64 → getD (completed t h s .words) (quadrantAt generatorLast + w) 0 ≡ getD (getD s generatorThis []) w 0
+    pub completed-last : Reaches (h .words) → (w : ℕ) → w < 64 → getD (completed text t h s .words) (quadrantAt generatorLast + w) 0 ≡ getD (getD s generatorThis []) w 0
     unfolding completed counted
     completed-last r w b =
         getD-set-other (closed wordsAfter sumsAfter) counterAt (quadrantAt generatorLast + w) ((getD (closed wordsAfter sumsAfter) counterAt 0 + 1) % 2 ^ counterBits) 0 (λ z. omega arith)
-        ∙ closed-generator-last wordsAfter sumsAfter after-quadrants (same-reach (words-length t h s (t / 2)) r) w b
+        ∙ closed-generator-last wordsAfter sumsAfter after-quadrants (same-reach (words-length text t h s (t / 2)) r) w b
         ∙ ap (λ (l : List ℕ). getD l w 0) (other-after generatorThis (λ z. omega arith))
 
     -- They keep a machine sound.
-    pub completed-sound : t ≤ 256 → WordsLow (h .memory) → sound (h .words) ≡ true → Reaches (h .words)
+    pub completed-sound : t ≤ 256 → WordsLow (h .memory) → sound text (h .words) ≡ true → Reaches (h .words)
         → ((i : ℕ) → i < 64 → getD (getD s generatorThis []) i 0 < 2 ^ 20) → ((i : ℕ) → i < 64 → getD (getD s modifierThis []) i 0 < 2 ^ 20)
-        → sound (completed t h s .words) ≡ true
+        → sound text (completed text t h s .words) ≡ true
     unfolding completed
     completed-sound b low e r low₀ low₂ =
-        sound-counted (closed wordsAfter sumsAfter)
-        (sound-closed wordsAfter sumsAfter (modified-sound t h s (t / 2) (omega arith) low e) (same-reach (words-length t h s (t / 2)) r) after-quadrants
+        sound-counted text (closed wordsAfter sumsAfter)
+        (sound-closed text wordsAfter sumsAfter (modified-sound text t h s (t / 2) (omega arith) low e) (same-reach (words-length text t h s (t / 2)) r) after-quadrants
         (λ i l. rw (other-after 0 (λ q. omega arith)) (low₀ i l))
-        (λ i l. rw this-after (this-low t h s (t / 2) i (low₂ i l))))
+        (λ i l. rw this-after (this-low text t h s (t / 2) i (low₂ i l))))

@@ -124,7 +124,7 @@ pub setting : (j : ℕ) → ltb j 11 ≡ true → eqb j 1 ≡ false → eqb j 2 
 setting j a b c d e =
     record { inside = ltb-true j 11 a; not-gj = eqb-false j 1 b; not-gk = eqb-false j 2 c; not-gq = eqb-false j 6 d; not-gmode = eqb-false j 10 e }
 
-apart-setting : (g k j : ℕ) → Setting j → Apart (generatorAt k + j) g
+pub apart-setting : (g k j : ℕ) → Setting j → Apart (generatorAt k + j) g
 apart-setting g k j c =
     let l = c .inside in
     record {

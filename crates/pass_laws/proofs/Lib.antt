@@ -1,7 +1,7 @@
 pub mod Frames
 pub mod Orders
 pub mod Turns
-pub mod Turns1978
+pub mod TextTurns
 pub mod SoundPuts
 pub mod Passing
 pub mod Completing

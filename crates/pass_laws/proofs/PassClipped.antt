@@ -9,45 +9,46 @@ use lib.ListN.{length, getD}
 use Rattle.lists.proofs.Zeros.{zeros-length, zeros-at}
 use Rattle.layout.specs.Layout.{quadrantWords}
 use Rattle.layout.specs.Machine.{Machine}
+use Rattle.texts.specs.declared.Text.{Text}
 use Rattle.sums.specs.Sums.{sumsOf}
-use Rattle.pass_model.specs.Generators.{of1978, begun, State}
+use Rattle.pass_model.specs.Generators.{generatorsOf, begun, State}
 use Rattle.pass_model.specs.Clipped.{noMarks, markedBy, SumLeft}
 use Rattle.pass_model.specs.Pass.{Call, Outcome, generatorsClipped, finished, ran, refused, passRefusal, passOf}
 use Rattle.pass_model.proofs.Clipped.{marks-length, mark-bit, mark-tells}
 use Rattle.pass_laws.proofs.Passing.{pass-by, let-through}
 
-module _ (m : Machine) (call : Call) where
+module _ (text : Text) (m : Machine) (call : Call) where
   -- The state as the generators begin.
   abbrev start : State
   start = begun m (sumsOf m) (call .places)
 
-  refused-clipped : refused (passRefusal m call) m call .clipped ≡ noMarks
+  refused-clipped : refused (passRefusal text m call) m call .clipped ≡ noMarks
   unfolding refused
   refused-clipped = refl
 
-  pub ran-clipped : ran m call .clipped ≡ markedBy of1978 (call .items) start noMarks (call .order)
+  pub ran-clipped : ran text m call .clipped ≡ markedBy (generatorsOf text) (call .items) start noMarks (call .order)
   unfolding ran finished generatorsClipped
   ran-clipped = refl
 
-  pub pass-marks : length (passOf m call .clipped) ≡ quadrantWords
+  pub pass-marks : length (passOf text m call .clipped) ≡ quadrantWords
   pass-marks =
-      pass-by m call (λ (r : Outcome). length (r .clipped) ≡ quadrantWords) (rw refused-clipped (zeros-length quadrantWords))
-      (λ e. rw ran-clipped (marks-length of1978 (call .items) (call .order) start noMarks ∙ zeros-length quadrantWords))
+      pass-by text m call (λ (r : Outcome). length (r .clipped) ≡ quadrantWords) (rw refused-clipped (zeros-length quadrantWords))
+      (λ e. rw ran-clipped (marks-length (generatorsOf text) (call .items) (call .order) start noMarks ∙ zeros-length quadrantWords))
 
-  pub pass-mark-bits : (w : ℕ) → w < quadrantWords → getD (passOf m call .clipped) w 0 ≤ 1
+  pub pass-mark-bits : (w : ℕ) → w < quadrantWords → getD (passOf text m call .clipped) w 0 ≤ 1
   pass-mark-bits w h =
-      pass-by m call (λ (r : Outcome). getD (r .clipped) w 0 ≤ 1) (rw refused-clipped none)
-      (λ e. rw ran-clipped (mark-bit of1978 (call .items) w (call .order) start noMarks (rw (zeros-length quadrantWords) h) none))
+      pass-by text m call (λ (r : Outcome). getD (r .clipped) w 0 ≤ 1) (rw refused-clipped none)
+      (λ e. rw ran-clipped (mark-bit (generatorsOf text) (call .items) w (call .order) start noMarks (rw (zeros-length quadrantWords) h) none))
     where
       none : getD noMarks w 0 ≤ 1
       none = omega (arith, zeros-at quadrantWords w h)
 
   -- A refused pass sets no mark.
-  pub refused-unmarked : passRefusal m call ≢ 0 → passOf m call .clipped ≡ noMarks
+  pub refused-unmarked : passRefusal text m call ≢ 0 → passOf text m call .clipped ≡ noMarks
   unfolding passOf refused
-  refused-unmarked h = rw (ne-eqb (passRefusal m call) 0 h)
+  refused-unmarked h = rw (ne-eqb (passRefusal text m call) 0 h)
 
   -- In a pass that is let through the mark of word w is set exactly if some generator made a sum there that left its range.
-  pub pass-mark-tells : passRefusal m call ≡ 0 → (w : ℕ) → w < quadrantWords
-      → (getD (passOf m call .clipped) w 0 ≡ 1) ↔ SumLeft of1978 (call .items) start (call .order) w
-  pass-mark-tells e w h = rw (let-through m call e, ran-clipped) (mark-tells of1978 (call .items) (call .order) start w h)
+  pub pass-mark-tells : passRefusal text m call ≡ 0 → (w : ℕ) → w < quadrantWords
+      → (getD (passOf text m call .clipped) w 0 ≡ 1) ↔ SumLeft (generatorsOf text) (call .items) start (call .order) w
+  pass-mark-tells e w h = rw (let-through text m call e, ran-clipped) (mark-tells (generatorsOf text) (call .items) (call .order) start w h)

@@ -12,7 +12,10 @@ use lib.ListN.{length, getD}
 use Rattle.words.proofs.Residues.{wrapped}
 use Rattle.layout.specs.Layout.{generatorAt, counterAt}
 use Rattle.layout.specs.Widths.{counterBits, lingerBits}
-use Rattle.layout.specs.Machine.{Machine, Order, Items, ticksOf, runModeAt, lowCounter}
+use Rattle.layout.specs.Machine.{Machine, Order, Items, ticksOf, lowCounter}
+use Rattle.texts.specs.Texts.{runModeAt, distanceOf}
+use Rattle.texts.specs.declared.Text.{Text}
+use Rattle.texts.specs.declared.Text.the-variants.{Of1978}
 use Rattle.modes.specs.Modes.{replaces, readData, writeData}
 use Rattle.modes.proofs.RunModes.{replaces-is}
 use Rattle.machine.specs.Questions.{sound}
@@ -24,93 +27,93 @@ use Rattle.order_lists.specs.Sequences.{keep}
 use Rattle.order_lists.proofs.Entries.{keep-same}
 use Rattle.order_lists.proofs.Orders.{keep-order-same, length-keep}
 use Rattle.generator.specs.declared.Generator.{Generator}
-use Rattle.generator.specs.Generator.{runMode}
-use Rattle.pass_model.specs.Generators.{of1978, turn1978, State, generatorOf, step, steps, begun}
+use Rattle.pass_model.specs.Generators.{generatorsOf, State, generatorOf, told, step, steps, begun}
+use Rattle.pass_model.proofs.Keeps.{runOf, turn-keeps}
 use Rattle.pass_model.specs.Pass.{Call, passRefusal, passOf}
 use Rattle.pass_laws.proofs.Frames.{apart-other, not-there, step-below, steps-length, steps-beyond, steps-quadrants}
-use Rattle.pass_laws.proofs.Turns1978.{sixteen, same-generator}
+use Rattle.pass_laws.proofs.TextTurns.{sixteen, same-generator}
 use Rattle.pass_laws.proofs.SoundPuts.{gmode-loaded}
 use Rattle.pass_laws.proofs.Passing.{Admitted, generatorsDone, heldThen, admitted, let-through, ran-machine, ran-read, ran-written}
 use Rattle.pass_laws.proofs.Completing.{completed-counter}
 use Rattle.pass_laws.proofs.Orders.{Distinct, distinct-order, distinct-first, distinct-rest}
 
 -- Another generator than the one that is taken.
-step-untaken : (items : Items) (s : State) (g k : ℕ) → k < 256 → k ≢ g → generatorOf (step of1978 items s g .words) k ≡ generatorOf (s .words) k
-step-untaken items s g k h n =
-    same-generator (step of1978 items s g .words) (s .words) k (λ j l. step-below of1978 items s g (generatorAt k + j) (omega arith) (apart-other g k j l n))
+step-untaken : (text : Text) (items : Items) (s : State) (g k : ℕ) → k < 256 → k ≢ g → generatorOf (step (generatorsOf text) items s g .words) k ≡ generatorOf (s .words) k
+step-untaken text items s g k h n =
+    same-generator (step (generatorsOf text) items s g .words) (s .words) k (λ j l. step-below (generatorsOf text) items s g (generatorAt k + j) (omega arith) (apart-other g k j l n))
 
 -- What grows by one with each generator that passes a test grows by as many as pass it in the order, by the machine as it was at the start.
-steps-count : (items : Items) (c : Generator → Bool) (n : State → ℕ)
-    → ((t : State) (g : ℕ) → n (step of1978 items t g) ≡ cond (c (generatorOf (t .words) g)) (suc (n t)) (n t))
-    → (order : Order) (s : State) → Distinct order → n (steps of1978 items s order) ≡ n s + length (keep (λ g. c (generatorOf (s .words) g)) order)
+steps-count : (text : Text) (items : Items) (c : Generator → Bool) (n : State → ℕ)
+    → ((t : State) (g : ℕ) → n (step (generatorsOf text) items t g) ≡ cond (c (generatorOf (t .words) g)) (suc (n t)) (n t))
+    → (order : Order) (s : State) → Distinct order → n (steps (generatorsOf text) items s order) ≡ n s + length (keep (λ g. c (generatorOf (s .words) g)) order)
 unfolding steps keep
-steps-count items c n on [] s d = sym (add-zero (n s))
-steps-count items c n on (g ∷ order) s d =
-    steps-count items c n on order (step of1978 items s g) (distinct-rest g order d) ∙ rw (on s g, later) (go (c (generatorOf (s .words) g)))
+steps-count text items c n on [] s d = sym (add-zero (n s))
+steps-count text items c n on (g ∷ order) s d =
+    steps-count text items c n on order (step (generatorsOf text) items s g) (distinct-rest g order d) ∙ rw (on s g, later) (go (c (generatorOf (s .words) g)))
   where
-    later : keep (λ h. c (generatorOf (step of1978 items s g .words) h)) order ≡ keep (λ h. c (generatorOf (s .words) h)) order
+    later : keep (λ h. c (generatorOf (step (generatorsOf text) items s g .words) h)) order ≡ keep (λ h. c (generatorOf (s .words) h)) order
     later =
-        keep-same (λ h. c (generatorOf (step of1978 items s g .words) h)) (λ h. c (generatorOf (s .words) h)) order
-        (λ i l. ap c (step-untaken items s g (getD order i 0) (d .below (suc i) (omega arith)) (λ e. not-there g order (distinct-first g order d) i l (sym e))))
+        keep-same (λ h. c (generatorOf (step (generatorsOf text) items s g .words) h)) (λ h. c (generatorOf (s .words) h)) order
+        (λ i l. ap c (step-untaken text items s g (getD order i 0) (d .below (suc i) (omega arith)) (λ e. not-there g order (distinct-first g order d) i l (sym e))))
 
     go : (b : Bool) → cond b (suc (n s)) (n s) + length (keep (λ h. c (generatorOf (s .words) h)) order)
         ≡ n s + length (cond b (g ∷ keep (λ h. c (generatorOf (s .words) h)) order) (keep (λ h. c (generatorOf (s .words) h)) order))
     go true = omega arith
     go false = refl
 
-reads-on : (items : Items) (t : State) (g : ℕ) → step of1978 items t g .reads ≡ cond (replaces (runMode (generatorOf (t .words) g))) (suc (t .reads)) (t .reads)
-unfolding step turn1978
-reads-on items t g = refl
+reads-on : (text : Text) (items : Items) (t : State) (g : ℕ) → step (generatorsOf text) items t g .reads ≡ cond (replaces (runOf text (generatorOf (t .words) g))) (suc (t .reads)) (t .reads)
+unfolding step
+reads-on text items t g = rw (turn-keeps text (t .words) (t .sums) g (told (distanceOf text) (t .triggered) g) .replaces) refl
 
-writes-on : (items : Items) (t : State) (g : ℕ) → step of1978 items t g .writes ≡ cond (eqb (runMode (generatorOf (t .words) g)) writeData) (suc (t .writes)) (t .writes)
-unfolding step turn1978
-writes-on items t g = refl
+writes-on : (text : Text) (items : Items) (t : State) (g : ℕ) → step (generatorsOf text) items t g .writes ≡ cond (eqb (runOf text (generatorOf (t .words) g)) writeData) (suc (t .writes)) (t .writes)
+unfolding step
+writes-on text items t g = rw (turn-keeps text (t .words) (t .sums) g (told (distanceOf text) (t .triggered) g) .writes) refl
 
 -- The run mode of a generator of a sound machine.
-pub run-mode-loaded : (m : Machine) → sound m ≡ true → (g : ℕ) → g < 256 → runMode (generatorOf m g) ≡ runModeAt m g
-run-mode-loaded m e g h = ap (λ (x : ℕ). x / 2 ^ 6) (gmode-loaded m e g h)
+pub run-mode-loaded : (text : Text) (m : Machine) → sound text m ≡ true → (g : ℕ) → g < 256 → runOf text (generatorOf m g) ≡ runModeAt text m g
+run-mode-loaded Of1978 m e g h = ap (λ (x : ℕ). x / 2 ^ 6) (gmode-loaded Of1978 m e g h)
 
-module _ (m : Machine) (call : Call) (e : passRefusal m call ≡ 0) where
-  p : Admitted m (call .order)
-  p = admitted m call e
+module _ (text : Text) (m : Machine) (call : Call) (e : passRefusal text m call ≡ 0) where
+  p : Admitted text m (call .order)
+  p = admitted text m call e
 
   d : Distinct (call .order)
   d = distinct-order (ticksOf m) (call .order) (p .ticks) (p .is-order)
 
   -- As many as pass a test of their run mode are there below T in run mode r.
-  in-mode : (c : ℕ → Bool) (r : ℕ) → ((x : ℕ) → c x ≡ eqb x r) → length (keep (λ g. c (runMode (generatorOf m g))) (call .order)) ≡ inMode m r
+  in-mode : (c : ℕ → Bool) (r : ℕ) → ((x : ℕ) → c x ≡ eqb x r) → length (keep (λ g. c (runOf text (generatorOf m g))) (call .order)) ≡ inMode text m r
   unfolding inMode
   in-mode c r is =
       let o = p .is-order in
       ap length
-      (keep-order-same (ticksOf m) (call .order) (o .once) (o .below) (λ g. c (runMode (generatorOf m g))) (λ g. eqb (runModeAt m g) r)
-      (λ g h. is (runMode (generatorOf m g)) ∙ ap (λ (x : ℕ). eqb x r) (run-mode-loaded m (p .good .is-sound) g (omega (arith, p .ticks)))))
-      ∙ length-keep (ticksOf m) (call .order) (o .once) (o .below) (λ g. eqb (runModeAt m g) r)
+      (keep-order-same (ticksOf m) (call .order) (o .once) (o .below) (λ g. c (runOf text (generatorOf m g))) (λ g. eqb (runModeAt text m g) r)
+      (λ g h. is (runOf text (generatorOf m g)) ∙ ap (λ (x : ℕ). eqb x r) (run-mode-loaded text m (p .good .is-sound) g (omega (arith, p .ticks)))))
+      ∙ length-keep (ticksOf m) (call .order) (o .once) (o .below) (λ g. eqb (runModeAt text m g) r)
 
   -- The items read are as many as there are 0111s below T, and the items written as many as there are 0011s.
-  pub pass-counts : (passOf m call .read ≡ inMode m readData) × (passOf m call .written ≡ inMode m writeData)
+  pub pass-counts : (passOf text m call .read ≡ inMode text m readData) × (passOf text m call .written ≡ inMode text m writeData)
   unfolding begun
   pass-counts =
       let s = begun m (sumsOf m) (call .places) in
-      let reads = steps-count (call .items) (λ (u : Generator). replaces (runMode u)) (λ (t : State). t .reads) (reads-on (call .items)) (call .order) s d in
-      let writes = steps-count (call .items) (λ (u : Generator). eqb (runMode u) writeData) (λ (t : State). t .writes) (writes-on (call .items)) (call .order) s d in
-      rw (let-through m call e, ran-read m call, ran-written m call)
+      let reads = steps-count text (call .items) (λ (u : Generator). replaces (runOf text u)) (λ (t : State). t .reads) (reads-on text (call .items)) (call .order) s d in
+      let writes = steps-count text (call .items) (λ (u : Generator). eqb (runOf text u) writeData) (λ (t : State). t .writes) (writes-on text (call .items)) (call .order) s d in
+      rw (let-through text m call e, ran-read text m call, ran-written text m call)
       (reads ∙ zero-add _ ∙ in-mode replaces readData replaces-is, writes ∙ zero-add _ ∙ in-mode (λ x. eqb x writeData) writeData (λ x. refl))
 
   -- 1 is added to the counter.
-  pub pass-counter : getD (passOf m call .machine) counterAt 0 ≡ (getD m counterAt 0 + 1) % 2 ^ counterBits
+  pub pass-counter : getD (passOf text m call .machine) counterAt 0 ≡ (getD m counterAt 0 + 1) % 2 ^ counterBits
   unfolding begun
   pass-counter =
       let s = begun m (sumsOf m) (call .places) in
-      let t = generatorsDone m call in
-      let k = steps-quadrants of1978 (call .items) (call .order) s (sums-quadrants m (reaches m (p .good .whole))) in
-      rw (let-through m call e, ran-machine m call)
-      (completed-counter (ticksOf m) (heldThen m call) (t .sums) k (p .ticks)
-      (rw (steps-length of1978 (call .items) (call .order) s, p .good .whole) (lit< tt))
-      ∙ ap (λ (x : ℕ). (x + 1) % 2 ^ counterBits) (steps-beyond of1978 (call .items) (call .order) s (p .below) sixteen counterAt (lit≤ tt)))
+      let t = generatorsDone text m call in
+      let k = steps-quadrants (generatorsOf text) (call .items) (call .order) s (sums-quadrants m (reaches m (p .good .whole))) in
+      rw (let-through text m call e, ran-machine text m call)
+      (completed-counter text (ticksOf m) (heldThen text m call) (t .sums) k (p .ticks)
+      (rw (steps-length (generatorsOf text) (call .items) (call .order) s, p .good .whole) (lit< tt))
+      ∙ ap (λ (x : ℕ). (x + 1) % 2 ^ counterBits) (steps-beyond (generatorsOf text) (call .items) (call .order) s (p .below) (sixteen text) counterAt (lit≤ tt)))
 
   -- And 1 to its low bits, with which a Linger is compared, as to a counter that has no others.
-  pub pass-low-counter : lowCounter (passOf m call .machine) ≡ (lowCounter m + 1) % 2 ^ lingerBits
+  pub pass-low-counter : lowCounter (passOf text m call .machine) ≡ (lowCounter m + 1) % 2 ^ lingerBits
   pass-low-counter =
       ap (λ (x : ℕ). x % 2 ^ lingerBits) pass-counter ∙ wrapped lingerBits (getD m counterAt 0 + 1) (lit≤ tt)
       ∙ sym (mod-add-mod (getD m counterAt 0) (2 ^ lingerBits) 1)

@@ -5,9 +5,10 @@ use mathlib.Core.Path.{_≡_}
 use lib.ListN.{length}
 use Rattle.layout.specs.Layout.{machineLength}
 use Rattle.layout.specs.Machine.{Machine}
+use Rattle.texts.specs.declared.Text.{Text}
 use Rattle.machine.specs.Questions.{sound}
 
 -- Its run has the machine's length, and each of its words passes its test.
-pub record Good (m : Machine) : Type 0 where
+pub record Good (text : Text) (m : Machine) : Type 0 where
   pub whole : length m ≡ machineLength
-  pub is-sound : sound m ≡ true
+  pub is-sound : sound text m ≡ true

@@ -1,14 +1,30 @@
--- Passes one after the other on one machine (document 01, "A pass, and two orders of it").
+-- Passes one after the other on one machine and one delay memory (document 01, "A pass, and two orders of it"; document 02, Q-1).
 -- Assumes nothing.
-use mathlib.Core.Bool.{cond}
+use Prim.Native.Nat.{ℕ}
 use mathlib.Core.List.{List, [], _∷_}
-use lib.Dec.{eqb}
-use Rattle.layout.specs.Machine.{Machine}
-use Rattle.pass_model.specs.Pass.{Call, Outcome, passOf}
+use Rattle.layout.specs.Machine.{Machine, Order, Items, Places, Memory}
+use Rattle.texts.specs.declared.Text.{Text}
+use Rattle.pass_model.specs.Pass.{Call, writtenData, passOf}
 
--- The outcomes of the calls one after the other, each on the machine that the one before left; the first refused one is the last.
-unfoldable pub passesOf : Machine → List Call → List Outcome
-passesOf m [] = []
-passesOf m (call ∷ calls) =
-    let r = passOf m call in
-    r ∷ cond (eqb (r .number) 0) (passesOf (r .machine) calls) []
+-- What a pass brings beside the machine and delay memory: items to read, and places for written items.
+pub record PassData : Type 0 where
+  pub items : Items
+  pub places : Places
+
+-- The call of such a pass, by an order and over a delay memory.
+abbrev pub callOf : Order → Memory → PassData → Call
+callOf order memory d = record { order = order; items = d .items; places = d .places; memory = memory }
+
+-- What passes leave: the machine, delay memory, and the written data of each pass. The marks of clipped words are no part of it.
+pub record Rung : Type 0 where
+  pub machine : Machine
+  pub memory : Memory
+  pub written : List (List ℕ)
+
+-- Passes by one order, each on the machine and the delay memory that the one before left. A refused pass leaves both as they were and writes nothing.
+unfoldable pub rungBy : Text → Order → Machine → Memory → List PassData → Rung
+rungBy text order m memory [] = record { machine = m; memory = memory; written = [] }
+rungBy text order m memory (d ∷ ds) =
+    let r = passOf text m (callOf order memory d) in
+    let rest = rungBy text order (r .machine) (r .memory) ds in
+    record { machine = rest .machine; memory = rest .memory; written = writtenData r ∷ rest .written }

@@ -14,14 +14,15 @@ use lib.Seq.{getD-drop, getD-set-same, getD-set-other}
 use Rattle.lists.proofs.Choices.{of-cond}
 use Rattle.layout.specs.Layout.{delayAt, delayY, delayZ, delayFirst, delaySecond, delayThird}
 use Rattle.layout.specs.Machine.{Machine, Memory}
+use Rattle.texts.specs.declared.Text.{Text}
 use Rattle.modifier.specs.declared.Modifier.{Modifier}
-use Rattle.modifier_delay.specs.Invoke.{invoking, unitOf}
+use Rattle.modifier_delay.specs.Invoke.{unitOf}
 use Rattle.delay.specs.declared.Delay.{Delay}
 use Rattle.delay.specs.Delay.{loaded, stored, runs, turnOf}
 use Rattle.delay.proofs.Low.{WordsLow, memory-low}
 use Rattle.delay.proofs.Turn.{memory-length, y-within}
 use Rattle.delay_questions.specs.Questions.{delayOf}
-use Rattle.pass_model.specs.Modifiers.{Held, delayed}
+use Rattle.pass_model.specs.Modifiers.{invokesDelay, Held, delayed}
 
 -- Place i has no Y and no word on its way of a delay unit: what a unit's turn can change.
 pub record OffUnits (i : ℕ) : Type 0 where
@@ -81,43 +82,43 @@ low-unit : (u : Modifier) → unitOf u < 32
 low-unit u = mod-lt (u .mrm) (pow-pos 5)
 
 -- The turn of a unit, if it is taken.
-module _ (t : ℕ) (h : Held) (u : Modifier) (w : ℕ) where
+module _ (text : Text) (t : ℕ) (h : Held) (u : Modifier) (w : ℕ) where
   abbrev unit : Delay
   unit = delayOf (h .words) (unitOf u)
 
   abbrev acts : Bool
-  acts = invoking u && runs t (unitOf u) unit
+  acts = invokesDelay text u && runs t (unitOf u) unit
 
   abbrev put : Machine
   put = stored (h .words) (delayAt (unitOf u)) (turnOf unit (h .memory) w .unit)
 
   -- What holds of the words as they were and of those with the unit written back holds of what is left.
-  pub words-by : (P : Machine → Type 0) → P (h .words) → P put → P (delayed t h u w .words)
+  pub words-by : (P : Machine → Type 0) → P (h .words) → P put → P (delayed text t h u w .words)
   unfolding delayed
   words-by P p q = of-cond (λ (k : Held). P (k .words)) acts q p
 
-  pub memory-by : (P : Memory → Type 0) → P (h .memory) → P (turnOf unit (h .memory) w .memory) → P (delayed t h u w .memory)
+  pub memory-by : (P : Memory → Type 0) → P (h .memory) → P (turnOf unit (h .memory) w .memory) → P (delayed text t h u w .memory)
   unfolding delayed
   memory-by P p q = of-cond (λ (k : Held). P (k .memory)) acts q p
 
-  pub delayed-length : length (delayed t h u w .words) ≡ length (h .words)
+  pub delayed-length : length (delayed text t h u w .words) ≡ length (h .words)
   delayed-length = words-by (λ l. length l ≡ length (h .words)) refl (stored-length (h .words) (delayAt (unitOf u)) _)
 
-  pub delayed-kept : (i : ℕ) → OffUnits i → getD (delayed t h u w .words) i 0 ≡ getD (h .words) i 0
+  pub delayed-kept : (i : ℕ) → OffUnits i → getD (delayed text t h u w .words) i 0 ≡ getD (h .words) i 0
   delayed-kept i o =
       words-by (λ l. getD l i 0 ≡ getD (h .words) i 0) refl
       (stored-other (h .words) (delayAt (unitOf u)) _ i (o .y (unitOf u) (low-unit u)) (o .way (unitOf u) 0 (low-unit u) (lit< tt))
       (o .way (unitOf u) 1 (low-unit u) (lit< tt)) (o .way (unitOf u) 2 (low-unit u) (lit< tt)))
 
-  pub delayed-memory-length : length (delayed t h u w .memory) ≡ length (h .memory)
+  pub delayed-memory-length : length (delayed text t h u w .memory) ≡ length (h .memory)
   delayed-memory-length = memory-by (λ l. length l ≡ length (h .memory)) refl (memory-length unit (h .memory) w)
 
-  pub delayed-memory-low : w < 2 ^ 20 → WordsLow (h .memory) → WordsLow (delayed t h u w .memory)
+  pub delayed-memory-low : w < 2 ^ 20 → WordsLow (h .memory) → WordsLow (delayed text t h u w .memory)
   delayed-memory-low b low = memory-by WordsLow low (memory-low unit (h .memory) w low b)
 
   -- Y of a unit stays at most Z.
   pub delayed-within : (v : ℕ) → v < 32 → delayAt v + delayY < length (h .words) → yOf (h .words) v ≤ zOf (h .words) v
-      → yOf (delayed t h u w .words) v ≤ zOf (h .words) v
+      → yOf (delayed text t h u w .words) v ≤ zOf (h .words) v
   delayed-within v l inside e = words-by (λ m. yOf m v ≤ zOf (h .words) v) e (own (eqb v (unitOf u)) refl)
     where
       after : Delay

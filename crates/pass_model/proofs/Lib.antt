@@ -6,3 +6,4 @@ pub mod Modifiers
 pub mod Asked
 pub mod Turns
 pub mod Clipped
+pub mod Keeps

@@ -10,16 +10,16 @@ use lib.ListN.{length, getD, set, drop, length-set}
 use lib.Seq.{getD-set-other}
 use Rattle.layout.specs.Layout.{delayAt}
 use Rattle.layout.specs.Machine.{Machine}
+use Rattle.texts.specs.declared.Text.{Text}
 use Rattle.modifier.specs.declared.Modifier.{Modifier}
 use Rattle.modifier.specs.Modifier.{functionOf}
 use Rattle.words.proofs.Residues.{either-low, sum-low}
-use Rattle.modifier_turn.specs.Turn.{readsLate}
-use Rattle.modifier_delay.specs.Invoke.{invoking, unitOf}
+use Rattle.modifier_delay.specs.Invoke.{unitOf}
 use Rattle.delay.specs.Delay.{runs}
 use Rattle.delay.proofs.Low.{due-low}
 use Rattle.delay_questions.specs.Questions.{delayOf}
 use Rattle.sums.proofs.Memory.{word-low}
-use Rattle.pass_model.specs.Modifiers.{Write, withWrite, withWrites, seen, given, beside, turnSeen}
+use Rattle.pass_model.specs.Modifiers.{Write, withWrite, withWrites, seen, given, modifierReadsLate, invokesDelay, beside, turnSeen}
 
 -- One write more.
 pub writes-snoc : (q : List ℕ) (ws : List Write) (w : Write) → withWrites q (ws ++ (w ∷ [])) ≡ withWrite (withWrites q ws) w
@@ -63,10 +63,10 @@ seen-set : (s : List (List ℕ)) (q view : List ℕ) (address : ℕ) → seen (s
 unfolding seen
 seen-set s q view address = rw (getD-set-other s 2 1 q [] (λ e. omega arith), getD-set-other s 2 3 q [] (λ e. omega arith))
 
-pub turn-set : (t : ℕ) (words : Machine) (s : List (List ℕ)) (q early late : List ℕ) (u : Modifier) → turnSeen t words (set s 2 q) early late u ≡ turnSeen t words s early late u
+pub turn-set : (text : Text) (t : ℕ) (words : Machine) (s : List (List ℕ)) (q early late : List ℕ) (u : Modifier) → turnSeen text t words (set s 2 q) early late u ≡ turnSeen text t words s early late u
 unfolding turnSeen beside
-turn-set t words s q early late u =
-    rw (seen-set s q (cond (readsLate (functionOf u)) late early) (u .min), seen-set s q early (u .mrm))
+turn-set text t words s q early late u =
+    rw (seen-set s q (cond (modifierReadsLate text (functionOf u)) late early) (u .min), seen-set s q early (u .mrm))
 
 -- A word that is seen is one of 20 bits.
 pub seen-low : (s : List (List ℕ)) (view : List ℕ) (address : ℕ) → seen s view address < 2 ^ 20
@@ -79,6 +79,6 @@ pub given-low : (t : ℕ) (words : Machine) (u : Modifier) → given t words u <
 unfolding given
 given-low t words u = either-low (runs t (unitOf u) (delayOf words (unitOf u))) (due-low (drop (delayAt (unitOf u)) words)) (lit< tt)
 
-pub beside-low : (t : ℕ) (words : Machine) (s : List (List ℕ)) (early : List ℕ) (u : Modifier) → beside t words s early u < 2 ^ 20
+pub beside-low : (text : Text) (t : ℕ) (words : Machine) (s : List (List ℕ)) (early : List ℕ) (u : Modifier) → beside text t words s early u < 2 ^ 20
 unfolding beside
-beside-low t words s early u = either-low (invoking u) (given-low t words u) (seen-low s early (u .mrm))
+beside-low text t words s early u = either-low (invokesDelay text u) (given-low t words u) (seen-low s early (u .mrm))

@@ -12,6 +12,9 @@ use Rattle.generator.specs.declared.Generator.{Generator}
 use Rattle.generator.specs.Generator.{loaded, stored, runMode, pOf, triggers, after}
 use Rattle.layout.specs.Layout.{generatorAt, dacAt}
 use Rattle.layout.specs.Machine.{Machine, Order, Items, Places, Sums}
+use Rattle.texts.specs.declared.Text.{Text}
+use Rattle.texts.specs.declared.Text.the-variants.{Of1978}
+use Rattle.texts.specs.Texts.{distanceOf}
 use Rattle.sums.specs.Sums.{sumAt, putSum, fAt}
 
 -- What a turn brings: the generator afterwards, whether it triggers, P, whether P is added into a generator-this word or replaces it together with a
@@ -57,9 +60,13 @@ turn1978 words sums g told =
       writes = eqb (runMode u) writeData;
     }
 
--- The lower neighbour of g is g-1.
-abbrev pub of1978 : Generators
-of1978 = record { turn = turn1978; distance = 1 }
+-- The turn of generator g by a text.
+abbrev pub generatorTurn : Text → Machine → Sums → ℕ → Bool → Brought
+generatorTurn Of1978 = turn1978
+
+-- The generators of a text.
+abbrev pub generatorsOf : Text → Generators
+generatorsOf text = record { turn = generatorTurn text; distance = distanceOf text }
 
 -- A pass under way: the machine's words, sum memory, a 1 for each generator that was taken and triggered, the places for written items, and how many items were read and written.
 pub record State : Type 0 where

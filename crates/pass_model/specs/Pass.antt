@@ -9,12 +9,14 @@ use Rattle.lists.specs.Lists.{zeros}
 use Rattle.layout.specs.Layout.{counterAt, memoryWords}
 use Rattle.layout.specs.Widths.{counterBits}
 use Rattle.layout.specs.Machine.{Machine, Order, Items, Places, Memory, Sums, ticksOf}
-use Rattle.questions.specs.Questions.{asked}
+use Rattle.texts.specs.declared.Text.{Text}
+use Rattle.texts.specs.declared.Text.the-variants.{Of1978}
+use Rattle.questions.specs.Questions.{Question, asked}
 use Rattle.machine.specs.Questions.{question1, question2}
 use Rattle.order.specs.Order.{question5, question6, question7, question8}
 use Rattle.delay_questions.specs.Questions.{question10, question11, question12}
 use Rattle.sums.specs.Sums.{modifierThis, sumsOf, closed}
-use Rattle.pass_model.specs.Generators.{of1978, begun, Taken, takenBy}
+use Rattle.pass_model.specs.Generators.{generatorsOf, begun, Taken, takenBy}
 use Rattle.pass_model.specs.Clipped.{Marks, noMarks, markedBy}
 use Rattle.pass_model.specs.Modifiers.{Held, modifiedBy}
 
@@ -53,58 +55,60 @@ unfoldable pub counted : Machine → Machine
 counted words = set words counterAt ((getD words counterAt 0 + 1) % 2 ^ counterBits)
 
 -- After the generators, in a pass of T processing ticks: modifiers 0..(T div 2)-1 by number, both this-pass quadrants copied to last and cleared, the counter.
-unfoldable pub completed : ℕ → Held → Sums → Held
-completed t h s =
-    let v = modifiedBy t h s (t / 2) in
+unfoldable pub completed : Text → ℕ → Held → Sums → Held
+completed text t h s =
+    let v = modifiedBy text t h s (t / 2) in
     record { words = counted (closed (v .held .words) (set s modifierThis (v .this))); memory = v .held .memory }
 
 -- What the generators of a pass leave, taken in the call's order.
-unfoldable pub generatorsTaken : Machine → Call → Taken
-generatorsTaken m call = takenBy of1978 (call .items) (begun m (sumsOf m) (call .places)) (call .order)
+unfoldable pub generatorsTaken : Text → Machine → Call → Taken
+generatorsTaken text m call = takenBy (generatorsOf text) (call .items) (begun m (sumsOf m) (call .places)) (call .order)
 
 -- The marks that they set, none being set at first.
-unfoldable pub generatorsClipped : Machine → Call → Marks
-generatorsClipped m call = markedBy of1978 (call .items) (begun m (sumsOf m) (call .places)) noMarks (call .order)
+unfoldable pub generatorsClipped : Text → Machine → Call → Marks
+generatorsClipped text m call = markedBy (generatorsOf text) (call .items) (begun m (sumsOf m) (call .places)) noMarks (call .order)
 
 -- What follows: the modifiers, by T as the pass began, on the delay memory that the call brought, and the end of the pass. No step of it sets a mark.
-unfoldable pub finished : Machine → Call → Taken → Outcome
-finished m call t =
-    let h = completed (ticksOf m) (record { words = t .words; memory = call .memory }) (t .sums) in
+unfoldable pub finished : Text → Machine → Call → Taken → Outcome
+finished text m call t =
+    let h = completed text (ticksOf m) (record { words = t .words; memory = call .memory }) (t .sums) in
     record {
       number = 0;
       read = t .reads;
       written = t .writes;
-      clipped = generatorsClipped m call;
+      clipped = generatorsClipped text m call;
       machine = h .words;
       places = t .places;
       memory = h .memory;
     }
 
 -- A pass that all questions let through.
-unfoldable pub ran : Machine → Call → Outcome
-ran m call = finished m call (generatorsTaken m call)
+unfoldable pub ran : Text → Machine → Call → Outcome
+ran text m call = finished text m call (generatorsTaken text m call)
 
 -- A refused pass answers the number, sets no mark and leaves all as it was.
 unfoldable pub refused : ℕ → Machine → Call → Outcome
 refused n m call = record { number = n; read = 0; written = 0; clipped = noMarks; machine = m; places = call .places; memory = call .memory }
 
+-- What a text asks of the delay units.
+abbrev pub unitQuestions : Text → Machine → List Question
+unitQuestions Of1978 m = question11 m ∷ question12 m ∷ []
+
 -- The questions of a pass, in sequence.
-unfoldable pub passRefusal : Machine → Call → ℕ
-passRefusal m call =
+unfoldable pub passRefusal : Text → Machine → Call → ℕ
+passRefusal text m call =
     asked
     (question1 m
-    ∷ question2 m
+    ∷ question2 text m
     ∷ question5 (ticksOf m) (call .order)
     ∷ question6 (ticksOf m) (call .order)
-    ∷ question7 m (call .items)
-    ∷ question8 m (call .places)
+    ∷ question7 text m (call .items)
+    ∷ question8 text m (call .places)
     ∷ question10 (call .memory)
-    ∷ question11 m
-    ∷ question12 m
-    ∷ [])
+    ∷ unitQuestions text m)
 
 -- The pass.
-unfoldable pub passOf : Machine → Call → Outcome
-passOf m call =
-    let n = passRefusal m call in
-    cond (eqb n 0) (ran m call) (refused n m call)
+unfoldable pub passOf : Text → Machine → Call → Outcome
+passOf text m call =
+    let n = passRefusal text m call in
+    cond (eqb n 0) (ran text m call) (refused n m call)

@@ -13,6 +13,7 @@ use Rattle.pass_model.proofs.Views.{writes-snoc, this-at, turn-set}
 use Rattle.modifier_views.specs.Views.{wordLeft, caughtUp}
 use Rattle.pass_modifiers.specs.Loops.{Lagging, lagStep, lagged}
 use Rattle.pass_modifiers.proofs.Ring.{Ring, oldest, ring-on, ring-start}
+use Rattle.texts.specs.declared.Text.{Text}
 
 -- Of each write MSUM, and the word that it left.
 abbrev msumsOf : List Write → List ℕ
@@ -88,9 +89,9 @@ record Bridge (s : List (List ℕ)) (v : Lagging) (w : Stage) (n : ℕ) : Type 0
   same-msums : Ring (v .msums) (ringMsums (w .writes)) n
   same-lefts : Ring (v .lefts) (ringLefts (getD s 2 []) (w .writes)) n
 
-bridge-on : (t : ℕ) (s : List (List ℕ)) (v : Lagging) (w : Stage) (n : ℕ) → Bridge s v w n → Bridge s (lagStep t v n) (modify t s w n) (suc n)
+bridge-on : (text : Text) (t : ℕ) (s : List (List ℕ)) (v : Lagging) (w : Stage) (n : ℕ) → Bridge s v w n → Bridge s (lagStep text t v n) (modify text t s w n) (suc n)
 unfolding lagStep modify
-bridge-on t s v w n b =
+bridge-on text t s v w n b =
     let q = getD s 2 [] in
     let l = withWrites q (w .writes) in
     let e = earlyView q n (w .writes) in
@@ -99,10 +100,10 @@ bridge-on t s v w n b =
     = rw (b .same-early) (caught q (w .writes) n (v .msums) (v .lefts) (b .count) (b .same-msums) (b .same-lefts)) in
     let words = w .held .words in
     let u = modifierOf words n in
-    let done = turnSeen t words s e (lateView q n (w .writes)) u in
+    let done = turnSeen text t words s e (lateView q n (w .writes)) u in
     let x : Write = record { msum = u .msum; s = done .s } in
-    let turn : turnSeen t (v .held .words) (v .sums) (caughtUp (v .early) (v .msums) (v .lefts) (n % 4)) (getD (v .sums) 2 []) (modifierOf (v .held .words) n) ≡ done
-    = rw (early, this, b .same-sums, b .same-held, late-all q (w .writes) n (b .count)) (turn-set t words s l e l u) in
+    let turn : turnSeen text t (v .held .words) (v .sums) (caughtUp (v .early) (v .msums) (v .lefts) (n % 4)) (getD (v .sums) 2 []) (modifierOf (v .held .words) n) ≡ done
+    = rw (early, this, b .same-sums, b .same-held, late-all q (w .writes) n (b .count)) (turn-set text t words s l e l u) in
     record {
       same-held = rw (turn, b .same-held);
       same-sums = rw (turn, this, b .same-sums, b .same-held, set-set s 2 l (withWrite l x), writes-snoc q (w .writes) x);
@@ -112,9 +113,9 @@ bridge-on t s v w n b =
       same-lefts = rw (turn, this, b .same-held, lefts-snoc q (w .writes) x) (ring-on (v .lefts) (ringLefts q (w .writes)) n (wordLeft l x) (b .same-lefts));
     }
 
-bridge : (t : ℕ) (h : Held) (s : List (List ℕ)) (n : ℕ) → Bridge s (lagged t h s n) (modified t h s n) n
+bridge : (text : Text) (t : ℕ) (h : Held) (s : List (List ℕ)) (n : ℕ) → Bridge s (lagged text t h s n) (modified text t h s n) n
 unfolding lagged modified withWrites
-bridge t h s zero = record {
+bridge text t h s zero = record {
   same-held = refl;
   same-sums = sym (set-getD s 2 []);
   same-early = refl;
@@ -122,16 +123,16 @@ bridge t h s zero = record {
   same-msums = ring-start 0 0 0 0;
   same-lefts = ring-start _ _ _ _;
 }
-bridge t h s (suc n) = bridge-on t s (lagged t h s n) (modified t h s n) n (bridge t h s n)
+bridge text t h s (suc n) = bridge-on text t s (lagged text t h s n) (modified text t h s n) n (bridge text t h s n)
 
 -- One modifier more, and all of them.
-pub lagged-on : (t : ℕ) (h : Held) (s : List (List ℕ)) (k : ℕ) {v w : Lagging} → w ≡ lagStep t v k → v ≡ lagged t h s k → w ≡ lagged t h s (k + 1)
+pub lagged-on : (text : Text) (t : ℕ) (h : Held) (s : List (List ℕ)) (k : ℕ) {v w : Lagging} → w ≡ lagStep text t v k → v ≡ lagged text t h s k → w ≡ lagged text t h s (k + 1)
 unfolding lagged
-lagged-on t h s k e p = rw (add-one, ← p) e
+lagged-on text t h s k e p = rw (add-one, ← p) e
 
-pub stage-end : (t : ℕ) (h : Held) (s : List (List ℕ)) (n k : ℕ) {v : Lagging} → k ≡ n → v ≡ lagged t h s k
-    → (v .held ≡ modifiedBy t h s n .held) × (v .sums ≡ set s 2 (modifiedBy t h s n .this))
+pub stage-end : (text : Text) (t : ℕ) (h : Held) (s : List (List ℕ)) (n k : ℕ) {v : Lagging} → k ≡ n → v ≡ lagged text t h s k
+    → (v .held ≡ modifiedBy text t h s n .held) × (v .sums ≡ set s 2 (modifiedBy text t h s n .this))
 unfolding modifiedBy
-stage-end t h s n k p e =
-    let b = bridge t h s k in
+stage-end text t h s n k p e =
+    let b = bridge text t h s k in
     (rw (e, b .same-held, p), rw (e, b .same-sums, p))

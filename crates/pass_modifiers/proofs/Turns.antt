@@ -1,42 +1,48 @@
 -- A modifier's turn, and its delay unit's, by whether it invokes one.
 -- Assumes nothing.
-use mathlib.Core.Path.{_≡_, refl, sym, _∙_}
-use mathlib.Core.Bool.{Bool, true, false}
+use mathlib.Core.Path.{_≡_, refl}
+use mathlib.Core.Bool.{true, false}
 use mathlib.Core.List.{List}
 use Prim.Native.Nat.{ℕ}
 use borrow.Author.Tests.{eqb-true}
-use lib.Dec.{eqb}
 use Rattle.lists.specs.Lists.{isOneOf}
 use Rattle.layout.specs.Layout.{modifierAt}
 use Rattle.layout.specs.Machine.{Machine, Memory, Sums}
+use Rattle.texts.specs.declared.Text.{Text}
+use Rattle.texts.specs.declared.Text.the-variants.{Of1978}
 use Rattle.modifier.specs.declared.Modifier.{Modifier}
 use Rattle.modifier.specs.Modifier.{functionOf, stored}
 use Rattle.modifier_turn.specs.Turn.{turnOf, lateFunctions, readsLate}
-use Rattle.modifier_delay.specs.Invoke.{invoking, invokeDelay}
-use Rattle.pass_model.specs.Modifiers.{seen, given, beside, turnSeen, Held, delayed}
+use Rattle.modifier_delay.specs.Invoke.{invokeDelay}
+use Rattle.pass_model.specs.Modifiers.{seen, given, modifierTurn, modifierReadsLate, invokesDelay, beside, turnSeen, Held, delayed}
 use Rattle.modifier_views.specs.Views.{turnBeside}
 
--- Whether it does, by its function's code.
-pub is-invoking : (u : Modifier) {f : ℕ} {r b : Bool} → f ≡ functionOf u → r ≡ eqb f 0b00111 → r ≡ b → invoking u ≡ b
-is-invoking u e i r = rw (← e) (sym i ∙ r)
+-- Where it does, it reads A late, and its turn is that of 00111.
+invoking-late : (text : Text) (u : Modifier) → invokesDelay text u ≡ true → modifierReadsLate text (functionOf u) ≡ true
+unfolding readsLate lateFunctions isOneOf
+invoking-late Of1978 u i = rw (eqb-true (functionOf u) 0b00111 i)
 
-module _ (t : ℕ) (words : Machine) (s : Sums) (early late : List ℕ) (u : Modifier) where
+invoking-turn : (text : Text) (u : Modifier) (a b : ℕ) → invokesDelay text u ≡ true → modifierTurn text u a b ≡ invokeDelay u a b
+unfolding turnOf
+invoking-turn Of1978 u a b i = rw (eqb-true (functionOf u) 0b00111 i)
+
+module _ (text : Text) (t : ℕ) (words : Machine) (s : Sums) (early late : List ℕ) (u : Modifier) where
   -- One that invokes a unit reads A late, and the word that the unit gives.
-  pub turn-invoking : invoking u ≡ true → turnSeen t words s early late u ≡ invokeDelay u (seen s late (u .min)) (given t words u)
-  unfolding turnSeen beside turnOf readsLate lateFunctions isOneOf
-  turn-invoking i = rw (eqb-true (functionOf u) 0b00111 i)
+  pub turn-invoking : invokesDelay text u ≡ true → turnSeen text t words s early late u ≡ invokeDelay u (seen s late (u .min)) (given t words u)
+  unfolding turnSeen beside
+  turn-invoking i = rw (i, invoking-late text u i, invoking-turn text u (seen s late (u .min)) (given t words u) i)
 
   -- One that invokes none has B beside A.
-  turn-plain : invoking u ≡ false → turnSeen t words s early late u ≡ turnBeside s early late u
+  turn-plain : invokesDelay text u ≡ false → turnSeen text t words s early late u ≡ turnBeside text s early late u
   unfolding turnSeen turnBeside beside
   turn-plain i = rw i
 
   -- Then no unit has a turn.
-  not-invoked : (h : Held) (w : ℕ) → invoking u ≡ false → h ≡ delayed t h u w
+  not-invoked : (h : Held) (w : ℕ) → invokesDelay text u ≡ false → h ≡ delayed text t h u w
   unfolding delayed
   not-invoked h w i = rw i
 
-  pub plain-taken : (memory : Memory) (k : ℕ) → invoking u ≡ false → {value : ℕ} {words₁ : Machine} → (value ≡ turnBeside s early late u .s) × (words₁ ≡ stored words (modifierAt k) (turnBeside s early late u .unit))
-      → (value ≡ turnSeen t words s early late u .s)
-      × (record { words = words₁; memory = memory } ≡ delayed t (record { words = stored words (modifierAt k) (turnSeen t words s early late u .unit); memory = memory }) u (turnSeen t words s early late u .unit .l1))
+  pub plain-taken : (memory : Memory) (k : ℕ) → invokesDelay text u ≡ false → {value : ℕ} {words₁ : Machine} → (value ≡ turnBeside text s early late u .s) × (words₁ ≡ stored words (modifierAt k) (turnBeside text s early late u .unit))
+      → (value ≡ turnSeen text t words s early late u .s)
+      × (record { words = words₁; memory = memory } ≡ delayed text t (record { words = stored words (modifierAt k) (turnSeen text t words s early late u .unit); memory = memory }) u (turnSeen text t words s early late u .unit .l1))
   plain-taken memory k i e = rw (e .0, e .1, turn-plain i) (refl, not-invoked _ _ i)

@@ -5,6 +5,7 @@ use mathlib.Core.List.{List, [], _∷_}
 use lib.ListN.{getD, set}
 use Rattle.layout.specs.Layout.{modifierAt}
 use Rattle.layout.specs.Machine.{Sums}
+use Rattle.texts.specs.declared.Text.{Text}
 use Rattle.modifier.specs.Modifier.{stored}
 use Rattle.sums.specs.Sums.{modifierThis}
 use Rattle.pass_model.specs.Modifiers.{Write, withWrite, turnSeen, modifierOf, Held, delayed}
@@ -19,16 +20,16 @@ pub record Lagging : Type 0 where
   pub lefts : List ℕ
 
 -- Modifier m is taken, and its delay unit, in a pass of T processing ticks.
-unfoldable pub lagStep : ℕ → Lagging → ℕ → Lagging
-lagStep t v m =
+unfoldable pub lagStep : Text → ℕ → Lagging → ℕ → Lagging
+lagStep text t v m =
     let early = caughtUp (v .early) (v .msums) (v .lefts) (m % 4) in
     let this = getD (v .sums) modifierThis [] in
     let words = v .held .words in
     let u = modifierOf words m in
-    let turn = turnSeen t words (v .sums) early this u in
+    let turn = turnSeen text t words (v .sums) early this u in
     let w : Write = record { msum = u .msum; s = turn .s } in
     record {
-      held = delayed t (record { words = stored words (modifierAt m) (turn .unit); memory = v .held .memory }) u (turn .unit .l1);
+      held = delayed text t (record { words = stored words (modifierAt m) (turn .unit); memory = v .held .memory }) u (turn .unit .l1);
       sums = set (v .sums) modifierThis (withWrite this w);
       early = early;
       msums = set (v .msums) (m % 4) (u .msum);
@@ -36,9 +37,9 @@ lagStep t v m =
     }
 
 -- Modifiers 0 to n-1 are taken. The ring begins with four writes that change nothing: word 0 as it is.
-unfoldable pub lagged : ℕ → Held → Sums → ℕ → Lagging
-lagged t h s zero =
+unfoldable pub lagged : Text → ℕ → Held → Sums → ℕ → Lagging
+lagged text t h s zero =
     let q = getD s modifierThis [] in
     let first = getD q 0 0 in
     record { held = h; sums = s; early = q; msums = 0 ∷ 0 ∷ 0 ∷ 0 ∷ []; lefts = first ∷ first ∷ first ∷ first ∷ [] }
-lagged t h s (suc n) = lagStep t (lagged t h s n) n
+lagged text t h s (suc n) = lagStep text t (lagged text t h s n) n

@@ -5,28 +5,28 @@ ghost use lib.Dec.{eqb};
 ghost use Prim.Native.Nat.{_+_, _<_, _^_};
 ghost use lib.ListN.{getD, set};
 ghost use Rattle.layout.specs.Machine.{Reaches};
-ghost use Rattle.pass_model.specs.Generators.{of1978, told};
+ghost use Rattle.texts.specs.Texts.{distanceOf};
+ghost use Rattle.pass_model.specs.Generators.{told};
 ghost use Rattle.pass_model.specs.Clipped.{markedAt};
 ghost use Rattle.pass_outputs.specs.Outputs.{heard, heardLeaves, sent};
 use generator::Generator;
 use sums::Clipped;
 use sums::Sums;
+use texts::Text;
 
 // A 1 for each generator that was taken and triggered.
 pub type Triggered = [u8; layout::GENERATORS];
 
-// How far below a generator its lower neighbour stands.
-const DISTANCE: usize = 1;
-
 // Whether the lower neighbour of g has triggered.
-pub fn told(triggered: &Triggered, g: usize) -> bool
+pub fn told(text: Text, triggered: &Triggered, g: usize) -> bool
     requires { ⌜ g < 256 ⌝ }
-    ensures { λ r. ⌜ r ≡ told (of1978 .distance) (now (triggered .entry)) g ⌝ }
+    ensures { λ r. ⌜ r ≡ told (distanceOf text) (now (triggered .entry)) g ⌝ }
 {
-    if g < DISTANCE {
+    let distance = texts::distance(text);
+    if g < distance {
         return false;
     }
-    triggered[g - DISTANCE] == 1
+    triggered[g - distance] == 1
 }
 
 // Generator g is marked where it triggers.

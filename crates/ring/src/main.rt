@@ -4,12 +4,14 @@ ghost use mathlib.Core.Path.{_≡_};
 ghost use Rattle.bench_ringing.specs.Steps.{ringingAt};
 ghost use Rattle.bench_ringing.specs.declared.Output.the-variants.{Lines};
 ghost use Rattle.bench_gathering.specs.Gathering.{gathered};
+ghost use Rattle.texts.specs.declared.Text.the-variants.{Of1978};
 use bench_ringing::Output;
 use bench_ringing::Progress;
 use bench_streams::Input;
 use libc::STDERR_FILENO;
 use libc::STDIN_FILENO;
 use libc::STDOUT_FILENO;
+use texts::Text;
 
 // The buffer for lines that are printed together.
 const OUTPUT_BYTES: usize = 65536;
@@ -22,10 +24,18 @@ struct Part {
 
 // Rings as many passes as the buffer has room for, and prints them; says whether they were written.
 fn ring_part(at: Progress, m: &mut [u32], commands: &[u32], memory: &mut [u32]) -> Part
-    ensures { λ r. ⌜ ringingAt (r .next) (now (m .exit)) (now (memory .exit)) (now (commands .entry)) ≡ gathered Lines 65536 (ringingAt at (now (m .entry)) (now (memory .entry)) (now (commands .entry))) .next ⌝ }
+    ensures { λ r. ⌜ ringingAt (r .next) (now (m .exit)) (now (memory .exit)) (now (commands .entry)) ≡ gathered Of1978 Lines 65536 (ringingAt at (now (m .entry)) (now (memory .entry)) (now (commands .entry))) .next ⌝ }
 {
     let mut out = [0u8; OUTPUT_BYTES];
-    let next = bench_gathering::gather(Output::Lines, at, m, commands, memory, &mut out);
+    let next = bench_gathering::gather(
+        Text::Of1978,
+        Output::Lines,
+        at,
+        m,
+        commands,
+        memory,
+        &mut out,
+    );
     let length = next.length;
     let written = io::write_all(STDOUT_FILENO, &out[0..length]);
     Part { next, written }
@@ -50,28 +60,28 @@ fn ring_all(m: &mut [u32], commands: &[u32], memory: &mut [u32], passes: u32) ->
     true
 }
 
-// Rings a text, over a delay memory of zeros; says whether all was written.
-fn ring(text: &[u8]) -> bool {
+// Rings a file, over a delay memory of zeros; says whether all was written.
+fn ring(file: &[u8]) -> bool {
     let mut m = [0u32; layout::MACHINE_LENGTH];
     let mut room = [0u32; bench_file::COMMAND_PLACES];
     let mut memory = [0u32; layout::MEMORY_WORDS];
-    let file = bench_file::read(text, &mut m, &mut room);
-    if file.number != 0 {
-        return bench_streams::refuse(STDOUT_FILENO, file.number);
+    let reading = bench_file::read(file, &mut m, &mut room);
+    if reading.number != 0 {
+        return bench_streams::refuse(STDOUT_FILENO, reading.number);
     }
-    let count = file.count;
-    ring_all(&mut m, &room[0..count], &mut memory, file.passes)
+    let count = reading.count;
+    ring_all(&mut m, &room[0..count], &mut memory, reading.passes)
 }
 
 // One byte more than a file may have is read, so that a longer one is told apart.
 fn main() {
-    let mut text = [0u8; bench_lines::FILE_BYTES + 1];
-    let input = bench_streams::read_all(STDIN_FILENO, &mut text);
+    let mut file = [0u8; bench_lines::FILE_BYTES + 1];
+    let input = bench_streams::read_all(STDIN_FILENO, &mut file);
     let Input::Bytes(n) = input else {
         io::write_all(STDERR_FILENO, b"ring: cannot read\n");
         return;
     };
-    let written = ring(&text[..n]);
+    let written = ring(&file[..n]);
     if !written {
         io::write_all(STDERR_FILENO, b"ring: cannot write\n");
     }

@@ -6,41 +6,41 @@ use libc::STDIN_FILENO;
 use libc::STDOUT_FILENO;
 
 // Prints what is found of a bench file, and of an order file if one is given; says whether all was written.
-fn print(text: &[u8], given: bool, order: &[u8]) -> bool {
+fn print(file: &[u8], given: bool, order: &[u8]) -> bool {
     let mut out = [0u8; sorted_findings::FINDINGS_ROOM];
-    let length = sorted_findings::findings(text, given, order, &mut out);
+    let length = sorted_findings::findings(file, given, order, &mut out);
     io::write_all(STDOUT_FILENO, &out[0..length])
 }
 
 // Reads the bench file and prints what is found. One byte more than a file may have is read, so that a longer one is told apart.
 fn sort(given: bool, order: &[u8]) {
-    let mut text = [0u8; bench_lines::FILE_BYTES + 1];
-    let input = bench_streams::read_all(STDIN_FILENO, &mut text);
+    let mut file = [0u8; bench_lines::FILE_BYTES + 1];
+    let input = bench_streams::read_all(STDIN_FILENO, &mut file);
     let Input::Bytes(n) = input else {
         io::write_all(STDERR_FILENO, b"sorted: cannot read\n");
         return;
     };
-    let written = print(&text[..n], given, order);
+    let written = print(&file[..n], given, order);
     if !written {
         io::write_all(STDERR_FILENO, b"sorted: cannot write\n");
     }
 }
 
-// Reads the order file of a name, and then goes on with its text.
+// Reads the order file of a name, and then goes on with its file.
 fn sort_by(name: &[u8]) {
-    let file = os::open_read(name);
-    if file < 0 {
+    let reading = os::open_read(name);
+    if reading < 0 {
         io::write_all(STDERR_FILENO, b"sorted: cannot read the order file\n");
         return;
     }
-    let mut text = [0u8; bench_lines::FILE_BYTES + 1];
-    let input = bench_streams::read_all(file, &mut text);
-    libc::close(file);
+    let mut file = [0u8; bench_lines::FILE_BYTES + 1];
+    let input = bench_streams::read_all(reading, &mut file);
+    libc::close(reading);
     let Input::Bytes(n) = input else {
         io::write_all(STDERR_FILENO, b"sorted: cannot read the order file\n");
         return;
     };
-    sort(true, &text[..n]);
+    sort(true, &file[..n]);
 }
 
 // Without an argument the generators are sorted by pitch.

@@ -14,6 +14,7 @@ use Rattle.lists.specs.Lists.{zeros}
 use Rattle.lists.proofs.Choices.{of-cond, of-test}
 use Rattle.layout.specs.Layout.{machineLength, generators}
 use Rattle.layout.specs.Machine.{Machine, Order, ticksOf}
+use Rattle.texts.specs.declared.Text.{Text}
 use Rattle.questions.specs.Questions.{asked}
 use Rattle.machine.specs.Questions.{question1, question2}
 use Rattle.order_lists.specs.Sequences.{byNumber}
@@ -27,75 +28,75 @@ use Rattle.bench_text.specs.Text.{lineBytes, refusalLine}
 use Rattle.bench_text.proofs.Lines.{refusal-line-length}
 use Rattle.sorted_lines.specs.SortedLines.{orderLines, equalLine, failingLine, entryBytes}
 use Rattle.sorted_lines.proofs.Lines.{order-lines-length, failing-line-length}
-use Rattle.sorted_findings.specs.Findings.{partingFrom, foundLine, comparedText, findingsRoom}
+use Rattle.sorted_findings.specs.Findings.{partingFrom, foundLine, comparedLines, findingsRoom}
 
 -- The line of what was found: that of equal orders, or of a point.
-module _ (o₁ o₂ : Order) (p : Parting) where
-  pub found-equal : p .point ≡ 0 → foundLine o₁ o₂ p ≡ equalLine
+module _ (text : Text) (o₁ o₂ : Order) (p : Parting) where
+  pub found-equal : p .point ≡ 0 → foundLine text o₁ o₂ p ≡ equalLine
   unfolding foundLine
   found-equal e = rw (eq-eqb (p .point) 0 e)
 
-  pub found-failing : p .point ≢ 0 → foundLine o₁ o₂ p ≡ failingLine (p .point) (p .place) (differenceShown (p .contents) (p .items) o₁ o₂)
+  pub found-failing : p .point ≢ 0 → foundLine text o₁ o₂ p ≡ failingLine (p .point) (p .place) (differenceShown text (p .contents) (p .items) o₁ o₂)
   unfolding foundLine
   found-failing h = rw (ne-eqb (p .point) 0 h)
 
-  found-length : length (foundLine o₁ o₂ p) ≤ lineBytes
+  found-length : length (foundLine text o₁ o₂ p) ≤ lineBytes
   unfolding foundLine
   found-length =
       of-cond (λ (l : List ℕ). length l ≤ lineBytes) (eqb (p .point) 0) {x = equalLine} (omega arith)
-      (omega (arith, failing-line-length (p .point) (p .place) (differenceShown (p .contents) (p .items) o₁ o₂)))
+      (omega (arith, failing-line-length (p .point) (p .place) (differenceShown text (p .contents) (p .items) o₁ o₂)))
 
-module _ (m : Machine) (order : Order) where
-  compared-refused : partingFrom m order .number ≢ 0 → comparedText m order ≡ refusalLine (partingFrom m order .number)
-  unfolding comparedText
-  compared-refused h = rw (ne-eqb (partingFrom m order .number) 0 h)
+module _ (text : Text) (m : Machine) (order : Order) where
+  compared-refused : partingFrom text m order .number ≢ 0 → comparedLines text m order ≡ refusalLine (partingFrom text m order .number)
+  unfolding comparedLines
+  compared-refused h = rw (ne-eqb (partingFrom text m order .number) 0 h)
 
-  compared-found : partingFrom m order .number ≡ 0 → comparedText m order ≡ orderLines order ++ foundLine (byNumber (ticksOf m)) order (partingFrom m order)
-  unfolding comparedText
-  compared-found e = rw (eq-eqb (partingFrom m order .number) 0 e)
+  compared-found : partingFrom text m order .number ≡ 0 → comparedLines text m order ≡ orderLines order ++ foundLine text (byNumber (ticksOf m)) order (partingFrom text m order)
+  unfolding comparedLines
+  compared-found e = rw (eq-eqb (partingFrom text m order .number) 0 e)
 
   -- Questions 1 and 2 of the machine are asked first.
-  pub first-asked : {n : ℕ} → n ≡ asked (question1 m ∷ question2 m ∷ []) → n ≢ 0 → comparedText m order ≡ refusalLine n
+  pub first-asked : {n : ℕ} → n ≡ asked (question1 m ∷ question2 text m ∷ []) → n ≢ 0 → comparedLines text m order ≡ refusalLine n
   first-asked {n} e h =
       let numbers = byNumber (ticksOf m) in
-      let is : n ≡ partingFrom m order .number =
-      refused-compare m numbers order (zeros machineLength) (zeros generators) (refused-first m numbers order e h) h
-      ∙ sym (parts-number m numbers order (zeros machineLength) (zeros generators)) in
+      let is : n ≡ partingFrom text m order .number =
+      refused-compare text m numbers order (zeros machineLength) (zeros generators) (refused-first text m numbers order e h) h
+      ∙ sym (parts-number text m numbers order (zeros machineLength) (zeros generators)) in
       compared-refused (λ z. h (is ∙ z)) ∙ ap refusalLine (sym is)
 
   -- A second order that is not refused has at most 256 entries.
-  few-entries : partingFrom m order .number ≡ 0 → length order ≤ generators
+  few-entries : partingFrom text m order .number ≡ 0 → length order ≤ generators
   few-entries passed =
       let numbers = byNumber (ticksOf m) in
-      let ready = is-ready m numbers order (zeros machineLength) (zeros generators) (sym (parts-number m numbers order (zeros machineLength) (zeros generators)) ∙ passed) in
+      let ready = is-ready text m numbers order (zeros machineLength) (zeros generators) (sym (parts-number text m numbers order (zeros machineLength) (zeros generators)) ∙ passed) in
       omega (arith, ready .ordered .1 .entries, ready .traceable .ticks)
 
   -- All that is printed has room.
-  pub compared-length : length (comparedText m order) ≤ findingsRoom
-  unfolding comparedText
+  pub compared-length : length (comparedLines text m order) ≤ findingsRoom
+  unfolding comparedLines
   compared-length =
-      let p = partingFrom m order in
-      let found = foundLine (byNumber (ticksOf m)) order p in
+      let p = partingFrom text m order in
+      let found = foundLine text (byNumber (ticksOf m)) order p in
       of-test (λ (l : List ℕ). length l ≤ findingsRoom) (eqb (p .number) 0)
-      (λ t. omega (arith, length-append (orderLines order) found, order-lines-length order, few-entries (eqb-true (p .number) 0 t), found-length (byNumber (ticksOf m)) order p))
+      (λ t. omega (arith, length-append (orderLines order) found, order-lines-length order, few-entries (eqb-true (p .number) 0 t), found-length text (byNumber (ticksOf m)) order p))
       (λ f. omega (arith, refusal-line-length (p .number)))
 
   -- As the code has it: what the call answers, about the order by number.
   module _ {first : Order} (by-number : first ≡ byNumber (ticksOf m)) {p : Parting}
-      (parted : p ≡ partsOf m first order (replicate machineLength 0) (replicate generators 0)) where
-    is-parting : p ≡ partingFrom m order
+      (parted : p ≡ partsOf text m first order (replicate machineLength 0) (replicate generators 0)) where
+    is-parting : p ≡ partingFrom text m order
     unfolding zeros
-    is-parting = parted ∙ ap (λ (o : Order). partsOf m o order (replicate machineLength 0) (replicate generators 0)) by-number
+    is-parting = parted ∙ ap (λ (o : Order). partsOf text m o order (replicate machineLength 0) (replicate generators 0)) by-number
 
-    pub says-refused : p .number ≢ 0 → comparedText m order ≡ refusalLine (p .number)
+    pub says-refused : p .number ≢ 0 → comparedLines text m order ≡ refusalLine (p .number)
     says-refused h =
         compared-refused (λ z. h (ap (λ (q : Parting). q .number) is-parting ∙ z)) ∙ ap (λ (q : Parting). refusalLine (q .number)) (sym is-parting)
 
     module _ (none : p .number ≡ 0) where
-      passed : partingFrom m order .number ≡ 0
+      passed : partingFrom text m order .number ≡ 0
       passed = sym (ap (λ (q : Parting). q .number) is-parting) ∙ none
 
-      says-found : comparedText m order ≡ orderLines order ++ foundLine first order p
+      says-found : comparedLines text m order ≡ orderLines order ++ foundLine text first order p
       says-found = compared-found passed ∙ rw (is-parting, by-number)
 
       -- The order has at most 256 entries, so its lines and one more have room.
@@ -109,10 +110,10 @@ module _ (m : Machine) (order : Order) where
       line-room e = omega (arith, e, order-lines-length order, few)
 
       pub says-both : (out : List ℕ) {at end : ℕ} {out₁ out₂ : List ℕ} → (at ≡ length (orderLines order)) × (out₁ ≡ sets out 0 (orderLines order))
-          → (end ≡ at + length (foundLine first order p)) × (out₂ ≡ sets out₁ at (foundLine first order p))
-          → (end ≡ length (comparedText m order)) × (out₂ ≡ sets out 0 (comparedText m order))
+          → (end ≡ at + length (foundLine text first order p)) × (out₂ ≡ sets out₁ at (foundLine text first order p))
+          → (end ≡ length (comparedLines text m order)) × (out₂ ≡ sets out 0 (comparedLines text m order))
       says-both out (ea, eo) found =
-          let both = then out 0 (orderLines order) (foundLine first order p) (done (ea ∙ sym (zero-add _), eo)) (done found) in
+          let both = then out 0 (orderLines order) (foundLine text first order p) (done (ea ∙ sym (zero-add _), eo)) (done found) in
           rw says-found (both .ends ∙ zero-add _, both .leaves)
 
 -- The first T entries of the order by number of 256 generators are that of T.

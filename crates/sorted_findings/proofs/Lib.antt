@@ -1,3 +1,3 @@
 pub mod Places
 pub mod Comparing
-pub mod WholeText
+pub mod WholeFile

@@ -11,6 +11,7 @@ use Rattle.lists.proofs.Choices.{of-cond}
 use Rattle.lists.proofs.Zeros.{zeros-length}
 use Rattle.layout.specs.Layout.{machineLength, generators}
 use Rattle.layout.specs.Machine.{Machine, Order, Items}
+use Rattle.texts.specs.declared.Text.{Text}
 use Rattle.pass_model.specs.Pass.{Call, Outcome, plainCall, writtenData, passOf}
 use Rattle.pass_laws.proofs.Passing.{admitted, pass-by, let-through, refused-machine}
 use Rattle.pass_laws.proofs.PassSound.{pass-sound}
@@ -29,10 +30,10 @@ different-within (x ∷ xs) (y ∷ ys) =
     of-cond (λ i. i ≤ suc (length xs)) (eqb x y) {x = suc (firstDifferent xs ys)} {y = 0} (omega (arith, different-within xs ys)) (omega arith)
 
 -- A pass keeps the length of its machine.
-pass-length : (m : Machine) (call : Call) → length (passOf m call .machine) ≡ length m
-pass-length m call =
-    pass-by m call (λ (r : Outcome). length (r .machine) ≡ length m) (rw (refused-machine m call))
-    (λ e. let good = admitted m call e .good in rw (← (let-through m call e)) (pass-sound m call good .whole ∙ sym (good .whole)))
+pass-length : (text : Text) (m : Machine) (call : Call) → length (passOf text m call .machine) ≡ length m
+pass-length text m call =
+    pass-by text m call (λ (r : Outcome). length (r .machine) ≡ length m) (rw (refused-machine text m call))
+    (λ e. let good = admitted text m call e .good in rw (← (let-through text m call e)) (pass-sound text m call good .whole ∙ sym (good .whole)))
 
 between-within : (r s : Outcome) (n : ℕ) → length (r .machine) ≤ n → length (writtenData r) ≤ n → differencePlace (differenceBetween r s) ≤ n
 unfolding differenceBetween
@@ -41,11 +42,11 @@ between-within r s n hm hw =
     {x = Word (firstDifferent (r .machine) (s .machine))} {y = Written (firstDifferent (writtenData r) (writtenData s))}
     (omega (arith, hm, different-within (r .machine) (s .machine))) (omega (arith, hw, different-within (writtenData r) (writtenData s)))
 
-pub place-small : (contents : Machine) (items : Items) (o₁ o₂ : Order) → length contents ≡ machineLength
-    → differencePlace (differenceShown contents items o₁ o₂) < 2 ^ 32
-place-small contents items o₁ o₂ e =
+pub place-small : (text : Text) (contents : Machine) (items : Items) (o₁ o₂ : Order) → length contents ≡ machineLength
+    → differencePlace (differenceShown text contents items o₁ o₂) < 2 ^ 32
+place-small text contents items o₁ o₂ e =
     let call = plainCall o₁ items (zeros generators) in
-    let within = between-within (passBy contents items o₁) (passBy contents items o₂) machineLength
-    (omega (arith, pass-length contents call, e))
-    (omega (arith, written-length contents call, written-within contents call, zeros-length generators)) in
+    let within = between-within (passBy text contents items o₁) (passBy text contents items o₂) machineLength
+    (omega (arith, pass-length text contents call, e))
+    (omega (arith, written-length text contents call, written-within text contents call, zeros-length generators)) in
     omega (arith, within)

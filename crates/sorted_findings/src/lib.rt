@@ -12,10 +12,11 @@ ghost use Rattle.order_lists.specs.Sequences.{byNumber};
 ghost use Rattle.order_pitch.specs.Pitch.{byPitch};
 ghost use Rattle.bench_text.specs.Text.{lineBytes, refusalLine};
 ghost use Rattle.sorted_lines.specs.SortedLines.{differencePlace, failingLine, orderRefusalLine};
-ghost use Rattle.sorted_findings.specs.Findings.{foundLine, comparedText, byFileText, findingsOf, findingsRoom};
+ghost use Rattle.sorted_findings.specs.Findings.{foundLine, comparedLines, byFileLines, findingsOf, findingsRoom};
 use bench_text::LINE_BYTES;
 use parts::Parted;
 use parts_shown::Difference;
+use texts::Text;
 
 // The room for all that is printed: 17 bytes for each of 256 entries of an order, and a line of 64.
 pub const FINDINGS_ROOM: usize = 4416;
@@ -30,7 +31,7 @@ fn put_refusal(n: u32, out: &mut [u8; FINDINGS_ROOM]) -> usize
     bench_bytes::put(out, 0, &line[0..size])
 }
 
-// So is the line of a text that is no order file.
+// So is the line of a file that is no order file.
 fn put_order_refusal(n: u32, out: &mut [u8; FINDINGS_ROOM]) -> usize
     ensures { λ r. ⌜ r ≡ length (orderRefusalLine n) ⌝ }
     ensures { λ _. ⌜ now (out .exit) ≡ sets (now (out .entry)) 0 (orderRefusalLine n) ⌝ }
@@ -59,6 +60,7 @@ fn put_failing(
 
 // Puts the line of what was found of two orders after the bytes that a buffer has. Answers the place after it.
 fn put_found(
+    text: Text,
     parted: Parted,
     contents: &[u32; layout::MACHINE_LENGTH],
     items: &[u32],
@@ -69,90 +71,96 @@ fn put_found(
 ) -> usize
     requires { ⌜ at + lineBytes ≤ findingsRoom ⌝ }
     requires { ⌜ length (now contents) ≡ machineLength ⌝ }
-    ensures { λ r. ⌜ r ≡ at + length (foundLine (now (first .entry)) (now (second .entry)) (record { number = parted .number; point = parted .point; place = parted .place; contents = now (contents .entry); items = now (items .entry) })) ⌝ }
-    ensures { λ _. ⌜ now (out .exit) ≡ sets (now (out .entry)) at (foundLine (now (first .entry)) (now (second .entry)) (record { number = parted .number; point = parted .point; place = parted .place; contents = now (contents .entry); items = now (items .entry) })) ⌝ }
+    ensures { λ r. ⌜ r ≡ at + length (foundLine text (now (first .entry)) (now (second .entry)) (record { number = parted .number; point = parted .point; place = parted .place; contents = now (contents .entry); items = now (items .entry) })) ⌝ }
+    ensures { λ _. ⌜ now (out .exit) ≡ sets (now (out .entry)) at (foundLine text (now (first .entry)) (now (second .entry)) (record { number = parted .number; point = parted .point; place = parted .place; contents = now (contents .entry); items = now (items .entry) })) ⌝ }
 {
     if parted.point == 0 {
         return bench_bytes::put(out, at, b"equal\n");
     }
-    let difference = parts_shown::differ_by(contents, items, first, second);
+    let difference = parts_shown::differ_by(text, contents, items, first, second);
     put_failing(parted, difference, out, at)
 }
 
 // What is printed of a machine, the order by number and a second one. Answers its length.
-fn put_compared(m: &[u32], first: &[u32], second: &[u32], out: &mut [u8; FINDINGS_ROOM]) -> usize
+fn put_compared(
+    text: Text,
+    m: &[u32],
+    first: &[u32],
+    second: &[u32],
+    out: &mut [u8; FINDINGS_ROOM],
+) -> usize
     requires { ⌜ now first ≡ byNumber (ticksOf (now m)) ⌝ }
-    ensures { λ r. ⌜ r ≡ length (comparedText (now (m .entry)) (now (second .entry))) ⌝ }
-    ensures { λ _. ⌜ now (out .exit) ≡ sets (now (out .entry)) 0 (comparedText (now (m .entry)) (now (second .entry))) ⌝ }
+    ensures { λ r. ⌜ r ≡ length (comparedLines text (now (m .entry)) (now (second .entry))) ⌝ }
+    ensures { λ _. ⌜ now (out .exit) ≡ sets (now (out .entry)) 0 (comparedLines text (now (m .entry)) (now (second .entry))) ⌝ }
 {
     let mut contents = [0u32; layout::MACHINE_LENGTH];
     let mut items = [0u32; layout::GENERATORS];
-    let parted = parts::parts(m, first, second, &mut contents, &mut items);
+    let parted = parts::parts(text, m, first, second, &mut contents, &mut items);
     if parted.number != 0 {
         return put_refusal(parted.number, out);
     }
     let at = sorted_lines::order_lines(out, second);
-    put_found(parted, &contents, &items, first, second, out, at)
+    put_found(text, parted, &contents, &items, first, second, out, at)
 }
 
 // The same of a machine that passes questions 1 and 2, whose T the order by number needs.
-fn compared(m: &[u32], second: &[u32], out: &mut [u8; FINDINGS_ROOM]) -> usize
-    requires { ⌜ asked (question1 (now m) ∷ question2 (now m) ∷ []) ≡ 0 ⌝ }
-    ensures { λ r. ⌜ r ≡ length (comparedText (now (m .entry)) (now (second .entry))) ⌝ }
-    ensures { λ _. ⌜ now (out .exit) ≡ sets (now (out .entry)) 0 (comparedText (now (m .entry)) (now (second .entry))) ⌝ }
+fn compared(text: Text, m: &[u32], second: &[u32], out: &mut [u8; FINDINGS_ROOM]) -> usize
+    requires { ⌜ asked (question1 (now m) ∷ question2 text (now m) ∷ []) ≡ 0 ⌝ }
+    ensures { λ r. ⌜ r ≡ length (comparedLines text (now (m .entry)) (now (second .entry))) ⌝ }
+    ensures { λ _. ⌜ now (out .exit) ≡ sets (now (out .entry)) 0 (comparedLines text (now (m .entry)) (now (second .entry))) ⌝ }
 {
     let mut numbers = [0u32; layout::GENERATORS];
     bench_pass::by_number(&mut numbers);
     let t = layout::ticks(m);
-    put_compared(m, &numbers[0..t], second, out)
+    put_compared(text, m, &numbers[0..t], second, out)
 }
 
 // What is printed of a machine and the order by pitch. Answers its length.
-fn by_pitch(m: &[u32], out: &mut [u8; FINDINGS_ROOM]) -> usize
-    ensures { λ r. ⌜ r ≡ length (comparedText (now (m .entry)) (byPitch (now (m .entry)))) ⌝ }
-    ensures { λ _. ⌜ now (out .exit) ≡ sets (now (out .entry)) 0 (comparedText (now (m .entry)) (byPitch (now (m .entry)))) ⌝ }
+fn by_pitch(text: Text, m: &[u32], out: &mut [u8; FINDINGS_ROOM]) -> usize
+    ensures { λ r. ⌜ r ≡ length (comparedLines text (now (m .entry)) (byPitch (now (m .entry)))) ⌝ }
+    ensures { λ _. ⌜ now (out .exit) ≡ sets (now (out .entry)) 0 (comparedLines text (now (m .entry)) (byPitch (now (m .entry)))) ⌝ }
 {
-    let refused = machine::refusal(m);
+    let refused = machine::refusal(text, m);
     if refused != 0 {
         return put_refusal(refused, out);
     }
     let mut order = [0u32; layout::GENERATORS];
     order_pitch::by_pitch(m, &mut order);
     let t = layout::ticks(m);
-    compared(m, &order[0..t], out)
+    compared(text, m, &order[0..t], out)
 }
 
 // What is printed of a machine and an order file. Answers its length.
-fn by_file(m: &[u32], text: &[u8], out: &mut [u8; FINDINGS_ROOM]) -> usize
-    ensures { λ r. ⌜ r ≡ length (byFileText (now (m .entry)) (now (text .entry))) ⌝ }
-    ensures { λ _. ⌜ now (out .exit) ≡ sets (now (out .entry)) 0 (byFileText (now (m .entry)) (now (text .entry))) ⌝ }
+fn by_file(text: Text, m: &[u32], file: &[u8], out: &mut [u8; FINDINGS_ROOM]) -> usize
+    ensures { λ r. ⌜ r ≡ length (byFileLines text (now (m .entry)) (now (file .entry))) ⌝ }
+    ensures { λ _. ⌜ now (out .exit) ≡ sets (now (out .entry)) 0 (byFileLines text (now (m .entry)) (now (file .entry))) ⌝ }
 {
-    let read = order_file::read(text);
+    let read = order_file::read(file);
     let count = read.count;
     let order = read.entries;
     if read.number != 0 {
         return put_order_refusal(read.number, out);
     }
-    let refused = machine::refusal(m);
+    let refused = machine::refusal(text, m);
     if refused != 0 {
         return put_refusal(refused, out);
     }
-    compared(m, &order[0..count], out)
+    compared(text, m, &order[0..count], out)
 }
 
 // What is printed of a bench file, and of an order file if one is given: the first bytes of the buffer. Answers its length.
-pub fn findings(text: &[u8], given: bool, order: &[u8], out: &mut [u8; FINDINGS_ROOM]) -> usize
-    ensures { λ r. ⌜ r ≡ length (findingsOf (now (text .entry)) given (now (order .entry))) ⌝ }
-    ensures { λ _. ⌜ now (out .exit) ≡ sets (now (out .entry)) 0 (findingsOf (now (text .entry)) given (now (order .entry))) ⌝ }
+pub fn findings(file: &[u8], given: bool, order: &[u8], out: &mut [u8; FINDINGS_ROOM]) -> usize
+    ensures { λ r. ⌜ r ≡ length (findingsOf (now (file .entry)) given (now (order .entry))) ⌝ }
+    ensures { λ _. ⌜ now (out .exit) ≡ sets (now (out .entry)) 0 (findingsOf (now (file .entry)) given (now (order .entry))) ⌝ }
 {
     let mut m = [0u32; layout::MACHINE_LENGTH];
     let mut room = [0u32; bench_file::COMMAND_PLACES];
-    let file = bench_file::read(text, &mut m, &mut room);
-    if file.number != 0 {
-        return put_refusal(file.number, out);
+    let reading = bench_file::read(file, &mut m, &mut room);
+    if reading.number != 0 {
+        return put_refusal(reading.number, out);
     }
     if given {
-        return by_file(&m, order, out);
+        return by_file(Text::Of1978, &m, order, out);
     }
-    by_pitch(&m, out)
+    by_pitch(Text::Of1978, &m, out)
 }

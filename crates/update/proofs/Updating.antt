@@ -19,29 +19,30 @@ use Rattle.command.specs.Command.{done, waits}
 use Rattle.update.specs.Update.{Outcome, outcome, mostCommands, stillLingering, takenBy, updateOf, takenCount, tailAt}
 use Rattle.machine.proofs.Asked.{machine-passes}
 use Rattle.layout.specs.Machine.{Reaches}
+use Rattle.texts.specs.declared.Text.the-variants.{Of1978}
 use Rattle.questions.specs.Questions.{asked}
 
 -- A machine that passes question 1 reaches past each group of words.
-pub passes-reach : (m : List ℕ) → asked (question1 m ∷ question2 m ∷ []) ≡ 0 → Reaches m
-passes-reach m e = reaches m (machine-passes m e .0)
+pub passes-reach : (m : List ℕ) → asked (question1 m ∷ question2 Of1978 m ∷ []) ≡ 0 → Reaches m
+passes-reach m e = reaches m (machine-passes Of1978 m e .0)
 
 module _ (m cs : List ℕ) where
-  pub update-refused : {n : ℕ} → n ≡ asked (question1 m ∷ question2 m ∷ []) → n ≢ 0 → outcome n m cs ≡ updateOf m cs
+  pub update-refused : {n : ℕ} → n ≡ asked (question1 m ∷ question2 Of1978 m ∷ []) → n ≢ 0 → outcome n m cs ≡ updateOf m cs
   unfolding updateOf
   update-refused {n} e h = rw (← e, ne-eqb n 0 h)
 
-  module _ (e : asked (question1 m ∷ question2 m ∷ []) ≡ 0) where
+  module _ (e : asked (question1 m ∷ question2 Of1978 m ∷ []) ≡ 0) where
     pub update-lingers : stillLingering m ≡ true → outcome 0 m cs ≡ updateOf m cs
     unfolding updateOf
-    update-lingers s = rw (eq-eqb (asked (question1 m ∷ question2 m ∷ [])) 0 e, s)
+    update-lingers s = rw (eq-eqb (asked (question1 m ∷ question2 Of1978 m ∷ [])) 0 e, s)
 
     update-takes : {o : Outcome} → stillLingering m ≡ false → o ≡ takenBy (mostCommands m) (set m lingeringAt 0) cs → o ≡ updateOf m cs
     unfolding updateOf
-    update-takes s q = rw (eq-eqb (asked (question1 m ∷ question2 m ∷ [])) 0 e, s) q
+    update-takes s q = rw (eq-eqb (asked (question1 m ∷ question2 Of1978 m ∷ [])) 0 e, s) q
 
     -- The word of the update ticks has the most commands that are taken.
     most-commands : getD m updateTicksAt 0 ≡ mostCommands m
-    most-commands = sound-ticks m (machine-passes m e .1)
+    most-commands = sound-ticks Of1978 m (machine-passes Of1978 m e .1)
 
     pub update-ran : {most r n : ℕ} {l : List ℕ} → stillLingering m ≡ false → most ≡ getD m updateTicksAt 0 →
         (r ≤ length cs) × (outcome n l (drop r cs) ≡ takenBy most (set m lingeringAt 0) cs) → (r ≤ length cs) × (outcome n l (drop r cs) ≡ updateOf m cs)
@@ -77,7 +78,7 @@ taken-tail (suc k) m (c ∷ cs) =
 update-tail : (m cs : List ℕ) → Leaves cs (updateOf m cs)
 unfolding updateOf
 update-tail m cs =
-    of-cond (Leaves cs) (eqb (asked (question1 m ∷ question2 m ∷ [])) 0)
+    of-cond (Leaves cs) (eqb (asked (question1 m ∷ question2 Of1978 m ∷ [])) 0)
     (of-cond (Leaves cs) (stillLingering m) (whole cs) (taken-tail (mostCommands m) (set m lingeringAt 0) cs))
     (whole cs)
 
@@ -99,13 +100,13 @@ stays (suc k) m (c ∷ cs) e = go (eqb (commandRefusal c) 0) (waits m c) e
 
 pub none-taken : (P : List ℕ → Type 0) (m cs : List ℕ) → takenCount m cs ≡ 0 → P m → P (set m lingeringAt 0) → P (updateOf m cs .machine)
 unfolding updateOf
-none-taken P m cs e p q = go (eqb (asked (question1 m ∷ question2 m ∷ [])) 0) (stillLingering m) (omega (arith, e, update-tail m cs .shorter))
+none-taken P m cs e p q = go (eqb (asked (question1 m ∷ question2 Of1978 m ∷ [])) 0) (stillLingering m) (omega (arith, e, update-tail m cs .shorter))
   where
     taken : Outcome
     taken = takenBy (mostCommands m) (set m lingeringAt 0) cs
 
     chosen : Bool → Bool → Outcome
-    chosen a b = cond a (cond b (outcome 0 m cs) taken) (outcome (asked (question1 m ∷ question2 m ∷ [])) m cs)
+    chosen a b = cond a (cond b (outcome 0 m cs) taken) (outcome (asked (question1 m ∷ question2 Of1978 m ∷ [])) m cs)
 
     go : (a b : Bool) → length (chosen a b .rest) ≡ length cs → P (chosen a b .machine)
     go true true l = p
@@ -127,7 +128,7 @@ unfolding updateOf
 at-most m cs = omega (arith, few) where
   few : length cs ≤ length (updateOf m cs .rest) + mostCommands m
   few =
-      of-cond (λ (o : Outcome). length cs ≤ length (o .rest) + mostCommands m) (eqb (asked (question1 m ∷ question2 m ∷ [])) 0)
+      of-cond (λ (o : Outcome). length cs ≤ length (o .rest) + mostCommands m) (eqb (asked (question1 m ∷ question2 Of1978 m ∷ [])) 0)
       (of-cond (λ (o : Outcome). length cs ≤ length (o .rest) + mostCommands m) (stillLingering m) (omega arith) (taken-few (mostCommands m) (set m lingeringAt 0) cs))
       (omega arith)
 

@@ -7,6 +7,7 @@ use lib.Dec.{eqb}
 use lib.ListN.{length, getD, set}
 use Rattle.layout.specs.Layout.{lingeringAt, lingerPassAt}
 use Rattle.layout.specs.Machine.{Machine, Commands, updateTicksOf, lowCounter}
+use Rattle.texts.specs.declared.Text.the-variants.{Of1978}
 use Rattle.questions.specs.Questions.{asked}
 use Rattle.machine.specs.Questions.{question1, question2}
 use Rattle.command_built.specs.Built.{commandRefusal}
@@ -41,7 +42,7 @@ takenBy (suc k) m (c ∷ cs) =
 -- The update: questions 1 and 2; nothing while lingering goes on; else lingering ends, and commands are taken, their most by N and T as it begins.
 unfoldable pub updateOf : Machine → Commands → Outcome
 updateOf m cs =
-    let n = asked (question1 m ∷ question2 m ∷ []) in
+    let n = asked (question1 m ∷ question2 Of1978 m ∷ []) in
     cond (eqb n 0)
     (cond (stillLingering m) (outcome 0 m cs) (takenBy (mostCommands m) (set m lingeringAt 0) cs))
     (outcome n m cs)

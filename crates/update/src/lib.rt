@@ -7,6 +7,8 @@ ghost use Rattle.layout.specs.Machine.{Reaches};
 ghost use Rattle.questions.specs.Questions.{asked};
 ghost use Rattle.machine.specs.Questions.{question1, question2};
 ghost use Rattle.update.specs.Update.{outcome, stillLingering, takenBy, updateOf, takenCount, tailAt};
+ghost use Rattle.texts.specs.declared.Text.the-variants.{Of1978};
+use texts::Text;
 
 // Whether it is lingering and the counter's low bits aren't the Linger pass.
 fn still_lingering(m: &[u32]) -> bool
@@ -45,7 +47,7 @@ fn run(m: &mut [u32], commands: &[u32], most: usize, refused: &mut u32) -> usize
 
 // An update of a machine that passes questions 1 and 2, so that its word has the update ticks of its N and T. Answers how many commands it takes.
 pub fn take_commands(m: &mut [u32], commands: &[u32], refused: &mut u32) -> usize
-    requires { ⌜ asked (question1 (now m) ∷ question2 (now m) ∷ []) ≡ 0 ⌝ }
+    requires { ⌜ asked (question1 (now m) ∷ question2 Of1978 (now m) ∷ []) ≡ 0 ⌝ }
     ensures { λ r. ⌜ (r ≤ length (now (commands .entry))) × (outcome (now (refused .exit)) (now (m .exit)) (drop r (now (commands .entry))) ≡ updateOf (now (m .entry)) (now (commands .entry))) ⌝ }
 {
     if still_lingering(m) {
@@ -62,7 +64,7 @@ pub fn update<'a>(m: &mut [u32], commands: &'a [u32], refused: &mut u32) -> &'a 
     ensures { λ r. ⌜ outcome (now (refused .exit)) (now (m .exit)) (now r) ≡ updateOf (now (m .entry)) (now (commands .entry)) ⌝ }
     ensures { λ r. ⌜ r .ptr ≡ tailAt (commands .entry .ptr) (takenCount (now (m .entry)) (now (commands .entry))) ⌝ }
 {
-    let number = machine::refusal(m);
+    let number = machine::refusal(Text::Of1978, m);
     if number != 0 {
         *refused = number;
         return commands;

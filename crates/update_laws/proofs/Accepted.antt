@@ -15,6 +15,7 @@ use Rattle.command_fields.specs.Fields.{field, flag, code4, code5}
 use Rattle.command_timer.specs.Timer.{ticksData}
 use Rattle.command_delay.specs.DelayLoads.{uuOf, delayModeData, builtDLY}
 use Rattle.command_built.specs.Built.{built, ticksFit, builtMRM, question3, question4, commandRefusal}
+use Rattle.texts.specs.declared.Text.the-variants.{Of1978}
 
 -- A command that is not refused: both questions are answered yes.
 pub record Accepted (c : ℕ) : Type 0 where
@@ -32,20 +33,20 @@ or-else : (a b : Bool) → (a || b) ≡ true → a ≡ false → b ≡ true
 or-else true b p q = cc q
 or-else false b p q = p
 
-pub gmode-accepted : (c : ℕ) → Accepted c → eqb (code4 c) 0b1010 ≡ true → flag 4 c ≡ false → goodGmode (field 7 16 c) ≡ true
+pub gmode-accepted : (c : ℕ) → Accepted c → eqb (code4 c) 0b1010 ≡ true → flag 4 c ≡ false → goodGmode Of1978 (field 7 16 c) ≡ true
 unfolding built
 gmode-accepted c p t =
     let k = eqb-true (code4 c) 0b1010 t in
-    or-else (flag 4 c) (goodGmode (field 7 16 c))
+    or-else (flag 4 c) (goodGmode Of1978 (field 7 16 c))
     (rw (ne-eqb (code5 c) 0b00000 (λ q. omega arith), ne-eqb (code5 c) 0b00001 (λ q. omega arith), ne-eqb (code5 c) 0b00011 (λ q. omega arith), t) at (p .is-built))
 
 -- The function of MMODE likewise.
-pub mmode-accepted : (c : ℕ) → Accepted c → eqb (code5 c) 0b11110 ≡ true → flag 4 c ≡ false → goodMmode (field 8 16 c) ≡ true
+pub mmode-accepted : (c : ℕ) → Accepted c → eqb (code5 c) 0b11110 ≡ true → flag 4 c ≡ false → goodMmode Of1978 (field 8 16 c) ≡ true
 unfolding built
 mmode-accepted c p t =
     let k = eqb-true (code5 c) 0b11110 t in
     let q : code4 c ≡ 0b1111 = omega arith in
-    or-else (flag 4 c) (goodMmode (field 8 16 c)) (rw (k, q) at (p .is-built))
+    or-else (flag 4 c) (goodMmode Of1978 (field 8 16 c)) (rw (k, q) at (p .is-built))
 
 -- MRM and MIN likewise.
 both-addresses : (c : ℕ) → Accepted c → eqb (code5 c) 0b11111 ≡ true → builtMRM c ≡ true

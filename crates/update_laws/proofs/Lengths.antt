@@ -8,7 +8,9 @@ use lib.Dec.{eqb, ltb}
 use lib.ListN.{length, set, length-set}
 use Rattle.lists.proofs.Choices.{of-cond}
 use Rattle.layout.specs.Layout.{lingeringAt}
-use Rattle.layout.specs.Machine.{runModeAt, withUpdateTicks}
+use Rattle.layout.specs.Machine.{withUpdateTicks}
+use Rattle.texts.specs.Texts.{runModeAt}
+use Rattle.texts.specs.declared.Text.the-variants.{Of1978}
 use Rattle.questions.specs.Questions.{asked}
 use Rattle.modes.specs.Modes.{pause, wait}
 use Rattle.machine.specs.Questions.{question1, question2}
@@ -93,7 +95,7 @@ module _ (n : ℕ) where
   released-long r m e zero = e
   released-long r m e (suc k) =
       let so-far = released-long r m e k in
-      of-cond (Long n) (eqb (runModeAt (releasedBelow r m k) k) r) (set-long (releasedBelow r m k) so-far _ _) so-far
+      of-cond (Long n) (eqb (runModeAt Of1978 (releasedBelow r m k) k) r) (set-long (releasedBelow r m k) so-far _ _) so-far
 
   miscellany-long : (m : List ℕ) → Long n m → (c : ℕ) → Long n (miscellany m c)
   unfolding miscellany released
@@ -153,7 +155,7 @@ pub update-length : (m cs : List ℕ) → length (updateOf m cs .machine) ≡ le
 unfolding updateOf
 update-length m cs =
     let own : Long (length m) m = record { is = refl } in
-    of-cond (LongAfter (length m)) (eqb (asked (question1 m ∷ question2 m ∷ [])) 0)
+    of-cond (LongAfter (length m)) (eqb (asked (question1 m ∷ question2 Of1978 m ∷ [])) 0)
     (of-cond (LongAfter (length m)) (stillLingering m) own
     (taken-long (length m) (mostCommands m) (set m lingeringAt 0) cs (set-long (length m) m own lingeringAt 0)))
     own .is

@@ -11,11 +11,13 @@ use Rattle.lists.specs.Lists.{isOneOf}
 use Rattle.lists.proofs.Below.{and-both}
 use Rattle.lists.proofs.Choices.{of-cond, of-test}
 use Rattle.layout.specs.Layout.{GMODE, tAt, nAt, counterAt, lingeringAt, lingerPassAt, overrunAt}
-use Rattle.layout.specs.Machine.{Reaches, gmodeAt, runModeAt, withUpdateTicks}
+use Rattle.layout.specs.Machine.{Reaches, gmodeAt, withUpdateTicks}
 use Rattle.layout.specs.Widths.{wordBits, counterBits, lingerBits}
+use Rattle.texts.specs.Texts.{runModeAt}
+use Rattle.texts.specs.declared.Text.the-variants.{Of1978}
 use Rattle.modes.specs.Modes.{builtRun, builtOscillator, pause, wait, runningA, withRunMode}
 use Rattle.machine.specs.Questions.{between, goodGmode, regions, testAt, sound}
-use Rattle.machine.proofs.Words.{gmode-from}
+use Rattle.machine.proofs.Words.{gmode-from, gmode-oscillator}
 use Rattle.machine.proofs.SoundMachine.{sound-generator, sound-with-ticks}
 use Rattle.command_fields.specs.Fields.{field, flag, dataOf, code5}
 use Rattle.command_misc.specs.Misc.{releasedOne, releasedBelow, released, miscellany}
@@ -26,21 +28,21 @@ use Rattle.update_laws.proofs.Accepted.{Accepted, accepted, ticks-accep
 use Rattle.update_laws.proofs.SoundLoads.{Sound, generator-keeps, dx-keeps, later-keeps, delay-load-sound, generator-load-sound, modifier-load-sound}
 
 -- A generator that goes to 1111 has a good GMODE: its oscillator mode is kept.
-good-released : (m : List ℕ) → Sound m → (g : ℕ) → g < 256 → goodGmode (withRunMode runningA (gmodeAt m g)) ≡ true
+good-released : (m : List ℕ) → Sound m → (g : ℕ) → g < 256 → goodGmode Of1978 (withRunMode runningA (gmodeAt m g)) ≡ true
 unfolding builtRun isOneOf
 good-released m e g h =
     let x = gmodeAt m g in
     let y = withRunMode runningA x in
     let top : y / 2 ^ 6 ≡ runningA = omega arith in
     let rest : y % 2 ^ 4 ≡ x % 2 ^ 4 = omega arith in
-    gmode-from y (omega arith) (ap builtRun top) (ap builtOscillator rest ∙ sound-generator m e g h .oscillator)
+    gmode-from y (omega arith) (ap builtRun top) (ap builtOscillator rest ∙ gmode-oscillator _ (sound-generator Of1978 m e g h .good))
 
 released-sound : (r : ℕ) (m : List ℕ) → Sound m → (n : ℕ) → n ≤ 256 → Sound (releasedBelow r m n)
 unfolding releasedBelow releasedOne regions
 released-sound r m e zero h = e
 released-sound r m e (suc n) h =
     let so-far = released-sound r m e n (omega arith) in
-    of-cond Sound (eqb (runModeAt (releasedBelow r m n) n) r)
+    of-cond Sound (eqb (runModeAt Of1978 (releasedBelow r m n) n) r)
     (generator-keeps n GMODE _ (omega arith) (lit< tt) (good-released (releasedBelow r m n) so-far n (omega arith)) (releasedBelow r m n) so-far)
     so-far
 
@@ -80,8 +82,8 @@ ticks-sound : (m : List ℕ) → Sound m → Reaches m → (c : ℕ) → Accepte
 unfolding ticksSet regions testAt
 ticks-sound m e r c p t =
     of-test (λ (l : List ℕ). Sound (withUpdateTicks l)) (flag 32 c)
-    (λ q. sound-with-ticks m e r nAt (ticksData c + 2) (lit< tt) (within 2 1025 (ticksData c + 2) (omega arith) (omega arith)))
-    (λ q. let l = ticks-accepted c p t q in sound-with-ticks m e r tAt (ticksData c + 1) (lit< tt) (within 1 256 (ticksData c + 1) (omega arith) (omega arith)))
+    (λ q. sound-with-ticks Of1978 m e r nAt (ticksData c + 2) (lit< tt) (within 2 1025 (ticksData c + 2) (omega arith) (omega arith)))
+    (λ q. let l = ticks-accepted c p t q in sound-with-ticks Of1978 m e r tAt (ticksData c + 1) (lit< tt) (within 1 256 (ticksData c + 1) (omega arith) (omega arith)))
 
 -- An accepted command, and any command in its turn.
 pub done-sound : (m : List ℕ) → Sound m → Reaches m → (c : ℕ) → commandRefusal c ≡ 0 → Sound (done m c)
@@ -94,6 +96,6 @@ done-sound m e r c z =
     (of-test Sound (eqb (code5 c) 0b00011) (λ t. ticks-sound m e r c p t)
     (λ q. of-cond Sound (ltb (code5 c) 0b11000) (generator-load-sound m e c p) (modifier-load-sound m e c p)))))
 
-pub command-sound : (m : List ℕ) (c : ℕ) → Reaches m → sound m ≡ true → sound (afterCommand m c) ≡ true
+pub command-sound : (m : List ℕ) (c : ℕ) → Reaches m → sound Of1978 m ≡ true → sound Of1978 (afterCommand m c) ≡ true
 unfolding afterCommand
 command-sound m c r e = of-test Sound (eqb (commandRefusal c) 0) (λ t. done-sound m e r c (eqb-true (commandRefusal c) 0 t)) (λ q. e)

@@ -14,9 +14,11 @@ use Rattle.lists.proofs.Below.{and-second, and-both}
 use Rattle.lists.proofs.Choices.{of-cond, of-test}
 use Rattle.layout.specs.Layout.{generatorAt, modifierAt, dxAt, nAt, delayAt, delayX, delayY, delayZ, delayP, GO, GJ, GK, GN, GM, GP, GQ, GL, GSUM, GFM, GMODE, M0, M1, L0, L1, MIN, MRM, MSUM, MMODE}
 use Rattle.layout.specs.Widths.{gjBits, gnBits, gmBits, gqBits, glBits, gsumBits, gfmBits, coefficientBits, msumBits, mmodeBits, wordBits, delayBits, delayModeBits}
+use Rattle.texts.specs.declared.Text.the-variants.{Of1978}
 use Rattle.built_codes.specs.BuiltCodes.{builtFunction, builtMode}
 use Rattle.machine.specs.Questions.{bits, goodMmode, regions, testAt, sound}
 use Rattle.machine.proofs.Regions.{region, start, unit-test}
+use Rattle.machine.proofs.Words.{mmode-function}
 use Rattle.machine.proofs.SoundMachine.{Single, single-below, single-above, sound-set, sound-modifier, sound-controls}
 use Rattle.command_fields.specs.Fields.{field, flag, dataOf, code3, code4, code5, generatorNumber, modifierNumber}
 use Rattle.command_load.specs.Loads.{loadedUnless, clearedIf, loadedData, loadedRight, loadedLeft, loadedAdjusted, loadedTwo, loadedThenCleared}
@@ -27,7 +29,7 @@ use Rattle.update_laws.proofs.Accepted.{Accepted, gmode-accepted, mmode
 
 -- A sound machine.
 abbrev pub Sound : List ℕ → Type 0
-Sound m = sound m ≡ true
+Sound m = sound Of1978 m ≡ true
 
 -- Putting v at place i keeps a machine sound.
 abbrev Keeps : ℕ → ℕ → Type 0
@@ -35,12 +37,12 @@ Keeps i v = (m : List ℕ) → Sound m → Sound (set m i v)
 
 -- The word v passes the test of word j of a unit of region k.
 abbrev Passes : ℕ → ℕ → ℕ → Type 0
-Passes k j v = getD (region regions k .tests) j (λ y. false) v ≡ true
+Passes k j v = getD (region (regions Of1978) k .tests) j (λ y. false) v ≡ true
 
 -- Word j of unit u of region k.
-unit-keeps : (k u j i v : ℕ) → u < region regions k .units → j < length (region regions k .tests)
-    → i ≡ start regions k + (length (region regions k .tests) * u + j) → Single i → Passes k j v → Keeps i v
-unit-keeps k u j i v h l q n p m e = sound-set m e i v n (ap (λ (at : ℕ). testAt regions at v) q ∙ unit-test regions k u j v h l ∙ p)
+unit-keeps : (k u j i v : ℕ) → u < region (regions Of1978) k .units → j < length (region (regions Of1978) k .tests)
+    → i ≡ start (regions Of1978) k + (length (region (regions Of1978) k .tests) * u + j) → Single i → Passes k j v → Keeps i v
+unit-keeps k u j i v h l q n p m e = sound-set Of1978 m e i v n (ap (λ (at : ℕ). testAt (regions Of1978) at v) q ∙ unit-test (regions Of1978) k u j v h l ∙ p)
 
 -- A word of a generator, of a modifier, DX, a word from the counter on, and of a delay unit.
 pub generator-keeps : (g j v : ℕ) → g < 256 → j < 11 → Passes 0 j v → Keeps (generatorAt g + j) v
@@ -114,13 +116,13 @@ module _ (c : ℕ) where
     gq-sound : Sound (loadedGQ m c)
     unfolding loadedGQ regions
     gq-sound =
-        let dx = sound-controls m e .dx in
+        let dx = sound-controls Of1978 m e .dx in
         adjusted-sound m e (generatorWord c GQ) gqBits (λ v l. own-keeps GQ v (lit< tt) (lt-ltb v (2 ^ gqBits) l)) (omega arith)
 
     gj-sound : Sound (loadedGJ m c)
     unfolding loadedGJ regions
     gj-sound =
-        let dx = sound-controls m e .dx in
+        let dx = sound-controls Of1978 m e .dx in
         adjusted-sound m e (generatorWord c GJ) gjBits (λ v l. own-keeps GJ v (lit< tt) (lt-ltb v (2 ^ gjBits) l)) (omega arith)
 
     gp-sound : Sound (loadedGP m c)
@@ -161,7 +163,7 @@ module _ (c : ℕ) where
     mm-sound : Sound (loadedMM m c)
     unfolding loadedMM regions
     mm-sound =
-        let dx = sound-controls m e .dx in
+        let dx = sound-controls Of1978 m e .dx in
         adjusted-sound m e (modifierWord c (cond (flag 28 c) M1 M0)) coefficientBits
         (λ v l. let low = lt-ltb v (2 ^ coefficientBits) l in of-cond (λ (j : ℕ). Keeps (modifierWord c j) v) (flag 28 c) (its-keeps M1 v (lit< tt) low) (its-keeps M0 v (lit< tt) low)) (omega arith)
 
@@ -201,7 +203,7 @@ record Function (f : ℕ) : Type 0 where
   is-built : builtFunction f ≡ true
 
 -- With four bits of scales it makes a good MMODE.
-good-mmode : (f s : ℕ) → Function f → s < 2 ^ 4 → goodMmode (f * 2 ^ 4 + s) ≡ true
+good-mmode : (f s : ℕ) → Function f → s < 2 ^ 4 → goodMmode Of1978 (f * 2 ^ 4 + s) ≡ true
 good-mmode f s p l =
     let fl = p .low in
     let y = f * 2 ^ 4 + s in
@@ -213,9 +215,9 @@ module _ (m : List ℕ) (e : Sound m) (c : ℕ) (p : Accepted c) where
   function-loaded t = of-test Function (flag 4 c) (λ q. old) (λ q. new q) where
     old : Function (getD m (modifierWord c MMODE) 0 / 2 ^ 4)
     old =
-        let s = sound-modifier m e (modifierNumber c) (omega arith) in
+        let s = sound-modifier Of1978 m e (modifierNumber c) (omega arith) in
         let l = s .mmode in
-        record { low = omega arith; is-built = s .function }
+        record { low = omega arith; is-built = mmode-function _ (s .good) }
 
     new : flag 4 c ≡ false → Function (field 8 12 c)
     new q =

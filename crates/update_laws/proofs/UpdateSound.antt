@@ -9,6 +9,7 @@ use lib.Dec.{eqb, lit<}
 use lib.ListN.{set, length-set}
 use Rattle.layout.specs.Layout.{lingeringAt}
 use Rattle.layout.specs.Machine.{Reaches}
+use Rattle.texts.specs.declared.Text.the-variants.{Of1978}
 use Rattle.layout.proofs.Reach.{same-reach}
 use Rattle.machine.specs.Questions.{question1, question2, regions, sound}
 use Rattle.command_built.specs.Built.{commandRefusal}
@@ -23,7 +24,7 @@ use Rattle.questions.specs.Questions.{asked}
 
 -- An outcome that leaves a sound machine.
 abbrev SoundAfter : Outcome → Type 0
-SoundAfter o = sound (o .machine) ≡ true
+SoundAfter o = sound Of1978 (o .machine) ≡ true
 
 taken-sound : (k : ℕ) (m cs : List ℕ) → Sound m → Reaches m → SoundAfter (takenBy k m cs)
 unfolding takenBy
@@ -36,11 +37,11 @@ taken-sound (suc k) m (c ∷ cs) e r =
     (λ q. e)
 
 -- A run of another length is refused and stays.
-pub update-sound : (m cs : List ℕ) → sound m ≡ true → sound (updateOf m cs .machine) ≡ true
+pub update-sound : (m cs : List ℕ) → sound Of1978 m ≡ true → sound Of1978 (updateOf m cs .machine) ≡ true
 unfolding updateOf regions
 update-sound m cs e =
-    of-test SoundAfter (eqb (asked (question1 m ∷ question2 m ∷ [])) 0)
-    (λ t. let r = passes-reach m (eqb-true (asked (question1 m ∷ question2 m ∷ [])) 0 t) in
+    of-test SoundAfter (eqb (asked (question1 m ∷ question2 Of1978 m ∷ [])) 0)
+    (λ t. let r = passes-reach m (eqb-true (asked (question1 m ∷ question2 Of1978 m ∷ [])) 0 t) in
     of-cond SoundAfter (stillLingering m) e
     (taken-sound (mostCommands m) (set m lingeringAt 0) cs (later-keeps lingeringAt 0 (lit< tt) (lit< tt) refl m e) (same-reach (length-set m lingeringAt 0) r)))
     (λ q. e)

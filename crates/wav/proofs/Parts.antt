@@ -6,5 +6,5 @@ use Prim.Native.Nat.{ℕ, _≤_}
 use native.Mathlib.Omega.{arith}
 use lib.ListN.{length, take, length-take}
 
-pub file-within : (out file : List ℕ) {size : ℕ} → size ≡ length file → take size out ≡ file → size ≤ length out
-file-within out file {size} es et = omega (arith, es, ap length et, length-take size out)
+pub file-within : (out reading : List ℕ) {size : ℕ} → size ≡ length reading → take size out ≡ reading → size ≤ length out
+file-within out reading {size} es et = omega (arith, es, ap length et, length-take size out)

@@ -5,10 +5,10 @@ use libc::STDERR_FILENO;
 use libc::STDIN_FILENO;
 use libc::STDOUT_FILENO;
 
-// Writes the file of a text, or its refusal; says whether all was written.
-fn sound(text: &[u8]) -> bool {
+// Writes the file of a file, or its refusal; says whether all was written.
+fn sound(file: &[u8]) -> bool {
     let mut out = [0u8; bench_wave::WAVE_ROOM];
-    let made = bench_wave::wave(text, &mut out);
+    let made = bench_wave::wave(file, &mut out);
     if made.number != 0 {
         return bench_streams::refuse(STDERR_FILENO, made.number);
     }
@@ -18,13 +18,13 @@ fn sound(text: &[u8]) -> bool {
 
 // One byte more than a file may have is read, so that a longer one is told apart.
 fn main() {
-    let mut text = [0u8; bench_lines::FILE_BYTES + 1];
-    let input = bench_streams::read_all(STDIN_FILENO, &mut text);
+    let mut file = [0u8; bench_lines::FILE_BYTES + 1];
+    let input = bench_streams::read_all(STDIN_FILENO, &mut file);
     let Input::Bytes(n) = input else {
         io::write_all(STDERR_FILENO, b"wav: cannot read\n");
         return;
     };
-    let written = sound(&text[..n]);
+    let written = sound(&file[..n]);
     if !written {
         io::write_all(STDERR_FILENO, b"wav: cannot write\n");
     }

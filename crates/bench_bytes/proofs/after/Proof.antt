@@ -6,7 +6,7 @@ use Rattle.bench_bytes.proofs.after.Statement.{statement}
 use Rattle.bench_bytes.proofs.after.Tie as tie
 
 returns : tie.Need-returns
-returns c = searches.rest-of (c .before .args .text .now) (c .before .args .n)
+returns c = searches.rest-of (c .before .args .bytes .now) (c .before .args .n)
 
 pub after-spec : {M : Type 1} → statement M
 after-spec = tie.close

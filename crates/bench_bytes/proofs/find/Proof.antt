@@ -10,25 +10,25 @@ use Rattle.bench_bytes.proofs.find.Statement.{statement}
 use Rattle.bench_bytes.proofs.find.Tie as tie
 
 abbrev Inv-loop : tie.InvT-loop
-Inv-loop text x i₀ i = (i ≤ length text) × (bytesBefore x text ≡ i + bytesBefore x (drop i text))
+Inv-loop bytes x i₀ i = (i ≤ length bytes) × (bytesBefore x bytes ≡ i + bytesBefore x (drop i bytes))
 
 abbrev μ-loop : tie.MeasureT-loop
-μ-loop text x i₀ i = length text - i
+μ-loop bytes x i₀ i = length bytes - i
 
 returns : tie.Need-returns Inv-loop μ-loop
 returns c =
     let w = c .before .before in
-    omega (arith, w .before .loop .inv .1, searches.before-hit (w .before .before .args .text .now) (w .before .loop .i) _ (w .loop-test .taken) (c .if1 .taken))
+    omega (arith, w .before .loop .inv .1, searches.before-hit (w .before .before .args .bytes .now) (w .before .loop .i) _ (w .loop-test .taken) (c .if1 .taken))
 
 loop-again : tie.Need-loop-again Inv-loop μ-loop
 loop-again c =
     let w = c .before .before in
-    omega (arith, w .before .loop .inv .1, searches.before-miss (w .before .before .args .text .now) (w .before .loop .i) (w .before .before .args .x) (w .loop-test .taken) (c .if1 .left))
+    omega (arith, w .before .loop .inv .1, searches.before-miss (w .before .before .args .bytes .now) (w .before .loop .i) (w .before .before .args .x) (w .loop-test .taken) (c .if1 .left))
 
 returns-2 : tie.Need-returns-2 Inv-loop μ-loop
 returns-2 c =
     let w = c .before in
-    omega (arith, w .loop .inv .1, searches.before-none (w .before .args .text .now) (w .loop .i) (w .before .args .x) (c .loop-test .left))
+    omega (arith, w .loop .inv .1, searches.before-none (w .before .args .bytes .now) (w .loop .i) (w .before .args .x) (c .loop-test .left))
 
 pub find-spec : {M : Type 1} → statement M
 find-spec =

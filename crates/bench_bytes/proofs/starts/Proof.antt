@@ -10,10 +10,10 @@ use Rattle.bench_bytes.proofs.starts.Statement.{statement}
 use Rattle.bench_bytes.proofs.starts.Tie as tie
 
 abbrev Inv-loop : tie.InvT-loop
-Inv-loop text start i₀ i = (i ≤ length start) × (startsWith text start ≡ startsWith (drop i text) (drop i start))
+Inv-loop bytes start i₀ i = (i ≤ length start) × (startsWith bytes start ≡ startsWith (drop i bytes) (drop i start))
 
 abbrev μ-loop : tie.MeasureT-loop
-μ-loop text start i₀ i = length start - i
+μ-loop bytes start i₀ i = length start - i
 
 returns : tie.Need-returns Inv-loop μ-loop
 returns c = sym (c .before .before .loop .inv .1 ∙ searches.starts-short _ _ _ (c .before .loop-test .taken) (c .if1 .taken))

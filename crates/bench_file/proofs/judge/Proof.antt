@@ -9,28 +9,28 @@ use borrow.Author.Needs.{needs}
 use lib.ListN.{length}
 use Rattle.bench_bytes.specs.Bytes.{bytesBefore}
 use Rattle.bench_lines.specs.Lines.{fileBytes}
-use Rattle.bench_lines.proofs.TextLines.{ended-is, within}
+use Rattle.bench_lines.proofs.FileLines.{ended-is, within}
 use Rattle.bench_file.proofs.Judging as judging
 use Rattle.bench_file.proofs.judge.Statement.{statement}
 use Rattle.bench_file.proofs.judge.Tie as tie
 
 abbrev Inv-loop : tie.InvT-loop
-Inv-loop text file₀ at₀ file at = judging.Judging text at file
+Inv-loop file file₀ at₀ reading at = judging.Judging file at reading
 
 abbrev μ-loop : tie.MeasureT-loop
-μ-loop text file₀ at₀ file at = length text - at
+μ-loop file file₀ at₀ reading at = length file - at
 
--- The text is short, and a line ends before the text does.
-short : (c : tie.In-loop Inv-loop μ-loop) → length (c .before .before .before .args .text .now) ≤ fileBytes
-short c = let start = c .before .before .before in ended-is (start .args .text .now) (start .pre) .short
+-- The file is short, and a line ends before the file does.
+short : (c : tie.In-loop Inv-loop μ-loop) → length (c .before .before .before .args .file .now) ≤ fileBytes
+short c = let start = c .before .before .before in ended-is (start .args .file .now) (start .pre) .short
 
-line-end : (c : tie.After-find Inv-loop μ-loop) → let turn = c .before .before in c .find .result < length (turn .before .before .before .args .text .now) - turn .before .loop .at
+line-end : (c : tie.After-find Inv-loop μ-loop) → let turn = c .before .before in c .find .result < length (turn .before .before .before .args .file .now) - turn .before .loop .at
 line-end c =
     let turn = c .before .before in
     let start = turn .before .before .before in
     within
-    (start .args .text .now)
-    (ended-is (start .args .text .now) (start .pre))
+    (start .args .file .now)
+    (ended-is (start .args .file .now) (start .pre))
     (turn .before .loop .at)
     (turn .loop-test .taken)
     (c .find .ensures ∙ ap (bytesBefore (code "\n")) (c .before .after .ensures))
@@ -74,10 +74,10 @@ loop-again c =
     let turn = found .before .before in
     let start = turn .before .before .before in
     judging.goes-on
-    (start .args .text .now)
-    (ended-is (start .args .text .now) (start .pre))
+    (start .args .file .now)
+    (ended-is (start .args .file .now) (start .pre))
     (turn .before .loop .at)
-    (turn .before .loop .file)
+    (turn .before .loop .reading)
     (turn .before .loop .inv)
     (turn .loop-test .taken)
     (found .find .ensures ∙ ap (bytesBefore (code "\n")) (found .before .after .ensures))

@@ -17,7 +17,7 @@ returns : tie.Need-returns
 returns c =
     let after = c .before .before in
     let a = after .before .args in
-    judged-unfit (a .file) (a .line) (after .phase-after .ensures) (c .before .fit .ensures) (c .if1 .taken)
+    judged-unfit (a .reading) (a .line) (after .phase-after .ensures) (c .before .fit .ensures) (c .if1 .taken)
 
 returns-2 : tie.Need-returns-2
 returns-2 c =
@@ -25,7 +25,7 @@ returns-2 c =
     let after = fits .before .before in
     let a = after .before .args in
     let l = c .before .line .given .1 in
-    judged-fit (a .file) (a .line) (after .phase-after .ensures) (fits .before .fit .ensures) (fits .if1 .left) (rw l) (rw l (sym (add-zero _)))
+    judged-fit (a .reading) (a .line) (after .phase-after .ensures) (fits .before .fit .ensures) (fits .if1 .left) (rw l) (rw l (sym (add-zero _)))
 
 returns-3 : tie.Need-returns-3
 returns-3 c =
@@ -33,7 +33,7 @@ returns-3 c =
     let after = fits .before .before in
     let a = after .before .args in
     let l = c .enum-told .given .1 in
-    judged-fit (a .file) (a .line) (after .phase-after .ensures) (fits .before .fit .ensures) (fits .if1 .left) (rw l) (rw l (sym (add-zero _)))
+    judged-fit (a .reading) (a .line) (after .phase-after .ensures) (fits .before .fit .ensures) (fits .if1 .left) (rw l) (rw l (sym (add-zero _)))
 
 returns-4 : tie.Need-returns-4
 returns-4 c =
@@ -41,7 +41,7 @@ returns-4 c =
     let after = fits .before .before in
     let a = after .before .args in
     let l = c .enum-told2 .given .1 in
-    judged-fit (a .file) (a .line) (after .phase-after .ensures) (fits .before .fit .ensures) (fits .if1 .left) (rw l) (rw l)
+    judged-fit (a .reading) (a .line) (after .phase-after .ensures) (fits .before .fit .ensures) (fits .if1 .left) (rw l) (rw l)
 
 returns-5 : tie.Need-returns-5
 returns-5 c =
@@ -49,7 +49,7 @@ returns-5 c =
     let after = fits .before .before in
     let a = after .before .args in
     let l = c .enum-told3 .given .1 in
-    judged-fit (a .file) (a .line) (after .phase-after .ensures) (fits .before .fit .ensures) (fits .if1 .left) (rw l) (rw l (sym (add-zero _)))
+    judged-fit (a .reading) (a .line) (after .phase-after .ensures) (fits .before .fit .ensures) (fits .if1 .left) (rw l) (rw l (sym (add-zero _)))
 
 pub judge-line-spec : {M : Type 1} → statement M
 judge-line-spec =

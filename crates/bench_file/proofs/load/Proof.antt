@@ -9,29 +9,29 @@ use borrow.Author.Needs.{needs}
 use lib.ListN.{length}
 use Rattle.bench_bytes.specs.Bytes.{bytesBefore}
 use Rattle.bench_lines.specs.Lines.{fileBytes}
-use Rattle.bench_lines.proofs.TextLines.{ended-is, within}
+use Rattle.bench_lines.proofs.FileLines.{ended-is, within}
 use Rattle.bench_file.proofs.Loading as loading
 use Rattle.bench_file.proofs.load.Statement.{statement}
 use Rattle.bench_file.proofs.load.Tie as tie
 
 abbrev Inv-loop : tie.InvT-loop
-Inv-loop text m₀ room₀ count₀ at₀ m room count at = (length m ≡ length m₀) × (length room ≡ length room₀) × loading.Loading text m₀ room₀ at count m room
+Inv-loop file m₀ room₀ count₀ at₀ m room count at = (length m ≡ length m₀) × (length room ≡ length room₀) × loading.Loading file m₀ room₀ at count m room
 
 abbrev μ-loop : tie.MeasureT-loop
-μ-loop text m₀ room₀ count₀ at₀ m room count at = length text - at
+μ-loop file m₀ room₀ count₀ at₀ m room count at = length file - at
 
--- The text is short, and a line ends before the text does.
-short : (c : tie.In-loop Inv-loop μ-loop) → length (c .before .before .before .before .before .args .text .now) ≤ fileBytes
-short c = let start = c .before .before .before .before .before in ended-is (start .args .text .now) (start .pre) .short
+-- The file is short, and a line ends before the file does.
+short : (c : tie.In-loop Inv-loop μ-loop) → length (c .before .before .before .before .before .args .file .now) ≤ fileBytes
+short c = let start = c .before .before .before .before .before in ended-is (start .args .file .now) (start .pre) .short
 
 line-end : (c : tie.After-find Inv-loop μ-loop)
-    → let turn = c .before .before in c .find .result < length (turn .before .before .before .before .before .args .text .now) - turn .before .loop .at
+    → let turn = c .before .before in c .find .result < length (turn .before .before .before .before .before .args .file .now) - turn .before .loop .at
 line-end c =
     let turn = c .before .before in
     let start = turn .before .before .before .before .before in
     within
-    (start .args .text .now)
-    (ended-is (start .args .text .now) (start .pre))
+    (start .args .file .now)
+    (ended-is (start .args .file .now) (start .pre))
     (turn .before .loop .at)
     (turn .loop-test .taken)
     (c .find .ensures ∙ ap (bytesBefore (code "\n")) (c .before .after .ensures))
@@ -88,9 +88,9 @@ loop-again c =
       loaded .load-line .kept .1 .0 ∙ turn .before .loop .inv .0,
       loaded .load-line .kept .1 .1 .0 ∙ turn .before .loop .inv .1,
       loading.goes-on
-          (start .args .text .now)
+          (start .args .file .now)
           (turn .before .loop .inv .2)
-          (ended-is (start .args .text .now) (start .pre))
+          (ended-is (start .args .file .now) (start .pre))
           (turn .loop-test .taken)
           (found .find .ensures ∙ ap (bytesBefore (code "\n")) (found .before .after .ensures))
           (rw (read .read-line .ensures, add-sub-cancel-left) at (loaded .load-line .ensures)),

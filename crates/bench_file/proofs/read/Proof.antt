@@ -13,7 +13,7 @@ ended-requires c κs = search needs
 returns : tie.Need-returns
 returns c =
     let a = c .before .before .before .args in
-    whole.read-unended (a .text .now) (a .m .now) (a .room .now) (c .before .ended .ensures) (not-true _ (c .if1 .taken))
+    whole.read-unended (a .file .now) (a .m .now) (a .room .now) (c .before .ended .ensures) (not-true _ (c .if1 .taken))
 
 judge-requires : tie.Need-judge-requires
 judge-requires c κs = sym (c .before .ended .ensures) ∙ not-false _ (c .if1 .left)
@@ -27,7 +27,7 @@ returns-2 c =
     let ends = judged .before in
     let a = ends .before .before .before .args in
     whole.read-unfit
-    (a .text .now)
+    (a .file .now)
     (a .m .now)
     (a .room .now)
     (ends .before .ended .ensures)
@@ -62,7 +62,7 @@ returns-3 c =
     let ends = judged .before in
     let a = ends .before .before .before .args in
     whole.read-fit
-    (a .text .now)
+    (a .file .now)
     (a .m .now)
     (a .room .now)
     (ends .before .ended .ensures)

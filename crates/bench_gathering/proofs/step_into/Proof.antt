@@ -15,7 +15,7 @@ part-put-end c =
     let done = c .before .before .before .before .before .before in
     let known = done .before .before .before .before in
     let a = known .before .before .before .before .before .args in
-    part-within (a .output) (ringingAt (a .at) (a .m .now) (a .memory .now) (a .commands .now)) _ refl (done .step .ensures .0) (done .step .ensures .1 .0)
+    part-within (a .text) (a .output) (ringingAt (a .at) (a .m .now) (a .memory .now) (a .commands .now)) _ refl (done .step .ensures .0) (done .step .ensures .1 .0)
 
 put-requires : tie.Need-put-requires
 put-requires c κs =
@@ -24,7 +24,7 @@ put-requires c κs =
     let known = done .before .before .before .before in
     let start = known .before .before .before .before .before in
     let a = start .args in
-    part-fits (a .output) (ringingAt (a .at) (a .m .now) (a .memory .now) (a .commands .now)) _ refl (done .step .ensures .0) (done .step .ensures .1 .0) (a .at .length) _ (start .pre .0)
+    part-fits (a .text) (a .output) (ringingAt (a .at) (a .m .now) (a .memory .now) (a .commands .now)) _ refl (done .step .ensures .0) (done .step .ensures .1 .0) (a .at .length) _ (start .pre .0)
 
 returns : tie.Need-returns
 returns c =
@@ -33,7 +33,7 @@ returns c =
     let done = line .before .before .before .before .before .before in
     let known = done .before .before .before .before in
     let a = known .before .before .before .before .before .args in
-    part-put (a .output) (ringingAt (a .at) (a .m .now) (a .memory .now) (a .commands .now)) _ refl (done .step .ensures .0) (done .step .ensures .1 .0) (a .at .length) _ (a .at .taken) (puts .put .ensures) (done .step .ensures .1 .1)
+    part-put (a .text) (a .output) (ringingAt (a .at) (a .m .now) (a .memory .now) (a .commands .now)) _ refl (done .step .ensures .0) (done .step .ensures .1 .0) (a .at .length) _ (a .at .taken) (puts .put .ensures) (done .step .ensures .1 .1)
 
 pub step-into-spec : {M : Type 1} → statement M
 step-into-spec =

@@ -21,7 +21,7 @@ returns : tie.Need-returns
 returns c =
     let then1 = c .before .before in
     let a = then1 .before .before .before .before .before .args in
-    kinds.line-passes (a .text .now) (then1 .before .starts .ensures) (then1 .if1 .taken) (c .before .after .ensures) (c .passes .ensures)
+    kinds.line-passes (a .file .now) (then1 .before .starts .ensures) (then1 .if1 .taken) (c .before .after .ensures) (c .passes .ensures)
 
 starts-requires-2 : tie.Need-starts-requires-2
 starts-requires-2 c κs = search needs
@@ -38,7 +38,7 @@ returns-2 c =
     let else1 = then2 .before .before .before .before in
     let a = else1 .before .before .before .before .before .args in
     kinds.line-word
-    (a .text .now)
+    (a .file .now)
     (else1 .before .starts .ensures)
     (else1 .if1 .left)
     (then2 .before .starts2 .ensures)
@@ -62,7 +62,7 @@ returns-3 c =
     let else1 = else2 .before .before .before .before in
     let a = else1 .before .before .before .before .before .args in
     kinds.line-command
-    (a .text .now)
+    (a .file .now)
     (else1 .before .starts .ensures)
     (else1 .if1 .left)
     (else2 .before .starts2 .ensures)
@@ -78,7 +78,7 @@ returns-4 c =
     let else1 = else2 .before .before .before .before in
     let a = else1 .before .before .before .before .before .args in
     kinds.line-other
-    (a .text .now)
+    (a .file .now)
     (else1 .before .starts .ensures)
     (else1 .if1 .left)
     (else2 .before .starts2 .ensures)

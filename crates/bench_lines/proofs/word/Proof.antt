@@ -12,7 +12,7 @@ find-requires : tie.Need-find-requires
 find-requires c κs = search needs
 
 returns : tie.Need-returns
-returns c = kinds.word-no-colon (c .before .before .before .args .text .now) (c .before .find .ensures) (c .if1 .taken)
+returns c = kinds.word-no-colon (c .before .before .before .args .file .now) (c .before .find .ensures) (c .if1 .taken)
 
 slice-aggregate-decimal : tie.Need-slice-aggregate-decimal
 slice-aggregate-decimal c = sym (length-take-le _ _ (omega arith))
@@ -24,7 +24,7 @@ returns-2 : tie.Need-returns-2
 returns-2 c =
     let place = c .before .before in
     let test = place .before .before in
-    kinds.word-no-place (test .before .before .before .args .text .now) (test .before .find .ensures) (test .if1 .left) (place .decimal .ensures) (c .enum-told .given .1)
+    kinds.word-no-place (test .before .before .before .args .file .now) (test .before .find .ensures) (test .if1 .left) (place .decimal .ensures) (c .enum-told .given .1)
 
 after-requires : tie.Need-after-requires
 after-requires c κs = search needs
@@ -38,7 +38,7 @@ returns-3 c =
     let p = d .before .before .before in
     let w = p .before .before .before .before in
     kinds.word-no-value
-    (w .before .before .before .args .text .now)
+    (w .before .before .before .args .file .now)
     (w .before .find .ensures)
     (w .if1 .left)
     (p .before .before .decimal .ensures)
@@ -53,7 +53,7 @@ returns-4 c =
     let p = d .before .before .before in
     let w = p .before .before .before .before in
     kinds.word-is
-    (w .before .before .before .args .text .now)
+    (w .before .before .before .args .file .now)
     (w .before .find .ensures)
     (w .if1 .left)
     (p .before .before .decimal .ensures)

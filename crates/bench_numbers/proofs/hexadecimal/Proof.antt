@@ -9,10 +9,10 @@ value-requires : tie.Need-value-requires
 value-requires c κs = search needs
 
 returns : tie.Need-returns
-returns c = digits.hexadecimal-by (c .before .before .before .args .text .now) (c .before .if1 .taken) (c .value .ensures)
+returns c = digits.hexadecimal-by (c .before .before .before .args .bytes .now) (c .before .if1 .taken) (c .value .ensures)
 
 returns-2 : tie.Need-returns-2
-returns-2 c = digits.hexadecimal-none (c .before .before .args .text .now) (c .if1 .left)
+returns-2 c = digits.hexadecimal-none (c .before .before .args .bytes .now) (c .if1 .left)
 
 pub hexadecimal-spec : {M : Type 1} → statement M
 hexadecimal-spec = tie.close (tie.spec value-requires returns returns-2)

@@ -6,10 +6,10 @@ use Rattle.bench_numbers.proofs.leading_zero.Statement.{statement}
 use Rattle.bench_numbers.proofs.leading_zero.Tie as tie
 
 returns : tie.Need-returns
-returns c = digits.short-zero (c .before .args .text .now) (c .if1 .taken)
+returns c = digits.short-zero (c .before .args .bytes .now) (c .if1 .taken)
 
 returns-2 : tie.Need-returns-2
-returns-2 c = digits.long-zero (c .before .before .args .text .now) (c .before .if1 .left)
+returns-2 c = digits.long-zero (c .before .before .args .bytes .now) (c .before .if1 .left)
 
 pub leading-zero-spec : {M : Type 1} → statement M
 leading-zero-spec = tie.close

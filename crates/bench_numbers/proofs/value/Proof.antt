@@ -12,11 +12,11 @@ use Rattle.bench_numbers.proofs.value.Statement.{statement}
 use Rattle.bench_numbers.proofs.value.Tie as tie
 
 abbrev Inv-loop : tie.InvT-loop
-Inv-loop text base limit v₀ i₀ v i =
-    (i ≤ length text) × (v < limit) × (allDigits base text ≡ allDigits base (drop i text)) × (writtenAfter base 0 text ≡ writtenAfter base v (drop i text))
+Inv-loop bytes base limit v₀ i₀ v i =
+    (i ≤ length bytes) × (v < limit) × (allDigits base bytes ≡ allDigits base (drop i bytes)) × (writtenAfter base 0 bytes ≡ writtenAfter base v (drop i bytes))
 
 abbrev μ-loop : tie.MeasureT-loop
-μ-loop text base limit v₀ i₀ v i = length text - i
+μ-loop bytes base limit v₀ i₀ v i = length bytes - i
 
 digit-requires : tie.Need-digit-requires Inv-loop μ-loop
 digit-requires c κs = search needs
@@ -24,7 +24,7 @@ digit-requires c κs = search needs
 returns : tie.Need-returns Inv-loop μ-loop
 returns c =
     let w = c .before .before .before in
-    let d : w .before .before .before .args .base ≤ digitValue (getD (w .before .before .before .args .text .now) (w .before .loop .i) 0) = omega (arith, c .before .digit .ensures) in
+    let d : w .before .before .before .args .base ≤ digitValue (getD (w .before .before .before .args .bytes .now) (w .before .loop .i) 0) = omega (arith, c .before .digit .ensures) in
     sym (digits.number-none _ _ _ (w .before .loop .inv .2 ∙ digits.digits-stop _ _ (w .loop-test .taken) _ d))
 
 mul-v : tie.Need-mul-v Inv-loop μ-loop
@@ -38,7 +38,7 @@ returns-2 c =
     let d = c .before .before in
     let w = d .before .before in
     let a = w .before .before .before .args in
-    let g = digits.written-grows (a .base) (w .before .loop .v * a .base + d .digit .result) (drop (w .before .loop .i + 1) (a .text .now)) (omega arith) in
+    let g = digits.written-grows (a .base) (w .before .loop .v * a .base + d .digit .result) (drop (w .before .loop .i + 1) (a .bytes .now)) (omega arith) in
     let e = w .before .loop .inv .3 ∙ digits.written-on _ _ (w .loop-test .taken) (a .base) (w .before .loop .v) in
     sym (digits.number-large _ _ _ (rw (e, ← d .digit .ensures) (omega (arith, g, c .if2 .taken))))
 
@@ -47,7 +47,7 @@ loop-again c =
     let d = c .before .before in
     let w = d .before .before in
     let a = w .before .before .before .args in
-    let h : digitValue (getD (a .text .now) (w .before .loop .i) 0) < a .base = omega (arith, d .digit .ensures) in (
+    let h : digitValue (getD (a .bytes .now) (w .before .loop .i) 0) < a .base = omega (arith, d .digit .ensures) in (
       omega arith,
       c .if2 .left,
       w .before .loop .inv .2 ∙ digits.digits-on _ _ (w .loop-test .taken) _ h,

@@ -14,7 +14,7 @@ refusal-requires : tie.Need-refusal-requires
 refusal-requires c κs = search needs
 
 returns : tie.Need-returns
-returns c = refused-machine _ _ (c .before .refusal .ensures) (c .if1 .taken)
+returns c = refused-machine _ _ _ (c .before .refusal .ensures) (c .if1 .taken)
 
 data-refusal-requires : tie.Need-data-refusal-requires
 data-refusal-requires c κs = search needs
@@ -23,7 +23,7 @@ returns-2 : tie.Need-returns-2
 returns-2 c =
     let lists = c .before in
     let whole = lists .before in
-    refused-data _ _ (sym (whole .before .refusal .ensures) ∙ whole .if1 .left) (lists .data-refusal .ensures) (c .if2 .taken)
+    refused-data _ _ _ (sym (whole .before .refusal .ensures) ∙ whole .if1 .left) (lists .data-refusal .ensures) (c .if2 .taken)
 
 memory-good-requires : tie.Need-memory-good-requires
 memory-good-requires c κs = search needs
@@ -34,15 +34,15 @@ returns-3 c =
     let none = memory .before in
     let lists = none .before in
     let whole = lists .before in
-    refused-memory _ _ (sym (whole .before .refusal .ensures) ∙ whole .if1 .left) (sym (lists .data-refusal .ensures) ∙ none .if2 .left)
+    refused-memory _ _ _ (sym (whole .before .refusal .ensures) ∙ whole .if1 .left) (sym (lists .data-refusal .ensures) ∙ none .if2 .left)
     (sym (memory .memory-good .ensures) ∙ not-true _ (c .if3 .taken))
 
-delay-refusal-requires : tie.Need-delay-refusal-requires
-delay-refusal-requires c κs =
+unit-refusal-requires : tie.Need-unit-refusal-requires
+unit-refusal-requires c κs =
     let whole = c .before .before .before .before in
     let first = whole .before in
     let passed = sym (first .refusal .ensures) ∙ whole .if1 .left in
-    (is-ready _ passed .reaches, few-ticks (first .before .before .before .args .m .now) [] passed)
+    (is-ready _ _ passed .reaches, few-ticks _ (first .before .before .before .args .m .now) [] passed)
 
 returns-4 : tie.Need-returns-4
 returns-4 c =
@@ -51,8 +51,8 @@ returns-4 c =
     let none = memory .before in
     let lists = none .before in
     let whole = lists .before in
-    units-decide _ _ (sym (whole .before .refusal .ensures) ∙ whole .if1 .left) (sym (lists .data-refusal .ensures) ∙ none .if2 .left)
-    (sym (memory .memory-good .ensures) ∙ not-false _ (good .if3 .left)) (c .delay-refusal .ensures)
+    units-decide _ _ _ (sym (whole .before .refusal .ensures) ∙ whole .if1 .left) (sym (lists .data-refusal .ensures) ∙ none .if2 .left)
+    (sym (memory .memory-good .ensures) ∙ not-false _ (good .if3 .left)) (c .unit-refusal .ensures)
 
 pub refusal-spec : {M : Type 1} → statement M
 refusal-spec =
@@ -64,5 +64,5 @@ refusal-spec =
     returns-2
     memory-good-requires
     returns-3
-    delay-refusal-requires
+    unit-refusal-requires
     returns-4)

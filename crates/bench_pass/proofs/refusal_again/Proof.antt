@@ -13,18 +13,18 @@ data-refusal-requires : tie.Need-data-refusal-requires
 data-refusal-requires c κs = search needs
 
 returns : tie.Need-returns
-returns c = again-data _ (c .before .data-refusal .ensures) (c .if1 .taken)
+returns c = again-data _ _ (c .before .data-refusal .ensures) (c .if1 .taken)
 
-delay-refusal-requires : tie.Need-delay-refusal-requires
-delay-refusal-requires c κs =
+unit-refusal-requires : tie.Need-unit-refusal-requires
+unit-refusal-requires c κs =
     let start = c .before .before .before in
-    (is-ready _ (start .pre) .reaches, few-ticks (start .args .m .now) [] (start .pre))
+    (is-ready _ _ (start .pre) .reaches, few-ticks _ (start .args .m .now) [] (start .pre))
 
 returns-2 : tie.Need-returns-2
 returns-2 c =
     let passed = c .before in
-    again-units _ (sym (passed .before .data-refusal .ensures) ∙ passed .if1 .left) (c .delay-refusal .ensures)
+    again-units _ _ (sym (passed .before .data-refusal .ensures) ∙ passed .if1 .left) (c .unit-refusal .ensures)
 
 pub refusal-again-spec : {M : Type 1} → statement M
 refusal-again-spec =
-    tie.close (tie.spec data-refusal-requires returns delay-refusal-requires returns-2)
+    tie.close (tie.spec data-refusal-requires returns unit-refusal-requires returns-2)

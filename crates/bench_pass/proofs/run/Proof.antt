@@ -6,28 +6,29 @@ use Rattle.bench_pass.proofs.run.Statement.{statement}
 use Rattle.bench_pass.proofs.run.Tie as tie
 
 ticks-requires : tie.Need-ticks-requires
-ticks-requires c κs = ready _ _ (c .before .before .before .before .pre .0) .reaches
+ticks-requires c κs = ready _ _ _ (c .before .before .before .before .pre .0) .reaches
 
 part-run-end : tie.Need-part-run-end
 part-run-end c =
     let ticks = c .before in
     let start = ticks .before .before .before .before .before in
-    entries-there (start .args .m .now) (start .args .memory .now) (start .pre .0) (start .pre .1 .0) (ticks .ticks .ensures)
+    entries-there _ (start .args .m .now) (start .args .memory .now) (start .pre .0) (start .pre .1 .0) (ticks .ticks .ensures)
 
 run-requires : tie.Need-run-requires
 run-requires c κs =
     let ticks = c .before .before .before .before .before in
     let start = ticks .before .before .before .before .before in
-    let m = start .args .m .now in
-    let memory = start .args .memory .now in
-    (ready m memory (start .pre .0), (numbers m memory (start .pre .0) (start .pre .1 .0) (ticks .ticks .ensures), (ticks-most m memory (start .pre .0), start .pre .1 .1)))
+    let a = start .args in
+    let m = a .m .now in
+    let memory = a .memory .now in
+    (ready (a .text) m memory (start .pre .0), (numbers (a .text) m memory (start .pre .0) (start .pre .1 .0) (ticks .ticks .ensures), (ticks-most (a .text) m memory (start .pre .0), start .pre .1 .1)))
 
 returns : tie.Need-returns
 returns c =
     let ran = c .before .before .before .before .before in
     let ticks = ran .before .before .before .before .before .before in
     let start = ticks .before .before .before .before .before in
-    passed-so (start .args .m .now) (start .args .memory .now) (start .pre .0) (start .pre .1 .0) (ticks .ticks .ensures) (ran .run .ensures)
+    passed-so _ (start .args .m .now) (start .args .memory .now) (start .pre .0) (start .pre .1 .0) (ticks .ticks .ensures) (ran .run .ensures)
 
 pub run-spec : {M : Type 1} → statement M
 run-spec =

@@ -11,7 +11,7 @@ returns : tie.Need-returns
 returns c =
     let took = c .before in
     let known = took .before .before .before .pre in
-    again-decides _ _ (known .good (took .if1 .taken)) (known .memory-good (took .if1 .taken)) (c .refusal-again .ensures)
+    again-decides _ _ _ (known .good (took .if1 .taken)) (known .memory-good (took .if1 .taken)) (c .refusal-again .ensures)
 
 returns-2 : tie.Need-returns-2
 returns-2 c = c .before .before .before .pre .as-before (c .if1 .left)

@@ -1,5 +1,6 @@
 -- `bench_ringing::ring_update` meets its contract: an update of the part of the commands from a place on.
 -- Assumes nothing.
+use Rattle.texts.proofs.One.{one}
 use Rattle.bench_ringing.proofs.Turns.{update-from}
 use borrow.Author.Needs.{needs}
 use Rattle.bench_ringing.proofs.ring_update.Statement.{statement}
@@ -9,14 +10,17 @@ start-of-requires : tie.Need-start-of-requires
 start-of-requires c κs = search needs
 
 take-commands-requires : tie.Need-take-commands-requires
-take-commands-requires c κs = search needs
+take-commands-requires c κs =
+    let start = c .before .before .before .before .before .before in
+    rw (one (start .args .text)) at (start .pre)
 
 returns : tie.Need-returns
 returns c =
     let taken = c .before .before in
     let part = taken .before .before .before .before in
     let a = part .before .before .before .args in
-    update-from (a .m .now) (a .commands .now) _ (a .from) (part .start-of .ensures .0) (part .start-of .ensures .1) (taken .take-commands .ensures)
+    rw (one (a .text))
+    (update-from (a .m .now) (a .commands .now) _ (a .from) (part .start-of .ensures .0) (part .start-of .ensures .1) (taken .take-commands .ensures))
 
 pub ring-update-spec : {M : Type 1} → statement M
 ring-update-spec =

@@ -19,8 +19,8 @@ returns c =
     let start = test .before .before .before .before .before in
     let a = start .args in
     let n = start .pre .1 .1 .0 in
-    let stays = refused-stays (a .m .now) (a .memory .now) (λ e. test .if1 .taken (n ∙ e)) in
-    step-refused (a .output) (ringingAt (a .at) (a .m .now) (a .memory .now) (a .commands .now)) (a .line .now) (a .at .taken) (start .pre .0) (start .pre .1 .1 .0) (stays .0) (stays .1) (test .if1 .taken) (c .put-refusal .ensures)
+    let stays = refused-stays (a .text) (a .m .now) (a .memory .now) (λ e. test .if1 .taken (n ∙ e)) in
+    step-refused (a .text) (a .output) (ringingAt (a .at) (a .m .now) (a .memory .now) (a .commands .now)) (a .line .now) (a .at .taken) (start .pre .0) (start .pre .1 .1 .0) (stays .0) (stays .1) (test .if1 .taken) (c .put-refusal .ensures)
 
 run-requires : tie.Need-run-requires
 run-requires c κs = search needs
@@ -30,7 +30,7 @@ ring-update-requires c κs =
     let ran = c .before .before .before .before .before .before in
     let passes = ran .before .before .before in
     let start = passes .before .before .before .before .before in
-    rw (ran .run .ensures .0) (last-passes (start .args .m .now) (start .args .memory .now) (sym (start .pre .1 .1 .0) ∙ passes .if1 .left))
+    rw (ran .run .ensures .0) (last-passes _ (start .args .m .now) (start .args .memory .now) (sym (start .pre .1 .1 .0) ∙ passes .if1 .left))
 
 add-taken : tie.Need-add-taken
 add-taken c =
@@ -40,7 +40,7 @@ add-taken c =
     let passes = ran .before .before .before in
     let start = passes .before .before .before .before .before in
     let a = start .args in
-    omega (arith, start .good .1 .1 .0 .0, taken-most _ (a .commands .now) (a .at .taken) (updated .ring-update .ensures .0))
+    omega (arith, start .good .1 .1 .1 .1 .0 .0, taken-most (a .text) _ (a .commands .now) (a .at .taken) (updated .ring-update .ensures .0))
 
 put-refusal-requires-2 : tie.Need-put-refusal-requires-2
 put-refusal-requires-2 c κs = search needs
@@ -54,7 +54,7 @@ returns-2 c =
     let passes = ran .before .before .before in
     let start = passes .before .before .before .before .before in
     let a = start .args in
-    step-update-refused (a .output) (ringingAt (a .at) (a .m .now) (a .memory .now) (a .commands .now)) (a .line .now) (a .at .taken) (start .pre .0) (start .pre .1 .1 .0) (ran .run .ensures .0) (ran .run .ensures .1) (passes .if1 .left) (updated .ring-update .ensures .1) (updated .ring-update .ensures .0) (test .if2 .taken) (c .put-refusal2 .ensures)
+    step-update-refused (a .text) (a .output) (ringingAt (a .at) (a .m .now) (a .memory .now) (a .commands .now)) (a .line .now) (a .at .taken) (start .pre .0) (start .pre .1 .1 .0) (ran .run .ensures .0) (ran .run .ensures .1) (passes .if1 .left) (updated .ring-update .ensures .1) (updated .ring-update .ensures .0) (test .if2 .taken) (c .put-refusal2 .ensures)
 
 put-machine-requires : tie.Need-put-machine-requires
 put-machine-requires c κs =
@@ -65,7 +65,7 @@ put-machine-requires c κs =
     let passes = ran .before .before .before in
     let start = passes .before .before .before .before .before in
     let a = start .args in
-    lined _ (drop (a .at .taken) (a .commands .now)) (rw (ran .run .ensures .0) (last-passes (a .m .now) (a .memory .now) (sym (start .pre .1 .1 .0) ∙ passes .if1 .left))) (updated .ring-update .ensures .1)
+    lined (a .text) _ (drop (a .at .taken) (a .commands .now)) (rw (ran .run .ensures .0) (last-passes (a .text) (a .m .now) (a .memory .now) (sym (start .pre .1 .1 .0) ∙ passes .if1 .left))) (updated .ring-update .ensures .1)
 
 returns-3 : tie.Need-returns-3
 returns-3 c =
@@ -77,7 +77,7 @@ returns-3 c =
     let passes = ran .before .before .before in
     let start = passes .before .before .before .before .before in
     let a = start .args in
-    step-goes (a .output) (ringingAt (a .at) (a .m .now) (a .memory .now) (a .commands .now)) (a .line .now) (a .at .taken) (start .pre .0) (start .pre .1 .1 .0) (ran .run .ensures .0) (ran .run .ensures .1) (passes .if1 .left) (updated .ring-update .ensures .1) (updated .ring-update .ensures .0) (test .if2 .left) (line .put-machine .ensures)
+    step-goes (a .text) (a .output) (ringingAt (a .at) (a .m .now) (a .memory .now) (a .commands .now)) (a .line .now) (a .at .taken) (start .pre .0) (start .pre .1 .1 .0) (ran .run .ensures .0) (ran .run .ensures .1) (passes .if1 .left) (updated .ring-update .ensures .1) (updated .ring-update .ensures .0) (test .if2 .left) (line .put-machine .ensures)
 
 pub step-spec : {M : Type 1} → statement M
 step-spec =

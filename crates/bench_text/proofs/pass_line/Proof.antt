@@ -50,10 +50,10 @@ put-requires-3 c κs = omega (arith, right-ends (c .before .before))
 returns : tie.Need-returns
 returns c =
     let right = c .before .before .before in
-    let right-text = right .before .before in
-    let left = right-text .before .before .before in
-    let left-text = left .before .before in
-    let counter = left-text .before .before .before in
+    let right-bytes = right .before .before in
+    let left = right-bytes .before .before .before in
+    let left-bytes = left .before .before in
+    let counter = left-bytes .before .before .before in
     let a = counter .before .before .before .args in
     lines.put-pass
     (a .line .now)
@@ -61,9 +61,9 @@ returns c =
     (a .left)
     (a .right)
     (done (counter .put-named .ensures))
-    (done (left-text .put .ensures))
+    (done (left-bytes .put .ensures))
     (done (left .put-signed .ensures))
-    (done (right-text .put2 .ensures))
+    (done (right-bytes .put2 .ensures))
     (done (right .put-signed2 .ensures))
     (done (c .put3 .ensures))
 

@@ -6,6 +6,7 @@ use Prim.Native.Nat.{_-_}
 use native.Mathlib.Omega.{arith}
 use lib.ListN.{length, getD}
 use Rattle.layout.specs.Layout.{nAt}
+use Rattle.texts.specs.declared.Text.the-variants.{Of1978}
 use Rattle.machine.proofs.SoundMachine.{sound-controls}
 use Rattle.pass_model.proofs.Asked.{is-sound, is-whole}
 use Rattle.wave_format.specs.WaveFormat.{headerBytes}
@@ -21,19 +22,19 @@ use Rattle.bench_wave.proofs.sound.Tie as tie
 slice-read-n : tie.Need-slice-read-n
 slice-read-n c =
     let start = c .before .before .before .before in
-    omega (arith, is-whole (start .args .m .now) [] (start .pre .0))
+    omega (arith, is-whole Of1978 (start .args .m .now) [] (start .pre .0))
 
 rate-requires : tie.Need-rate-requires
 rate-requires c κs =
     let start = c .before .before .before .before in
-    let s = sound-controls (start .args .m .now) (is-sound (start .args .m .now) [] (start .pre .0)) in
+    let s = sound-controls Of1978 (start .args .m .now) (is-sound Of1978 (start .args .m .now) [] (start .pre .0)) in
     (omega (arith, s .nLow), s .nHigh)
 
 put-header-requires : tie.Need-put-header-requires
 put-header-requires c κs =
     let start = c .before .before .before .before .before .before in
     let a = start .args in
-    let s = sound-controls (a .m .now) (is-sound (a .m .now) [] (start .pre .0)) in
+    let s = sound-controls Of1978 (a .m .now) (is-sound Of1978 (a .m .now) [] (start .pre .0)) in
     (search needs, (rw (c .before .rate .ensures) (rate-below (getD (a .m .now) nAt 0) (omega (arith, s .nLow))), omega (arith, start .pre .1)))
 
 gather-frames-requires : tie.Need-gather-frames-requires
@@ -61,7 +62,7 @@ add-t23 c =
     let long : length (a .out .now) ≡ waveRoom = search needs in
     let same = headed-long (a .out .now) _ _ (put .put-header .ensures) ∙ long in
     let r : Ringing = record { passes = a .passes; machine = a .m .now; memory = a .memory .now; commands = a .commands .now; number = 0 } in
-    record { fits = omega (arith, called .gather-frames .ensures .0, same, gathered-length Frames (length (put .put-header .last .0) - headerBytes) r) }
+    record { fits = omega (arith, called .gather-frames .ensures .0, same, gathered-length Of1978 Frames (length (put .put-header .last .0) - headerBytes) r) }
 
 returns-2 : tie.Need-returns-2
 returns-2 c =

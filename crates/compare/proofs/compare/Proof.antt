@@ -14,13 +14,13 @@ returns : tie.Need-returns
 returns c =
     let asked = c .before in
     let a = asked .before .before .before .before .args in
-    says-no (a .m .now) (a .first .now) (a .second .now) (asked .refusal .ensures) (c .if1 .taken)
+    says-no (a .text) (a .m .now) (a .first .now) (a .second .now) (asked .refusal .ensures) (c .if1 .taken)
 
 agrees-requires : tie.Need-agrees-requires
 agrees-requires c κs =
     let asked = c .before in
     let a = asked .before .before .before .before .args in
-    let p = is-comparable (a .m .now) (a .first .now) (a .second .now) (sym (asked .refusal .ensures) ∙ c .if1 .left) in
+    let p = is-comparable (a .text) (a .m .now) (a .first .now) (a .second .now) (sym (asked .refusal .ensures) ∙ c .if1 .left) in
     (p .traceable, p .ordered)
 
 returns-2 : tie.Need-returns-2
@@ -28,7 +28,7 @@ returns-2 c =
     let passed = c .before in
     let asked = passed .before in
     let a = asked .before .before .before .before .args in
-    says-agrees (a .m .now) (a .first .now) (a .second .now) (asked .refusal .ensures) (passed .if1 .left) (c .agrees .ensures)
+    says-agrees (a .text) (a .m .now) (a .first .now) (a .second .now) (asked .refusal .ensures) (passed .if1 .left) (c .agrees .ensures)
 
 pub compare-spec : {M : Type 1} → statement M
 compare-spec = tie.close (tie.spec refusal-requires returns agrees-requires returns-2)

@@ -13,20 +13,20 @@ returns : tie.Need-returns
 returns c =
     let machine = c .before in
     let a = machine .before .before .before .before .args in
-    refused-first (a .m .now) (a .first .now) (a .second .now) (machine .refusal .ensures) (c .if1 .taken)
+    refused-first (a .text) (a .m .now) (a .first .now) (a .second .now) (machine .refusal .ensures) (c .if1 .taken)
 
 ticks-requires : tie.Need-ticks-requires
 ticks-requires c κs =
     let machine = c .before in
     let a = machine .before .before .before .before .args in
-    is-traceable (a .m .now) (sym (machine .refusal .ensures) ∙ c .if1 .left) .reaches
+    is-traceable (a .text) (a .m .now) (sym (machine .refusal .ensures) ∙ c .if1 .left) .reaches
 
 order-refusal-requires : tie.Need-order-refusal-requires
 order-refusal-requires c κs =
     let whole = c .before in
     let machine = whole .before in
     let a = machine .before .before .before .before .args in
-    rw (c .ticks .ensures) (is-traceable (a .m .now) (sym (machine .refusal .ensures) ∙ whole .if1 .left) .ticks)
+    rw (c .ticks .ensures) (is-traceable (a .text) (a .m .now) (sym (machine .refusal .ensures) ∙ whole .if1 .left) .ticks)
 
 returns-2 : tie.Need-returns-2
 returns-2 c =
@@ -35,7 +35,7 @@ returns-2 c =
     let whole = ticks .before in
     let machine = whole .before in
     let a = machine .before .before .before .before .args in
-    refused-second (a .m .now) (a .first .now) (a .second .now) (sym (machine .refusal .ensures) ∙ whole .if1 .left)
+    refused-second (a .text) (a .m .now) (a .first .now) (a .second .now) (sym (machine .refusal .ensures) ∙ whole .if1 .left)
     (rw (ticks .ticks .ensures) at (first .order-refusal .ensures)) (c .if2 .taken)
 
 order-refusal-requires-2 : tie.Need-order-refusal-requires-2
@@ -44,7 +44,7 @@ order-refusal-requires-2 c κs =
     let whole = ticks .before in
     let machine = whole .before in
     let a = machine .before .before .before .before .args in
-    rw (ticks .ticks .ensures) (is-traceable (a .m .now) (sym (machine .refusal .ensures) ∙ whole .if1 .left) .ticks)
+    rw (ticks .ticks .ensures) (is-traceable (a .text) (a .m .now) (sym (machine .refusal .ensures) ∙ whole .if1 .left) .ticks)
 
 returns-3 : tie.Need-returns-3
 returns-3 c =
@@ -55,7 +55,7 @@ returns-3 c =
     let machine = whole .before in
     let a = machine .before .before .before .before .args in
     let t = ticks .ticks .ensures in
-    refused-third (a .m .now) (a .first .now) (a .second .now) (sym (machine .refusal .ensures) ∙ whole .if1 .left)
+    refused-third (a .text) (a .m .now) (a .first .now) (a .second .now) (sym (machine .refusal .ensures) ∙ whole .if1 .left)
     (sym (rw t at (first .order-refusal .ensures)) ∙ passed .if2 .left) (rw t at (c .order-refusal2 .ensures))
 
 pub refusal-spec : {M : Type 1} → statement M

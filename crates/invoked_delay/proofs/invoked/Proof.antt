@@ -46,7 +46,7 @@ returns c =
     let d = r .before in
     let n = d .before .before in
     let start = n .before .before .before in
-    taken _ _ _ record { number = n .unit-of .ensures .0; unit = d .delay-at .ensures; runs-is = r .runs .ensures } _ _ _ (start .pre .1 .0) (start .pre .1 .1 .1 .0)
+    taken _ _ _ _ record { number = n .unit-of .ensures .0; unit = d .delay-at .ensures; runs-is = r .runs .ensures } _ _ _ (start .pre .1 .0) (start .pre .1 .1 .1 .0)
     (g .given .ensures .is) (i .invoke-delay .ensures) (p .put-modifier-at .ensures) (w .unit-turn .ensures)
 
 pub invoked-spec : {M : Type 1} → statement M

@@ -38,10 +38,11 @@ returns c =
     let sweep = runs .before .before in
     let second = sweep .before .before in
     let first = second .before in
-    let m = first .before .before .before .args .m .now in
+    let a = first .before .before .before .args in
+    let m = a .m .now in
     both
     (both
-    (limits-swept (first .before .generator-limits .result) (repeated (limitsOf generatorRegisters) 44) m 0 8 (sweep .swept .result) (first .before .generator-limits .ensures) (sweep .swept .ensures))
+    (limits-swept (first .before .generator-limits .result) (repeated (limitsOf (generatorRegisters (a .text))) 44) m 0 8 (sweep .swept .result) (first .before .generator-limits .ensures) (sweep .swept .ensures))
     (fields-tested _ (first .flags .result) (first .flags .ensures) builtRun tt 6 m GMODE generatorWords 256 (runs .fields-flagged .result) (runs .fields-flagged .ensures)))
     (fields-tested _ (second .flags2 .result) (second .flags2 .ensures) (λ k. builtOscillator (k % 16)) tt 0 m GMODE generatorWords 256 (c .fields-flagged2 .result) (c .fields-flagged2 .ensures))
 

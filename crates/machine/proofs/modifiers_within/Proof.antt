@@ -38,11 +38,12 @@ returns c =
     let min = mrm .before in
     let sweep = min .before in
     let flags = sweep .before .before in
-    let m = flags .before .before .before .args .m .now in
+    let a = flags .before .before .before .args in
+    let m = a .m .now in
     both
     (both
     (both
-    (limits-swept (flags .before .modifier-limits .result) (repeated (limitsOf modifierRegisters) 16) m (modifierAt 0) 8 (sweep .swept .result) (flags .before .modifier-limits .ensures) (sweep .swept .ensures))
+    (limits-swept (flags .before .modifier-limits .result) (repeated (limitsOf (modifierRegisters (a .text))) 16) m (modifierAt 0) 8 (sweep .swept .result) (flags .before .modifier-limits .ensures) (sweep .swept .ensures))
     (min .words-below .ensures))
     (mrm .words-below2 .ensures))
     (fields-tested _ (flags .flags .result) (flags .flags .ensures) builtFunction tt 4 m (modifierAt 0 + MMODE) modifierWords 128 (c .fields-flagged .result) (c .fields-flagged .ensures))

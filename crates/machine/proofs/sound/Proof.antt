@@ -44,7 +44,7 @@ returns c =
       delays .delays-within .ensures,
       c .ticks-counted .ensures,
     )
-    (sym (sound-swept (sums .before .before .args .m .now)))
+    (sym (sound-swept (sums .before .before .args .text) (sums .before .before .args .m .now)))
 
 pub sound-spec : {M : Type 1} → statement M
 sound-spec =

@@ -10,28 +10,30 @@ use Rattle.lists.proofs.Counts.{count-below-next, count-below-le}
 use Rattle.order.specs.Order.{inMode}
 use Rattle.order.proofs.in_modes.Statement.{statement}
 use Rattle.order.proofs.in_modes.Tie as tie
-use Rattle.layout.specs.Machine.{Machine, ticksOf, runModeAt}
+use Rattle.layout.specs.Machine.{Machine, ticksOf}
+use Rattle.texts.specs.Texts.{runModeAt}
+use Rattle.texts.specs.declared.Text.{Text}
 use Rattle.modes.specs.Modes.{readData, writeData}
 
 -- How many of the first g generators are in a run mode, and one generator more.
-abbrev among : Machine → ℕ → ℕ → ℕ
-among m r g = countBelow (λ k. eqb (runModeAt m k) r) g
+abbrev among : Text → Machine → ℕ → ℕ → ℕ
+among text m r g = countBelow (λ k. eqb (runModeAt text m k) r) g
 
-next : (m : Machine) (r g n b : ℕ) → n ≡ among m r g → b ≡ cond (eqb (runModeAt m g) r) 1 0 → n + b ≡ among m r (g + 1)
-next m r g n b p q = rw (p, q) (count-below-next (λ k. eqb (runModeAt m k) r) g)
+next : (text : Text) (m : Machine) (r g n b : ℕ) → n ≡ among text m r g → b ≡ cond (eqb (runModeAt text m g) r) 1 0 → n + b ≡ among text m r (g + 1)
+next text m r g n b p q = rw (p, q) (count-below-next (λ k. eqb (runModeAt text m k) r) g)
 
-fits : (m : Machine) (r g n : ℕ) → n ≡ among m r g → n ≤ g
-fits m r g n p = rw p (count-below-le (λ k. eqb (runModeAt m k) r) g)
+fits : (text : Text) (m : Machine) (r g n : ℕ) → n ≡ among text m r g → n ≤ g
+fits text m r g n p = rw p (count-below-le (λ k. eqb (runModeAt text m k) r) g)
 
 -- A mode that is read, as a count of 0 or 1.
-one : (m : Machine) (g r : ℕ) {run n : ℕ} → run ≡ runModeAt m g → n ≡ cond (eqb run r) 1 0 → n ≡ cond (eqb (runModeAt m g) r) 1 0
-one m g r e f = f ∙ ap (λ (x : ℕ). cond (eqb x r) 1 0) e
+one : (text : Text) (m : Machine) (g r : ℕ) {run n : ℕ} → run ≡ runModeAt text m g → n ≡ cond (eqb run r) 1 0 → n ≡ cond (eqb (runModeAt text m g) r) 1 0
+one text m g r e f = f ∙ ap (λ (x : ℕ). cond (eqb x r) 1 0) e
 
 abbrev Inv-loop : tie.InvT-loop
-Inv-loop m t reads₀ writes₀ g₀ reads writes g = (g ≤ t) × (reads ≡ among m readData g) × (writes ≡ among m writeData g)
+Inv-loop text m t reads₀ writes₀ g₀ reads writes g = (g ≤ t) × (reads ≡ among text m readData g) × (writes ≡ among text m writeData g)
 
 abbrev μ-loop : tie.MeasureT-loop
-μ-loop m t reads₀ writes₀ g₀ reads writes g = t - g
+μ-loop text m t reads₀ writes₀ g₀ reads writes g = t - g
 
 ticks-requires : tie.Need-ticks-requires Inv-loop μ-loop
 ticks-requires c κs = c .before .pre .0
@@ -51,9 +53,10 @@ is-mode-requires c κs = tt
 add-reads : tie.Need-add-reads Inv-loop μ-loop
 add-reads c =
     let z = c .before .before .before in
-    let m = z .before .before .before .args .m .now in
-    let counted = one m (z .loop .g) readData (c .before .run-mode .ensures) (c .is-mode .ensures) in
-    omega (arith, fits m readData (z .loop .g + 1) _ (next m readData (z .loop .g) _ _ (z .loop .inv .1) counted))
+    let a = z .before .before .before .args in
+    let m = a .m .now in
+    let counted = one (a .text) m (z .loop .g) readData (c .before .run-mode .ensures) (c .is-mode .ensures) in
+    omega (arith, fits (a .text) m readData (z .loop .g + 1) _ (next (a .text) m readData (z .loop .g) _ _ (z .loop .inv .1) counted))
 
 is-mode-requires-2 : tie.Need-is-mode-requires-2 Inv-loop μ-loop
 is-mode-requires-2 c κs = tt
@@ -61,18 +64,20 @@ is-mode-requires-2 c κs = tt
 add-writes : tie.Need-add-writes Inv-loop μ-loop
 add-writes c =
     let z = c .before .before .before .before in
-    let m = z .before .before .before .args .m .now in
-    let counted = one m (z .loop .g) writeData (c .before .before .run-mode .ensures) (c .is-mode2 .ensures) in
-    omega (arith, fits m writeData (z .loop .g + 1) _ (next m writeData (z .loop .g) _ _ (z .loop .inv .2) counted))
+    let a = z .before .before .before .args in
+    let m = a .m .now in
+    let counted = one (a .text) m (z .loop .g) writeData (c .before .before .run-mode .ensures) (c .is-mode2 .ensures) in
+    omega (arith, fits (a .text) m writeData (z .loop .g + 1) _ (next (a .text) m writeData (z .loop .g) _ _ (z .loop .inv .2) counted))
 
 loop-again : tie.Need-loop-again Inv-loop μ-loop
 loop-again c =
     let z = c .before .before .before .before in
-    let m = z .before .before .before .args .m .now in
+    let a = z .before .before .before .args in
+    let m = a .m .now in
     let run = c .before .before .run-mode .ensures in (
       omega arith,
-      next m readData (z .loop .g) _ _ (z .loop .inv .1) (one m (z .loop .g) readData run (c .before .is-mode .ensures)),
-      next m writeData (z .loop .g) _ _ (z .loop .inv .2) (one m (z .loop .g) writeData run (c .is-mode2 .ensures)),
+      next (a .text) m readData (z .loop .g) _ _ (z .loop .inv .1) (one (a .text) m (z .loop .g) readData run (c .before .is-mode .ensures)),
+      next (a .text) m writeData (z .loop .g) _ _ (z .loop .inv .2) (one (a .text) m (z .loop .g) writeData run (c .is-mode2 .ensures)),
     )
 
 returns : tie.Need-returns Inv-loop μ-loop

@@ -12,7 +12,7 @@ returns : tie.Need-returns
 returns c =
     let named = c .before in
     let a = named .before .before .before .before .args in
-    none-named (a .m .now) (a .first .now) (a .second .now) (named .first-point .ensures)
+    none-named (a .text) (a .m .now) (a .first .now) (a .second .now) (named .first-point .ensures)
 
 pub agrees-spec : {M : Type 1} → statement M
 agrees-spec = tie.close (tie.spec first-point-requires returns)

@@ -13,7 +13,7 @@ returns : tie.Need-returns
 returns c =
     let word = c .before in
     let a = word .before .before .before .before .args in
-    no-word (a .m .now) (a .first .now) (a .second .now) (word .word-point .ensures) (c .if1 .taken)
+    no-word (a .text) (a .m .now) (a .first .now) (a .second .now) (word .word-point .ensures) (c .if1 .taken)
 
 sounding-requires : tie.Need-sounding-requires
 sounding-requires c κs =
@@ -22,21 +22,21 @@ sounding-requires c κs =
     let a = b .args in
     let p = b .pre .1 in
     let held = p .1 in
-    (b .pre .0, (p .0, (held .0, (held .1, failing-at (a .m .now) (a .first .now) (a .second .now) (word .word-point .ensures) (c .if1 .left)))))
+    (b .pre .0, (p .0, (held .0, (held .1, failing-at (a .text) (a .m .now) (a .first .now) (a .second .now) (word .word-point .ensures) (c .if1 .left)))))
 
-cast-t13 : tie.Need-cast-t13
-cast-t13 c =
+cast-t14 : tie.Need-cast-t14
+cast-t14 c =
     let word = c .before .before in
     let a = word .before .before .before .before .args in
-    omega (arith, failing-at (a .m .now) (a .first .now) (a .second .now) (word .word-point .ensures) (c .before .if1 .left) .0)
+    omega (arith, failing-at (a .text) (a .m .now) (a .first .now) (a .second .now) (word .word-point .ensures) (c .before .if1 .left) .0)
 
 returns-2 : tie.Need-returns-2
 returns-2 c =
     let fails = c .before in
     let word = fails .before in
     let a = word .before .before .before .before .args in
-    some-word (a .m .now) (a .first .now) (a .second .now) (word .word-point .ensures) (fails .if1 .left) (c .sounding .ensures)
+    some-word (a .text) (a .m .now) (a .first .now) (a .second .now) (word .word-point .ensures) (fails .if1 .left) (c .sounding .ensures)
 
 pub failing-word-spec : {M : Type 1} → statement M
 failing-word-spec =
-    tie.close (tie.spec word-point-requires returns sounding-requires cast-t13 returns-2)
+    tie.close (tie.spec word-point-requires returns sounding-requires cast-t14 returns-2)

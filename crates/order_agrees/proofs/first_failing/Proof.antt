@@ -12,13 +12,13 @@ neighbour-point-requires c κs = search needs
 ticks-requires : tie.Need-ticks-requires
 ticks-requires c κs = search needs
 
-cast-t20 : tie.Need-cast-t20
-cast-t20 c =
+cast-t21 : tie.Need-cast-t21
+cast-t21 c =
     let ticks = c .before in
     let neighbour = ticks .before in
     let b = neighbour .before .before .before .before in
     let a = b .args in
-    omega (arith, b .pre .0 .ticks, ticks .ticks .ensures, neighbour-within (a .m .now) (a .first .now) (a .second .now) (neighbour .neighbour-point .ensures) (ticks .ticks .ensures))
+    omega (arith, b .pre .0 .ticks, ticks .ticks .ensures, neighbour-within (a .text) (a .m .now) (a .first .now) (a .second .now) (neighbour .neighbour-point .ensures) (ticks .ticks .ensures))
 
 returns : tie.Need-returns
 returns c =
@@ -26,20 +26,20 @@ returns c =
     let neighbour = ticks .before in
     let b = neighbour .before .before .before .before in
     let a = b .args in
-    first-fails (a .m .now) (a .first .now) (a .second .now) (neighbour .neighbour-point .ensures) (ticks .ticks .ensures) (c .if1 .taken)
+    first-fails (a .text) (a .m .now) (a .first .now) (a .second .now) (neighbour .neighbour-point .ensures) (ticks .ticks .ensures) (c .if1 .taken)
 
 feeder-point-requires : tie.Need-feeder-point-requires
 feeder-point-requires c κs = search needs
 
-cast-t21 : tie.Need-cast-t21
-cast-t21 c =
+cast-t22 : tie.Need-cast-t22
+cast-t22 c =
     let feeder = c .before in
     let first = feeder .before in
     let ticks = first .before in
     let neighbour = ticks .before in
     let b = neighbour .before .before .before .before in
     let a = b .args in
-    omega (arith, feeder-within (a .m .now) (a .first .now) (a .second .now) (neighbour .neighbour-point .ensures) (ticks .ticks .ensures) (first .if1 .left) (feeder .feeder-point .ensures))
+    omega (arith, feeder-within (a .text) (a .m .now) (a .first .now) (a .second .now) (neighbour .neighbour-point .ensures) (ticks .ticks .ensures) (first .if1 .left) (feeder .feeder-point .ensures))
 
 returns-2 : tie.Need-returns-2
 returns-2 c =
@@ -49,13 +49,19 @@ returns-2 c =
     let neighbour = ticks .before in
     let b = neighbour .before .before .before .before in
     let a = b .args in
-    second-fails (a .m .now) (a .first .now) (a .second .now) (neighbour .neighbour-point .ensures) (ticks .ticks .ensures) (first .if1 .left) (feeder .feeder-point .ensures) (c .if2 .taken)
+    second-fails (a .text) (a .m .now) (a .first .now) (a .second .now) (neighbour .neighbour-point .ensures) (ticks .ticks .ensures) (first .if1 .left) (feeder .feeder-point .ensures) (c .if2 .taken)
 
 writer-point-requires : tie.Need-writer-point-requires
-writer-point-requires c κs = search needs
+writer-point-requires c κs =
+    let feeder = c .before in
+    let first = feeder .before in
+    let ticks = first .before in
+    let b = ticks .before .before .before .before .before in
+    let p = b .pre .1 .1 in
+    (b .pre .0, (b .pre .1 .0, (p .1 .1 .0, p .1 .1 .1 .1)))
 
-cast-t22 : tie.Need-cast-t22
-cast-t22 c =
+cast-t23 : tie.Need-cast-t23
+cast-t23 c =
     let writer = c .before in
     let second = writer .before in
     let feeder = second .before in
@@ -64,13 +70,13 @@ cast-t22 c =
     let neighbour = ticks .before in
     let b = neighbour .before .before .before .before in
     let a = b .args in
-    let are = writers-are (a .m .now) (a .first .now) (a .second .now) (b .pre .0) (b .pre .1 .0 .0) (b .pre .1 .1 .1 .1 .1 .1) in
+    let are = writers-are (a .text) (a .m .now) (a .first .now) (a .second .now) (b .pre .0) (b .pre .1 .0 .0) (b .pre .1 .1 .1 .1 .1 .1) in
     omega (
       arith,
       are,
-      writers-few (a .m .now) (a .first .now) (a .second .now) (b .pre .0),
-      writer-within (a .m .now) (a .first .now) (a .second .now) (neighbour .neighbour-point .ensures) (ticks .ticks .ensures) (first .if1 .left) (feeder .feeder-point .ensures) (second .if2 .left) (writer .writer-point .ensures)
-          (writers-are (a .m .now) (a .first .now) (a .second .now) (b .pre .0) (b .pre .1 .0 .0) (b .pre .1 .1 .1 .1 .1 .1)),
+      writers-few (a .text) (a .m .now) (a .first .now) (a .second .now) (b .pre .0),
+      writer-within (a .text) (a .m .now) (a .first .now) (a .second .now) (neighbour .neighbour-point .ensures) (ticks .ticks .ensures) (first .if1 .left) (feeder .feeder-point .ensures) (second .if2 .left) (writer .writer-point .ensures)
+          (writers-are (a .text) (a .m .now) (a .first .now) (a .second .now) (b .pre .0) (b .pre .1 .0 .0) (b .pre .1 .1 .1 .1 .1 .1)),
     )
 
 returns-3 : tie.Need-returns-3
@@ -83,8 +89,8 @@ returns-3 c =
     let neighbour = ticks .before in
     let b = neighbour .before .before .before .before in
     let a = b .args in
-    third-fails (a .m .now) (a .first .now) (a .second .now) (neighbour .neighbour-point .ensures) (ticks .ticks .ensures) (first .if1 .left) (feeder .feeder-point .ensures) (second .if2 .left) (writer .writer-point .ensures)
-    (writers-are (a .m .now) (a .first .now) (a .second .now) (b .pre .0) (b .pre .1 .0 .0) (b .pre .1 .1 .1 .1 .1 .1)) (c .if3 .taken)
+    third-fails (a .text) (a .m .now) (a .first .now) (a .second .now) (neighbour .neighbour-point .ensures) (ticks .ticks .ensures) (first .if1 .left) (feeder .feeder-point .ensures) (second .if2 .left) (writer .writer-point .ensures)
+    (writers-are (a .text) (a .m .now) (a .first .now) (a .second .now) (b .pre .0) (b .pre .1 .0 .0) (b .pre .1 .1 .1 .1 .1 .1)) (c .if3 .taken)
 
 failing-word-requires : tie.Need-failing-word-requires
 failing-word-requires c κs =
@@ -110,8 +116,8 @@ returns-4 c =
     let neighbour = ticks .before in
     let b = neighbour .before .before .before .before in
     let a = b .args in
-    fourth (a .m .now) (a .first .now) (a .second .now) (neighbour .neighbour-point .ensures) (ticks .ticks .ensures) (first .if1 .left) (feeder .feeder-point .ensures) (second .if2 .left) (writer .writer-point .ensures)
-    (writers-are (a .m .now) (a .first .now) (a .second .now) (b .pre .0) (b .pre .1 .0 .0) (b .pre .1 .1 .1 .1 .1 .1)) (third .if3 .left) (c .failing-word .ensures)
+    fourth (a .text) (a .m .now) (a .first .now) (a .second .now) (neighbour .neighbour-point .ensures) (ticks .ticks .ensures) (first .if1 .left) (feeder .feeder-point .ensures) (second .if2 .left) (writer .writer-point .ensures)
+    (writers-are (a .text) (a .m .now) (a .first .now) (a .second .now) (b .pre .0) (b .pre .1 .0 .0) (b .pre .1 .1 .1 .1 .1 .1)) (third .if3 .left) (c .failing-word .ensures)
 
 pub first-failing-spec : {M : Type 1} → statement M
 first-failing-spec =
@@ -119,13 +125,13 @@ first-failing-spec =
     (tie.spec
     neighbour-point-requires
     ticks-requires
-    cast-t20
+    cast-t21
     returns
     feeder-point-requires
-    cast-t21
+    cast-t22
     returns-2
     writer-point-requires
-    cast-t22
+    cast-t23
     returns-3
     failing-word-requires
     returns-4)

@@ -36,7 +36,7 @@ first-failing-requires c κs =
     let m = a .m .now in
     let o₁ = a .first .now in
     let o₂ = a .second .now in
-    (b .pre .0, (b .pre .1, (both-places m o₁ o₂ e f, (both-fed m o₁ o₂ e f, (both-written m o₁ o₂ e f, (both-replaced m o₁ o₂ e f, writes-of m o₁ e))))))
+    (b .pre .0, (b .pre .1, (both-places (a .text) m o₁ o₂ e f, (both-fed (a .text) m o₁ o₂ e f, (both-written (a .text) m o₁ o₂ e f, (both-replaced (a .text) m o₁ o₂ e f, writes-of (a .text) m o₁ e))))))
 
 pub first-point-spec : {M : Type 1} → statement M
 first-point-spec =

@@ -17,7 +17,7 @@ returns : tie.Need-returns
 returns c =
     let test = c .before in
     c .no-order-file .ensures
-    ∙ lines.unended (test .before .before .before .args .text .now) (sym (test .before .ended .ensures) ∙ not-true _ (test .if1 .taken))
+    ∙ lines.unended (test .before .before .before .args .file .now) (sym (test .before .ended .ensures) ∙ not-true _ (test .if1 .taken))
 
 read-lines-requires : tie.Need-read-lines-requires
 read-lines-requires c κs = sym (c .before .ended .ensures) ∙ not-false _ (c .if1 .left)

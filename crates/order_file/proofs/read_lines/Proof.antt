@@ -9,34 +9,34 @@ use borrow.Author.Needs.{needs}
 use lib.ListN.{length}
 use Rattle.bench_bytes.specs.Bytes.{bytesBefore}
 use Rattle.bench_lines.specs.Lines.{fileBytes}
-use Rattle.bench_lines.proofs.TextLines.{ended-is, within}
+use Rattle.bench_lines.proofs.FileLines.{ended-is, within}
 use Rattle.order_file.proofs.Lines as lines
 use Rattle.order_file.proofs.read_lines.Statement.{statement}
 use Rattle.order_file.proofs.read_lines.Tie as tie
 
 abbrev Inv-loop : tie.InvT-loop
-Inv-loop text entries₀ count₀ at₀ entries count at = lines.Reading text at count entries
+Inv-loop file entries₀ count₀ at₀ entries count at = lines.Reading file at count entries
 
 abbrev μ-loop : tie.MeasureT-loop
-μ-loop text entries₀ count₀ at₀ entries count at = length text - at
+μ-loop file entries₀ count₀ at₀ entries count at = length file - at
 
--- The text is short, and a line ends before the text does.
-short : (c : tie.In-loop Inv-loop μ-loop) → length (c .before .before .before .args .text .now) ≤ fileBytes
-short c = let start = c .before .before .before in ended-is (start .args .text .now) (start .pre) .short
+-- The file is short, and a line ends before the file does.
+short : (c : tie.In-loop Inv-loop μ-loop) → length (c .before .before .before .args .file .now) ≤ fileBytes
+short c = let start = c .before .before .before in ended-is (start .args .file .now) (start .pre) .short
 
-line-end : (c : tie.After-find Inv-loop μ-loop) → let turn = c .before .before in c .find .result < length (turn .before .before .before .args .text .now) - turn .before .loop .at
+line-end : (c : tie.After-find Inv-loop μ-loop) → let turn = c .before .before in c .find .result < length (turn .before .before .before .args .file .now) - turn .before .loop .at
 line-end c =
     let turn = c .before .before in
     let start = turn .before .before .before in
     within
-    (start .args .text .now)
-    (ended-is (start .args .text .now) (start .pre))
+    (start .args .file .now)
+    (ended-is (start .args .file .now) (start .pre))
     (turn .before .loop .at)
     (turn .loop-test .taken)
     (c .find .ensures ∙ ap (bytesBefore (code "\n")) (c .before .after .ensures))
 
 loop-holds : tie.Need-loop-holds Inv-loop μ-loop
-loop-holds c = lines.begins (c .before .args .text .now) (c .before .pre)
+loop-holds c = lines.begins (c .before .args .file .now) (c .before .pre)
 
 after-requires : tie.Need-after-requires Inv-loop μ-loop
 after-requires c κs = omega arith
@@ -65,9 +65,9 @@ returns c =
     let start = turn .before .before .before in
     c .no-order-file .ensures
     ∙ lines.no-entry
-    (start .args .text .now)
+    (start .args .file .now)
     (turn .before .loop .inv)
-    (ended-is (start .args .text .now) (start .pre))
+    (ended-is (start .args .file .now) (start .pre))
     (turn .loop-test .taken)
     (found .find .ensures ∙ ap (bytesBefore (code "\n")) (found .before .after .ensures))
     (rw add-sub-cancel-left at (read .read-entry .ensures))
@@ -85,9 +85,9 @@ returns-2 c =
     let start = turn .before .before .before in
     c .no-order-file2 .ensures
     ∙ lines.no-room
-    (start .args .text .now)
+    (start .args .file .now)
     (turn .before .loop .inv)
-    (ended-is (start .args .text .now) (start .pre))
+    (ended-is (start .args .file .now) (start .pre))
     (turn .loop-test .taken)
     (found .find .ensures ∙ ap (bytesBefore (code "\n")) (found .before .after .ensures))
     (full .if1 .taken)
@@ -118,9 +118,9 @@ loop-again c =
     let turn = found .before .before in
     let start = turn .before .before .before in
     lines.goes-on
-    (start .args .text .now)
+    (start .args .file .now)
     (turn .before .loop .inv)
-    (ended-is (start .args .text .now) (start .pre))
+    (ended-is (start .args .file .now) (start .pre))
     (turn .loop-test .taken)
     (found .find .ensures ∙ ap (bytesBefore (code "\n")) (found .before .after .ensures))
     (rw add-sub-cancel-left at (read .read-entry .ensures))

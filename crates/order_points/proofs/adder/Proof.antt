@@ -21,7 +21,7 @@ returns c =
     let mode = on .before in
     let a = mode .before .before .args in
     let sides : Sides = record { first = a .place1 .now; second = a .place2 .now } in
-    no-add (a .m .now) sides (a .last .now) (a .marks .now) (a .g) (mode .run-mode .ensures) (sym (on .adding .ensures) ∙ not-true _ (c .if1 .taken))
+    no-add (a .text) (a .m .now) sides (a .last .now) (a .marks .now) (a .g) (mode .run-mode .ensures) (sym (on .adding .ensures) ∙ not-true _ (c .if1 .taken))
 
 gsum-requires : tie.Need-gsum-requires
 gsum-requires c κs = search needs
@@ -48,7 +48,7 @@ returns-2 c =
     let mode = on .before in
     let a = mode .before .before .args in
     let sides : Sides = record { first = a .place1 .now; second = a .place2 .now } in
-    no-replaced (a .m .now) sides (a .last .now) (a .marks .now) (a .g) (mode .run-mode .ensures) (sym (on .adding .ensures) ∙ not-false _ (adds .if1 .left))
+    no-replaced (a .text) (a .m .now) sides (a .last .now) (a .marks .now) (a .g) (mode .run-mode .ensures) (sym (on .adding .ensures) ∙ not-false _ (adds .if1 .left))
     (word .gsum .ensures) (last .wide .ensures) (c .if2 .taken)
 
 same-side-requires : tie.Need-same-side-requires
@@ -71,7 +71,7 @@ returns-3 c =
     let mode = on .before in
     let a = mode .before .before .args in
     let sides : Sides = record { first = a .place1 .now; second = a .place2 .now } in
-    one-side (a .m .now) sides (a .last .now) (a .marks .now) (a .g) (mode .run-mode .ensures) (sym (on .adding .ensures) ∙ not-false _ (adds .if1 .left))
+    one-side (a .text) (a .m .now) sides (a .last .now) (a .marks .now) (a .g) (mode .run-mode .ensures) (sym (on .adding .ensures) ∙ not-false _ (adds .if1 .left))
     (word .gsum .ensures) (last .wide .ensures) (there .if2 .left) (sym (side .same-side .ensures) ∙ c .if3 .taken)
 
 element-write-marks : tie.Need-element-write-marks
@@ -92,7 +92,7 @@ returns-4 c =
     let mode = on .before in
     let a = mode .before .before .args in
     let sides : Sides = record { first = a .place1 .now; second = a .place2 .now } in
-    two-sides (a .m .now) sides (a .last .now) (a .marks .now) (a .g) (mode .run-mode .ensures) (sym (on .adding .ensures) ∙ not-false _ (adds .if1 .left))
+    two-sides (a .text) (a .m .now) sides (a .last .now) (a .marks .now) (a .g) (mode .run-mode .ensures) (sym (on .adding .ensures) ∙ not-false _ (adds .if1 .left))
     (word .gsum .ensures) (last .wide .ensures) (there .if2 .left) (sym (side .same-side .ensures) ∙ c .if3 .left)
 
 pub adder-spec : {M : Type 1} → statement M

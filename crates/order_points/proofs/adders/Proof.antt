@@ -10,10 +10,10 @@ use Rattle.order_points.proofs.adders.Statement.{statement}
 use Rattle.order_points.proofs.adders.Tie as tie
 
 abbrev Inv-loop : tie.InvT-loop
-Inv-loop m place1 place2 last marks₀ t g₀ marks g = (g ≤ t) × (marks ≡ marksOf m (record { first = place1; second = place2 }) last g)
+Inv-loop text m place1 place2 last marks₀ t g₀ marks g = (g ≤ t) × (marks ≡ marksOf text m (record { first = place1; second = place2 }) last g)
 
 abbrev μ-loop : tie.MeasureT-loop
-μ-loop m place1 place2 last marks₀ t g₀ marks g = t - g
+μ-loop text m place1 place2 last marks₀ t g₀ marks g = t - g
 
 ticks-requires : tie.Need-ticks-requires Inv-loop μ-loop
 ticks-requires c κs = c .before .pre .0 .reaches
@@ -23,7 +23,7 @@ loop-holds c =
     let b = c .before .before in
     let a = b .args in
     let sides : Sides = record { first = a .place1 .now; second = a .place2 .now } in
-    (omega arith, marked-none (a .m .now) sides (a .last .now) (b .pre .1 .1))
+    (omega arith, marked-none (a .text) (a .m .now) sides (a .last .now) (b .pre .1 .1))
 
 adder-requires : tie.Need-adder-requires Inv-loop μ-loop
 adder-requires c κs =
@@ -36,7 +36,7 @@ loop-again c =
     let z = c .before .before .before in
     let a = z .before .before .before .args in
     let sides : Sides = record { first = a .place1 .now; second = a .place2 .now } in
-    (omega arith, marked-next (a .m .now) sides (a .last .now) (z .loop .g) (z .loop .inv .1) (c .adder .ensures))
+    (omega arith, marked-next (a .text) (a .m .now) sides (a .last .now) (z .loop .g) (z .loop .inv .1) (c .adder .ensures))
 
 returns : tie.Need-returns Inv-loop μ-loop
 returns c =
@@ -44,7 +44,7 @@ returns c =
     let a = z .before .before .before .args in
     let sides : Sides = record { first = a .place1 .now; second = a .place2 .now } in
     let e : z .loop .g ≡ ticksOf (a .m .now) = omega (arith, z .before .ticks .ensures) in
-    z .loop .inv .1 ∙ ap (marksOf (a .m .now) sides (a .last .now)) e
+    z .loop .inv .1 ∙ ap (marksOf (a .text) (a .m .now) sides (a .last .now)) e
 
 pub adders-spec : {M : Type 1} → statement M
 adders-spec =

@@ -17,7 +17,7 @@ returns c =
     let b = c .before .before .before .before .before .before in
     let a = b .args in
     let e : c .first-difference .result ≡ firstFailing (sameAt (a .fed1 .now) (a .fed2 .now)) dacs = c .first-difference .ensures in
-    e ∙ feeders-held (a .m .now) (a .first .now) (a .second .now) (b .pre .0) (b .pre .1 .0) (b .pre .1 .1)
+    e ∙ feeders-held (a .text) (a .m .now) (a .first .now) (a .second .now) (b .pre .0) (b .pre .1 .0) (b .pre .1 .1)
 
 pub feeder-point-spec : {M : Type 1} → statement M
 feeder-point-spec = tie.close (tie.spec first-difference-requires returns)

@@ -13,10 +13,10 @@ use Rattle.order_points.proofs.neighbour_point.Statement.{statement}
 use Rattle.order_points.proofs.neighbour_point.Tie as tie
 
 abbrev Inv-loop : tie.InvT-loop
-Inv-loop m first second place1 place2 t g₀ g = (g ≤ t) × (firstFailing (neighbourBy m (record { first = place1; second = place2 })) g ≡ g)
+Inv-loop text m first second place1 place2 t g₀ g = (g ≤ t) × (firstFailing (neighbourBy text m (record { first = place1; second = place2 })) g ≡ g)
 
 abbrev μ-loop : tie.MeasureT-loop
-μ-loop m first second place1 place2 t g₀ g = t - g
+μ-loop text m first second place1 place2 t g₀ g = t - g
 
 ticks-requires : tie.Need-ticks-requires Inv-loop μ-loop
 ticks-requires c κs = c .before .before .before .pre .0 .reaches
@@ -36,9 +36,9 @@ returns c =
     let b = z .before .before .before .before .before in
     let a = b .args in
     let sides : Sides = record { first = a .place1 .now; second = a .place2 .now } in
-    sym (failing-here (neighbourBy (a .m .now) sides) (z .loop .g) (ticksOf (a .m .now)) (omega (arith, z .before .ticks .ensures)) (z .loop .inv .1)
+    sym (failing-here (neighbourBy (a .text) (a .m .now) sides) (z .loop .g) (ticksOf (a .m .now)) (omega (arith, z .before .ticks .ensures)) (z .loop .inv .1)
     (sym (c .before .neighbour-same .ensures) ∙ not-true _ (c .if1 .taken)))
-    ∙ neighbours-held (a .m .now) (a .first .now) (a .second .now) (b .pre .0) (b .pre .1 .0) (b .pre .1 .1)
+    ∙ neighbours-held (a .text) (a .m .now) (a .first .now) (a .second .now) (b .pre .0) (b .pre .1 .0) (b .pre .1 .1)
 
 loop-again : tie.Need-loop-again Inv-loop μ-loop
 loop-again c =
@@ -46,7 +46,7 @@ loop-again c =
     let a = z .before .before .before .before .before .args in
     let sides : Sides = record { first = a .place1 .now; second = a .place2 .now } in (
       omega arith,
-      failing-next (neighbourBy (a .m .now) sides) (z .loop .g) (z .loop .inv .1) (sym (c .before .neighbour-same .ensures) ∙ not-false _ (c .if1 .left)),
+      failing-next (neighbourBy (a .text) (a .m .now) sides) (z .loop .g) (z .loop .inv .1) (sym (c .before .neighbour-same .ensures) ∙ not-false _ (c .if1 .left)),
     )
 
 returns-2 : tie.Need-returns-2 Inv-loop μ-loop
@@ -56,8 +56,8 @@ returns-2 c =
     let a = b .args in
     let sides : Sides = record { first = a .place1 .now; second = a .place2 .now } in
     let e : z .loop .g ≡ ticksOf (a .m .now) = omega (arith, z .before .ticks .ensures) in
-    sym (z .loop .inv .1) ∙ ap (firstFailing (neighbourBy (a .m .now) sides)) e
-    ∙ neighbours-held (a .m .now) (a .first .now) (a .second .now) (b .pre .0) (b .pre .1 .0) (b .pre .1 .1)
+    sym (z .loop .inv .1) ∙ ap (firstFailing (neighbourBy (a .text) (a .m .now) sides)) e
+    ∙ neighbours-held (a .text) (a .m .now) (a .first .now) (a .second .now) (b .pre .0) (b .pre .1 .0) (b .pre .1 .1)
 
 pub neighbour-point-spec : {M : Type 1} → statement M
 neighbour-point-spec =

@@ -18,25 +18,30 @@ returns c =
     let asked = c .before in
     let a = asked .before .before .args in
     let sides : Sides = record { first = a .place1 .now; second = a .place2 .now } in
-    nothing-awaited (a .m .now) sides (a .g) (sym (asked .awaits .ensures) ∙ not-true _ (c .if1 .taken))
+    nothing-awaited (a .text) (a .m .now) sides (a .g) (sym (asked .awaits .ensures) ∙ not-true _ (c .if1 .taken))
+
+distance-requires : tie.Need-distance-requires
+distance-requires c κs = search needs
 
 sub-same-side : tie.Need-sub-same-side
 sub-same-side c =
-    let asked = c .before in
+    let can = c .before in
+    let asked = can .before in
     let a = asked .before .before .args in
-    some-lower (a .m .now) (a .g) (sym (asked .awaits .ensures) ∙ not-false _ (c .if1 .left))
+    rw (c .distance .ensures) (some-lower (a .text) (a .m .now) (a .g) (sym (asked .awaits .ensures) ∙ not-false _ (can .if1 .left)))
 
 same-side-requires : tie.Need-same-side-requires
 same-side-requires c κs = search needs
 
 returns-2 : tie.Need-returns-2
 returns-2 c =
-    let can = c .before in
+    let lower = c .before in
+    let can = lower .before in
     let asked = can .before in
     let a = asked .before .before .args in
     let sides : Sides = record { first = a .place1 .now; second = a .place2 .now } in
-    let e : c .same-side .result ≡ sideBy sides (a .g - 1) (a .g) = c .same-side .ensures in
-    e ∙ by-sides (a .m .now) sides (a .g) (sym (asked .awaits .ensures) ∙ not-false _ (can .if1 .left))
+    let e : c .same-side .result ≡ sideBy sides (a .g - lower .distance .result) (a .g) = c .same-side .ensures in
+    e ∙ by-sides (a .text) (a .m .now) sides (a .g) (sym (asked .awaits .ensures) ∙ not-false _ (can .if1 .left)) (lower .distance .ensures)
 
 pub neighbour-same-spec : {M : Type 1} → statement M
-neighbour-same-spec = tie.close (tie.spec awaits-requires returns sub-same-side same-side-requires returns-2)
+neighbour-same-spec = tie.close (tie.spec awaits-requires returns distance-requires sub-same-side same-side-requires returns-2)

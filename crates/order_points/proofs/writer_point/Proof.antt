@@ -10,7 +10,7 @@ first-difference-requires : tie.Need-first-difference-requires
 first-difference-requires c κs =
     let b = c .before .before .before .before .before in
     let a = b .args in
-    let few = few-writers (a .m .now) (a .first .now) (a .second .now) (b .pre .0) (b .pre .1 .0) (b .pre .1 .1 .1) in
+    let few = few-writers (a .text) (a .m .now) (a .first .now) (a .second .now) (b .pre .0) (b .pre .1 .0) (b .pre .1 .1 .1) in
     (omega (arith, few), omega (arith, few))
 
 returns : tie.Need-returns
@@ -18,7 +18,7 @@ returns c =
     let b = c .before .before .before .before .before .before in
     let a = b .args in
     c .first-difference .ensures
-    ∙ writers-held (a .m .now) (a .first .now) (a .second .now) (b .pre .0) (b .pre .1 .0) (b .pre .1 .1 .0) (b .pre .1 .1 .1)
+    ∙ writers-held (a .text) (a .m .now) (a .first .now) (a .second .now) (b .pre .0) (b .pre .1 .0) (b .pre .1 .1 .0) (b .pre .1 .1 .1)
 
 pub writer-point-spec : {M : Type 1} → statement M
 writer-point-spec = tie.close (tie.spec first-difference-requires returns)

@@ -1,4 +1,4 @@
--- `order_roles::awaits` meets its contract: generator 0 has no lower neighbour, another awaits by its own run mode and the lower one.
+-- `order_roles::awaits` meets its contract: the lowest generators have no lower neighbour, another awaits by its own run mode and the lower one.
 -- Assumes nothing.
 use mathlib.Core.Path.{_∙_}
 use Rattle.order_roles.proofs.Roles.{none-lower, no-wait, by-lower}
@@ -6,8 +6,14 @@ use borrow.Author.Needs.{needs}
 use Rattle.order_roles.proofs.awaits.Statement.{statement}
 use Rattle.order_roles.proofs.awaits.Tie as tie
 
+distance-requires : tie.Need-distance-requires
+distance-requires c κs = search needs
+
 returns : tie.Need-returns
-returns c = let a = c .before .before .args in none-lower (a .m .now) (a .g) (c .if1 .taken)
+returns c =
+    let lower = c .before in
+    let a = lower .before .before .args in
+    none-lower (a .text) (a .m .now) (a .g) (lower .distance .ensures) (c .if1 .taken)
 
 run-mode-requires : tie.Need-run-mode-requires
 run-mode-requires c κs = search needs
@@ -16,8 +22,9 @@ returns-2 : tie.Need-returns-2
 returns-2 c =
     let mode = c .before in
     let some = mode .before in
-    let a = some .before .before .args in
-    no-wait (a .m .now) (a .g) (some .if1 .left) (mode .run-mode .ensures) (c .if2 .taken)
+    let lower = some .before in
+    let a = lower .before .before .args in
+    no-wait (a .text) (a .m .now) (a .g) (lower .distance .ensures) (some .if1 .left) (mode .run-mode .ensures) (c .if2 .taken)
 
 run-mode-requires-2 : tie.Need-run-mode-requires-2
 run-mode-requires-2 c κs = search needs
@@ -27,14 +34,16 @@ triggering-requires c κs = search needs
 
 returns-3 : tie.Need-returns-3
 returns-3 c =
-    let lower = c .before in
-    let waits = lower .before in
+    let below = c .before in
+    let waits = below .before in
     let mode = waits .before in
     let some = mode .before in
-    let a = some .before .before .args in
-    c .triggering .ensures ∙ by-lower (a .m .now) (a .g) (some .if1 .left) (mode .run-mode .ensures) (waits .if2 .left) (lower .run-mode2 .ensures)
+    let lower = some .before in
+    let a = lower .before .before .args in
+    c .triggering .ensures
+    ∙ by-lower (a .text) (a .m .now) (a .g) (lower .distance .ensures) (some .if1 .left) (mode .run-mode .ensures) (waits .if2 .left) (below .run-mode2 .ensures)
 
 pub awaits-spec : {M : Type 1} → statement M
 awaits-spec =
     tie.close
-    (tie.spec returns run-mode-requires returns-2 (λ c. search needs) run-mode-requires-2 triggering-requires returns-3)
+    (tie.spec distance-requires returns run-mode-requires returns-2 run-mode-requires-2 triggering-requires returns-3)

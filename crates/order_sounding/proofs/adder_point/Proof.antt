@@ -13,10 +13,10 @@ use Rattle.order_sounding.proofs.adder_point.Statement.{statement}
 use Rattle.order_sounding.proofs.adder_point.Tie as tie
 
 abbrev Inv-loop : tie.InvT-loop
-Inv-loop m place1 place2 w l t g₀ g = (g ≤ t) × (firstFailing (adderOn m (record { first = place1; second = place2 }) w l) g ≡ g)
+Inv-loop text m place1 place2 w l t g₀ g = (g ≤ t) × (firstFailing (adderOn text m (record { first = place1; second = place2 }) w l) g ≡ g)
 
 abbrev μ-loop : tie.MeasureT-loop
-μ-loop m place1 place2 w l t g₀ g = t - g
+μ-loop text m place1 place2 w l t g₀ g = t - g
 
 ticks-requires : tie.Need-ticks-requires Inv-loop μ-loop
 ticks-requires c κs = c .before .pre .0 .reaches
@@ -36,7 +36,7 @@ returns c =
     let z = asked .before .before in
     let a = z .before .before .before .args in
     let sides : Sides = record { first = a .place1 .now; second = a .place2 .now } in
-    sym (failing-here (adderOn (a .m .now) sides (a .w) (a .l)) (z .loop .g) (ticksOf (a .m .now)) (omega (arith, z .before .ticks .ensures)) (z .loop .inv .1)
+    sym (failing-here (adderOn (a .text) (a .m .now) sides (a .w) (a .l)) (z .loop .g) (ticksOf (a .m .now)) (omega (arith, z .before .ticks .ensures)) (z .loop .inv .1)
     (sym (asked .adder-same .ensures) ∙ not-true _ (c .if1 .taken)))
 
 loop-again : tie.Need-loop-again Inv-loop μ-loop
@@ -46,7 +46,7 @@ loop-again c =
     let a = z .before .before .before .args in
     let sides : Sides = record { first = a .place1 .now; second = a .place2 .now } in (
       omega arith,
-      failing-next (adderOn (a .m .now) sides (a .w) (a .l)) (z .loop .g) (z .loop .inv .1) (sym (asked .adder-same .ensures) ∙ not-false _ (c .if1 .left)),
+      failing-next (adderOn (a .text) (a .m .now) sides (a .w) (a .l)) (z .loop .g) (z .loop .inv .1) (sym (asked .adder-same .ensures) ∙ not-false _ (c .if1 .left)),
     )
 
 returns-2 : tie.Need-returns-2 Inv-loop μ-loop
@@ -55,7 +55,7 @@ returns-2 c =
     let a = z .before .before .before .args in
     let sides : Sides = record { first = a .place1 .now; second = a .place2 .now } in
     let e : z .loop .g ≡ ticksOf (a .m .now) = omega (arith, z .before .ticks .ensures) in
-    sym (z .loop .inv .1) ∙ ap (firstFailing (adderOn (a .m .now) sides (a .w) (a .l))) e
+    sym (z .loop .inv .1) ∙ ap (firstFailing (adderOn (a .text) (a .m .now) sides (a .w) (a .l))) e
 
 pub adder-point-spec : {M : Type 1} → statement M
 adder-point-spec =

@@ -16,7 +16,7 @@ returns c =
     let word = c .before in
     let a = word .before .before .args in
     let sides : Sides = record { first = a .place1 .now; second = a .place2 .now } in
-    another-word (a .m .now) sides (a .w) (a .l) (a .g) (word .gsum .ensures) (c .if1 .taken)
+    another-word (a .text) (a .m .now) sides (a .w) (a .l) (a .g) (word .gsum .ensures) (c .if1 .taken)
 
 run-mode-requires : tie.Need-run-mode-requires
 run-mode-requires c κs = search needs
@@ -30,7 +30,7 @@ returns-2 c =
     let mode = adding .before in
     let a = mode .before .before .before .before .args in
     let sides : Sides = record { first = a .place1 .now; second = a .place2 .now } in
-    adds-none (a .m .now) sides (a .w) (a .l) (a .g) (mode .run-mode .ensures) (sym (adding .adding .ensures) ∙ not-true _ (c .if2 .taken))
+    adds-none (a .text) (a .m .now) sides (a .w) (a .l) (a .g) (mode .run-mode .ensures) (sym (adding .adding .ensures) ∙ not-true _ (c .if2 .taken))
 
 same-side-requires : tie.Need-same-side-requires
 same-side-requires c κs = search needs
@@ -45,7 +45,7 @@ returns-3 c =
     let a = word .before .before .args in
     let sides : Sides = record { first = a .place1 .now; second = a .place2 .now } in
     let e : c .same-side .result ≡ sideBy sides (a .l) (a .g) = c .same-side .ensures in
-    on-side (a .m .now) sides (a .w) (a .l) (a .g) (word .gsum .ensures) (same .if1 .left) (mode .run-mode .ensures)
+    on-side (a .text) (a .m .now) sides (a .w) (a .l) (a .g) (word .gsum .ensures) (same .if1 .left) (mode .run-mode .ensures)
     (sym (adding .adding .ensures) ∙ not-false _ (adds .if2 .left)) e
 
 pub adder-same-spec : {M : Type 1} → statement M

@@ -17,7 +17,7 @@ sub-l c =
     let first : Replaced = record { last = a .last1 .now; among = a .among1 .now } in
     let second : Replaced = record { last = a .last2 .now; among = a .among2 .now } in
     let held = b .pre .1 .1 .1 in
-    some-last (a .m .now) (a .first .now) (a .second .now) (b .pre .0) (b .pre .1 .0) {r₁ = first} {r₂ = second} (held .0) (a .w) (held .1) (c .wide .ensures)
+    some-last (a .text) (a .m .now) (a .first .now) (a .second .now) (b .pre .0) (b .pre .1 .0) {r₁ = first} {r₂ = second} (held .0) (a .w) (held .1) (c .wide .ensures)
 
 returns : tie.Need-returns
 returns c =
@@ -27,7 +27,7 @@ returns c =
     let first : Replaced = record { last = a .last1 .now; among = a .among1 .now } in
     let second : Replaced = record { last = a .last2 .now; among = a .among2 .now } in
     let held = b .pre .1 .1 .1 in
-    another-last (a .m .now) (a .first .now) (a .second .now) (b .pre .0) (b .pre .1 .0) {r₁ = first} {r₂ = second} (held .0) (a .w) (held .1) (l .wide .ensures) (c .if1 .taken)
+    another-last (a .text) (a .m .now) (a .first .now) (a .second .now) (b .pre .0) (b .pre .1 .0) {r₁ = first} {r₂ = second} (held .0) (a .w) (held .1) (l .wide .ensures) (c .if1 .taken)
 
 returns-2 : tie.Need-returns-2
 returns-2 c =
@@ -38,7 +38,7 @@ returns-2 c =
     let first : Replaced = record { last = a .last1 .now; among = a .among1 .now } in
     let second : Replaced = record { last = a .last2 .now; among = a .among2 .now } in
     let held = b .pre .1 .1 .1 in
-    another-place (a .m .now) (a .first .now) (a .second .now) (b .pre .0) (b .pre .1 .0) {r₁ = first} {r₂ = second} (held .0) (a .w) (held .1) (same .if1 .left) (c .if2 .taken)
+    another-place (a .text) (a .m .now) (a .first .now) (a .second .now) (b .pre .0) (b .pre .1 .0) {r₁ = first} {r₂ = second} (held .0) (a .w) (held .1) (same .if1 .left) (c .if2 .taken)
 
 adder-point-requires : tie.Need-adder-point-requires
 adder-point-requires c κs =
@@ -48,7 +48,7 @@ adder-point-requires c κs =
     let first : Replaced = record { last = a .last1 .now; among = a .among1 .now } in
     let second : Replaced = record { last = a .last2 .now; among = a .among2 .now } in
     let held = b .pre .1 .1 .1 in
-    (b .pre .0, last-within (a .m .now) (a .first .now) (a .second .now) (b .pre .0) (b .pre .1 .0) {r₁ = first} {r₂ = second} (held .0) (a .w) (held .1) (l .wide .ensures))
+    (b .pre .0, last-within (a .text) (a .m .now) (a .first .now) (a .second .now) (b .pre .0) (b .pre .1 .0) {r₁ = first} {r₂ = second} (held .0) (a .w) (held .1) (l .wide .ensures))
 
 returns-3 : tie.Need-returns-3
 returns-3 c =
@@ -60,7 +60,7 @@ returns-3 c =
     let first : Replaced = record { last = a .last1 .now; among = a .among1 .now } in
     let second : Replaced = record { last = a .last2 .now; among = a .among2 .now } in
     let held = b .pre .1 .1 .1 in
-    c .adder-point .ensures ∙ another-side (a .m .now) (a .first .now) (a .second .now) (b .pre .0) (b .pre .1 .0) {r₁ = first} {r₂ = second} (held .0) (a .w) (held .1) (same .if1 .left) (place .if2 .left) (l .wide .ensures) (b .pre .1 .1 .0)
+    c .adder-point .ensures ∙ another-side (a .text) (a .m .now) (a .first .now) (a .second .now) (b .pre .0) (b .pre .1 .0) {r₁ = first} {r₂ = second} (held .0) (a .w) (held .1) (same .if1 .left) (place .if2 .left) (l .wide .ensures) (b .pre .1 .1 .0)
 
 pub sounding-spec : {M : Type 1} → statement M
 sounding-spec =

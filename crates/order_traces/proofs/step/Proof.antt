@@ -12,8 +12,8 @@ run-mode-requires c κs = search needs
 dac-number-requires : tie.Need-dac-number-requires
 dac-number-requires c κs = search needs
 
-gfm-requires : tie.Need-gfm-requires
-gfm-requires c κs = search needs
+source-requires : tie.Need-source-requires
+source-requires c κs = search needs
 
 returns : tie.Need-returns
 returns c =
@@ -22,10 +22,10 @@ returns c =
     let mode = taken .before in
     let a = mode .before .before .args in
     let t : Trace = record { place = a .place .now; fed = a .fed .now; written = a .written .now; replaced = record { last = a .last .now; among = a .among .now }; counts = a .done } in
-    step-feeds (a .m .now) (a .i) (a .g) t (mode .run-mode .ensures) (taken .if1 .taken) (dac .dac-number .ensures .0) (c .gfm .ensures)
+    step-feeds (a .text) (a .m .now) (a .i) (a .g) t (mode .run-mode .ensures) (taken .if1 .taken) (dac .dac-number .ensures .0) (c .source .ensures)
 
-gfm-requires-2 : tie.Need-gfm-requires-2
-gfm-requires-2 c κs = search needs
+source-requires-2 : tie.Need-source-requires-2
+source-requires-2 c κs = search needs
 
 returns-2 : tie.Need-returns-2
 returns-2 c =
@@ -33,7 +33,7 @@ returns-2 c =
     let mode = taken .before .before in
     let a = mode .before .before .args in
     let t : Trace = record { place = a .place .now; fed = a .fed .now; written = a .written .now; replaced = record { last = a .last .now; among = a .among .now }; counts = a .done } in
-    step-writes (a .m .now) (a .i) (a .g) t (mode .run-mode .ensures) (taken .if2 .taken) (c .gfm2 .ensures)
+    step-writes (a .text) (a .m .now) (a .i) (a .g) t (mode .run-mode .ensures) (taken .if2 .taken) (c .source2 .ensures)
 
 replace-requires : tie.Need-replace-requires
 replace-requires c κs = search needs
@@ -44,7 +44,7 @@ returns-3 c =
     let mode = taken .before .before .before in
     let a = mode .before .before .args in
     let t : Trace = record { place = a .place .now; fed = a .fed .now; written = a .written .now; replaced = record { last = a .last .now; among = a .among .now }; counts = a .done } in
-    step-replaces (a .m .now) (a .i) (a .g) t (mode .run-mode .ensures) (taken .if3 .taken) (c .replace .ensures)
+    step-replaces (a .text) (a .m .now) (a .i) (a .g) t (mode .run-mode .ensures) (taken .if3 .taken) (c .replace .ensures)
 
 returns-4 : tie.Need-returns-4
 returns-4 c =
@@ -53,11 +53,11 @@ returns-4 c =
     let mode = first .before in
     let a = mode .before .before .args in
     let t : Trace = record { place = a .place .now; fed = a .fed .now; written = a .written .now; replaced = record { last = a .last .now; among = a .among .now }; counts = a .done } in
-    step-past (a .m .now) (a .i) (a .g) t (mode .run-mode .ensures) (first .if1 .left) (second .if2 .left) (c .if3 .left)
+    step-past (a .text) (a .m .now) (a .i) (a .g) t (mode .run-mode .ensures) (first .if1 .left) (second .if2 .left) (c .if3 .left)
 
 pub step-spec : {M : Type 1} → statement M
 step-spec =
     tie.close
-    (tie.spec (λ c. search needs) (λ c. search needs) run-mode-requires dac-number-requires gfm-requires
-    (λ c. search needs) (λ c. search needs) returns gfm-requires-2 (λ c. search needs) (λ c. search needs)
+    (tie.spec (λ c. search needs) (λ c. search needs) run-mode-requires dac-number-requires source-requires
+    (λ c. search needs) (λ c. search needs) returns source-requires-2 (λ c. search needs) (λ c. search needs)
     (λ c. search needs) returns-2 replace-requires (λ c. search needs) returns-3 returns-4)

@@ -10,20 +10,20 @@ use Rattle.order_traces.proofs.trace.Statement.{statement}
 use Rattle.order_traces.proofs.trace.Tie as tie
 
 abbrev Inv-loop : tie.InvT-loop
-Inv-loop m order place₀ fed₀ written₀ last₀ among₀ done₀ i₀ place fed written last among done i =
+Inv-loop text m order place₀ fed₀ written₀ last₀ among₀ done₀ i₀ place fed written last among done i =
     (i ≤ length order)
-    × (traceFrom m i (drop i order) (record { place = place; fed = fed; written = written; replaced = record { last = last; among = among }; counts = done })
-    ≡ traceOf m order)
+    × (traceFrom text m i (drop i order) (record { place = place; fed = fed; written = written; replaced = record { last = last; among = among }; counts = done })
+    ≡ traceOf text m order)
     × (done .reads ≤ i)
     × (done .writes ≤ i)
 
 abbrev μ-loop : tie.MeasureT-loop
-μ-loop m order place₀ fed₀ written₀ last₀ among₀ done₀ i₀ place fed written last among done i = length order - i
+μ-loop text m order place₀ fed₀ written₀ last₀ among₀ done₀ i₀ place fed written last among done i = length order - i
 
 loop-holds : tie.Need-loop-holds Inv-loop μ-loop
 loop-holds c =
     let b = c .before .before in
-    (omega arith, traced-none (b .args .m .now) (b .args .order .now) (b .pre .1 .1), omega arith, omega arith)
+    (omega arith, traced-none _ (b .args .m .now) (b .args .order .now) (b .pre .1 .1), omega arith, omega arith)
 
 wide-requires : tie.Need-wide-requires Inv-loop μ-loop
 wide-requires c κs = tt
@@ -51,9 +51,9 @@ loop-again c =
     let a = z .before .before .before .args in
     let w = z .loop in
     let t : Trace = record { place = w .place; fed = w .fed; written = w .written; replaced = record { last = w .last; among = w .among }; counts = w .done } in
-    let grown = counts-next (a .m .now) (w .i) _ t (c .step .ensures) in (
+    let grown = counts-next (a .text) (a .m .now) (w .i) _ t (c .step .ensures) in (
       omega arith,
-      traced-next (a .m .now) (a .order .now) (w .i) t (inside .loop-test .taken) (entry .wide .ensures) (c .step .ensures) ∙ w .inv .1,
+      traced-next (a .text) (a .m .now) (a .order .now) (w .i) t (inside .loop-test .taken) (entry .wide .ensures) (c .step .ensures) ∙ w .inv .1,
       omega (arith, grown .0, w .inv .2),
       omega (arith, grown .1, w .inv .3),
     )
@@ -64,7 +64,7 @@ returns c =
     let a = z .before .before .before .args in
     let w = z .loop in
     let t : Trace = record { place = w .place; fed = w .fed; written = w .written; replaced = record { last = w .last; among = w .among }; counts = w .done } in
-    sym (traced-all (a .m .now) (a .order .now) (w .i) t (omega arith)) ∙ w .inv .1
+    sym (traced-all (a .text) (a .m .now) (a .order .now) (w .i) t (omega arith)) ∙ w .inv .1
 
 pub trace-spec : {M : Type 1} → statement M
 trace-spec =

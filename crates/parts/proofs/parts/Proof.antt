@@ -14,14 +14,14 @@ returns c =
     let asked = c .before in
     let known = asked .before .before .before .before .before .before in
     let a = known .before .before .args in
-    says-refused (a .m .now) (a .first .now) (a .second .now) (a .contents .now) (a .items .now) (asked .refusal .ensures) (c .if1 .taken)
+    says-refused (a .text) (a .m .now) (a .first .now) (a .second .now) (a .contents .now) (a .items .now) (asked .refusal .ensures) (c .if1 .taken)
 
 first-point-requires : tie.Need-first-point-requires
 first-point-requires c κs =
     let asked = c .before in
     let known = asked .before .before .before .before .before .before in
     let a = known .before .before .args in
-    let p = is-ready (a .m .now) (a .first .now) (a .second .now) (a .contents .now) (a .items .now) (sym (asked .refusal .ensures) ∙ c .if1 .left) in
+    let p = is-ready (a .text) (a .m .now) (a .first .now) (a .second .now) (a .contents .now) (a .items .now) (sym (asked .refusal .ensures) ∙ c .if1 .left) in
     (p .traceable, p .ordered)
 
 returns-2 : tie.Need-returns-2
@@ -31,7 +31,7 @@ returns-2 c =
     let asked = passed .before in
     let known = asked .before .before .before .before .before .before in
     let a = known .before .before .args in
-    says-equal (a .m .now) (a .first .now) (a .second .now) (a .contents .now) (a .items .now) (asked .refusal .ensures) (passed .if1 .left) (named .first-point .ensures) (c .if2 .taken)
+    says-equal (a .text) (a .m .now) (a .first .now) (a .second .now) (a .contents .now) (a .items .now) (asked .refusal .ensures) (passed .if1 .left) (named .first-point .ensures) (c .if2 .taken)
 
 in-modes-requires : tie.Need-in-modes-requires
 in-modes-requires c κs =
@@ -39,7 +39,7 @@ in-modes-requires c κs =
     let asked = passed .before in
     let known = asked .before .before .before .before .before .before in
     let a = known .before .before .args in
-    let p = is-ready (a .m .now) (a .first .now) (a .second .now) (a .contents .now) (a .items .now) (sym (asked .refusal .ensures) ∙ passed .if1 .left) in
+    let p = is-ready (a .text) (a .m .now) (a .first .now) (a .second .now) (a .contents .now) (a .items .now) (sym (asked .refusal .ensures) ∙ passed .if1 .left) in
     (p .traceable .reaches, p .traceable .ticks)
 
 contents-requires : tie.Need-contents-requires
@@ -49,7 +49,7 @@ contents-requires c κs =
     let asked = passed .before in
     let known = asked .before .before .before .before .before .before in
     let a = known .before .before .args in
-    is-ready (a .m .now) (a .first .now) (a .second .now) (a .contents .now) (a .items .now) (sym (asked .refusal .ensures) ∙ passed .if1 .left) .runs
+    is-ready (a .text) (a .m .now) (a .first .now) (a .second .now) (a .contents .now) (a .items .now) (sym (asked .refusal .ensures) ∙ passed .if1 .left) .runs
 
 items-requires : tie.Need-items-requires
 items-requires c κs =
@@ -58,7 +58,7 @@ items-requires c κs =
     let asked = passed .before in
     let known = asked .before .before .before .before .before .before in
     let a = known .before .before .args in
-    let p = is-ready (a .m .now) (a .first .now) (a .second .now) (a .contents .now) (a .items .now) (sym (asked .refusal .ensures) ∙ passed .if1 .left) in
+    let p = is-ready (a .text) (a .m .now) (a .first .now) (a .second .now) (a .contents .now) (a .items .now) (sym (asked .refusal .ensures) ∙ passed .if1 .left) in
     rw (counted .in-modes .ensures .0) (p .items-enough)
 
 returns-3 : tie.Need-returns-3
@@ -72,7 +72,7 @@ returns-3 c =
     let asked = passed .before in
     let known = asked .before .before .before .before .before .before in
     let a = known .before .before .args in
-    says-parted (a .m .now) (a .first .now) (a .second .now) (a .contents .now) (a .items .now) (asked .refusal .ensures) (passed .if1 .left) (named .first-point .ensures) (fails .if2 .left) (counted .in-modes .ensures .0)
+    says-parted (a .text) (a .m .now) (a .first .now) (a .second .now) (a .contents .now) (a .items .now) (asked .refusal .ensures) (passed .if1 .left) (named .first-point .ensures) (fails .if2 .left) (counted .in-modes .ensures .0)
     (written .contents .ensures) (listed .items .ensures)
 
 pub parts-spec : {M : Type 1} → statement M

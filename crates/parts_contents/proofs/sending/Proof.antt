@@ -1,6 +1,7 @@
 -- `parts_contents::sending` meets its contract: both last quadrants are numbered, one after the other.
 -- Assumes nothing.
 use borrow.Author.Needs.{needs}
+use Rattle.texts.proofs.One.{one}
 use Rattle.parts_contents.proofs.Filling.{sends}
 use Rattle.parts_contents.proofs.sending.Statement.{statement}
 use Rattle.parts_contents.proofs.sending.Tie as tie
@@ -19,7 +20,8 @@ returns c =
     let second = c .before .before in
     let first = second .before .before .before .before in
     let inactive = first .before .before .before .before in
-    sends (inactive .before .before .before .before .args .m .now) (inactive .inactive .ensures) (first .number .ensures) (second .number2 .ensures)
+    let a = inactive .before .before .before .before .args in
+    rw (one (a .text)) (sends (a .m .now) (inactive .inactive .ensures) (first .number .ensures) (second .number2 .ensures))
 
 pub sending-spec : {M : Type 1} → statement M
 sending-spec =

@@ -2,6 +2,7 @@
 -- Assumes nothing.
 use borrow.Author.Needs.{needs}
 use Rattle.order_contents.specs.Contents.{soundingContents}
+use Rattle.texts.proofs.One.{one}
 use Rattle.parts_contents.proofs.sounding.Statement.{statement}
 use Rattle.parts_contents.proofs.sounding.Tie as tie
 
@@ -36,7 +37,7 @@ returns c =
     let gq = gm .before .before .before .before in
     let gl = gq .before .before .before .before in
     let ones = gl .before .before .before .before in
-    rw (← (ones .ones .ensures), ← (gl .levels .ensures), ← (gq .fill .ensures), ← (gm .fill2 .ensures), ← (gn .fill3 .ensures), ← (gk .fill4 .ensures))
+    rw (one (ones .before .before .before .before .args .text), ← (ones .ones .ensures), ← (gl .levels .ensures), ← (gq .fill .ensures), ← (gm .fill2 .ensures), ← (gn .fill3 .ensures), ← (gk .fill4 .ensures))
     (gj .fill5 .ensures)
 
 pub sounding-spec : {M : Type 1} → statement M

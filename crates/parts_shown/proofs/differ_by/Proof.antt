@@ -28,7 +28,7 @@ returns c =
     let lent = one .before .before .before in
     let a = lent .before .before .before .before .args in
     let long = other .before .before .before .before .before .m2 .given in
-    says-word (a .contents .now) (a .items .now) (a .first .now) (a .second .now) (one .pass-by .ensures) (other .pass-by2 .ensures) long (compared .first-different .ensures)
+    says-word (a .text) (a .contents .now) (a .items .now) (a .first .now) (a .second .now) (one .pass-by .ensures) (other .pass-by2 .ensures) long (compared .first-different .ensures)
     (c .if1 .taken)
 
 array-share-prefix-places : tie.Need-array-share-prefix-places
@@ -39,7 +39,7 @@ array-share-prefix-places c =
     let one = other .before .before .before .before .before .before in
     let lent = one .before .before .before in
     let a = lent .before .before .before .before .args in
-    left-within (a .contents .now) (plainCall (a .first .now) (a .items .now) (zeros generators)) (one .pass-by .ensures)
+    left-within (a .text) (a .contents .now) (plainCall (a .first .now) (a .items .now) (zeros generators)) (one .pass-by .ensures)
 
 slice-aggregate-first-different-3 : tie.Need-slice-aggregate-first-different-3
 unfolding zeros
@@ -49,7 +49,7 @@ slice-aggregate-first-different-3 c =
     let one = other .before .before .before .before .before .before in
     let lent = one .before .before .before in
     let a = lent .before .before .before .before .args in
-    sym (length-take-le _ _ (left-within (a .contents .now) (plainCall (a .first .now) (a .items .now) (zeros generators)) (one .pass-by .ensures)))
+    sym (length-take-le _ _ (left-within (a .text) (a .contents .now) (plainCall (a .first .now) (a .items .now) (zeros generators)) (one .pass-by .ensures)))
 
 array-share-prefix-other-places : tie.Need-array-share-prefix-other-places
 unfolding zeros
@@ -59,7 +59,7 @@ array-share-prefix-other-places c =
     let one = other .before .before .before .before .before .before in
     let lent = one .before .before .before in
     let a = lent .before .before .before .before .args in
-    left-within (a .contents .now) (plainCall (a .second .now) (a .items .now) (zeros generators)) (other .pass-by2 .ensures)
+    left-within (a .text) (a .contents .now) (plainCall (a .second .now) (a .items .now) (zeros generators)) (other .pass-by2 .ensures)
 
 slice-aggregate-first-different-4 : tie.Need-slice-aggregate-first-different-4
 unfolding zeros
@@ -69,7 +69,7 @@ slice-aggregate-first-different-4 c =
     let one = other .before .before .before .before .before .before in
     let lent = one .before .before .before in
     let a = lent .before .before .before .before .args in
-    sym (length-take-le _ _ (left-within (a .contents .now) (plainCall (a .second .now) (a .items .now) (zeros generators)) (other .pass-by2 .ensures)))
+    sym (length-take-le _ _ (left-within (a .text) (a .contents .now) (plainCall (a .second .now) (a .items .now) (zeros generators)) (other .pass-by2 .ensures)))
 
 first-different-requires-2 : tie.Need-first-different-requires-2
 first-different-requires-2 c κs = search needs
@@ -83,7 +83,7 @@ returns-2 c =
     let lent = one .before .before .before in
     let a = lent .before .before .before .before .args in
     let long = other .before .before .before .before .before .m2 .given in
-    says-item (a .contents .now) (a .items .now) (a .first .now) (a .second .now) (one .pass-by .ensures) (other .pass-by2 .ensures) long (compared .first-different .ensures)
+    says-item (a .text) (a .contents .now) (a .items .now) (a .first .now) (a .second .now) (one .pass-by .ensures) (other .pass-by2 .ensures) long (compared .first-different .ensures)
     (c .before .before .before .if1 .left) (c .first-different2 .ensures)
 
 pub differ-by-spec : {M : Type 1} → statement M

@@ -20,7 +20,7 @@ returns c =
     let copied = passed .before .before .before .before .before .before in
     let known = copied .before in
     let a = known .before .before .before .before .before .before .args in
-    leaves (plainCall (a .order .now) (a .items .now) (a .places .now)) (copied .copy .ensures) (passed .pass .ensures)
+    leaves (a .text) (plainCall (a .order .now) (a .items .now) (a .places .now)) (copied .copy .ensures) (passed .pass .ensures)
 
 pub pass-by-spec : {M : Type 1} → statement M
 pass-by-spec =

@@ -33,8 +33,8 @@ run-requires c κs =
     let m = a .m .now in
     let o = a .order .now in
     let call : Call = record { order = o; items = a .items .now; places = a .places .now; memory = a .memory .now } in
-    let p = passes m call (sym (asked .refusal .ensures) ∙ let-through .if1 .left) in
-    (is-ready m (p .whole), (are-numbers m o (p .whole) (p .ordered), (few-ticks m o (p .whole), (sine .table .ensures, decay .table2 .ensures))))
+    let p = passes (a .text) m call (sym (asked .refusal .ensures) ∙ let-through .if1 .left) in
+    (is-ready (a .text) m (p .whole), (are-numbers (a .text) m o (p .whole) (p .ordered), (few-ticks (a .text) m o (p .whole), (sine .table .ensures, decay .table2 .ensures))))
 
 returns-2 : tie.Need-returns-2
 unfolding passOf
@@ -49,6 +49,6 @@ pub pass-spec : {M : Type 1} → statement M
 pass-spec =
     tie.close
     (tie.spec refusal-requires (λ c. search needs) (λ c. search needs) (λ c. search needs) returns table-requires
-    table-requires-2 run-requires (λ c. c .before .before .before .before .before .before .run .kept .0)
-    (λ c. c .before .before .before .before .before .before .run .kept .1 .1 .1 .0)
-    (λ c. c .before .before .before .before .before .before .run .kept .1 .1 .1 .1 .0) returns-2)
+    table-requires-2 run-requires (λ c. c .before .before .before .before .before .before .run .kept .1 .0)
+    (λ c. c .before .before .before .before .before .before .run .kept .1 .1 .1 .1 .0)
+    (λ c. c .before .before .before .before .before .before .run .kept .1 .1 .1 .1 .1 .0) returns-2)

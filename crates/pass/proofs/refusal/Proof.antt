@@ -12,24 +12,24 @@ refusal-requires : tie.Need-refusal-requires
 refusal-requires c κs = search needs
 
 returns : tie.Need-returns
-returns c = refused-first _ _ (c .before .refusal .ensures) (c .if1 .taken)
+returns c = refused-first _ _ _ (c .before .refusal .ensures) (c .if1 .taken)
 
 ticks-requires : tie.Need-ticks-requires
-ticks-requires c κs = is-ready _ (sym (c .before .refusal .ensures) ∙ c .if1 .left) .reaches
+ticks-requires c κs = is-ready _ _ (sym (c .before .refusal .ensures) ∙ c .if1 .left) .reaches
 
 order-refusal-requires : tie.Need-order-refusal-requires
 order-refusal-requires c κs =
     let whole = c .before in
     let first = whole .before in
     let a = first .before .before .before .before .before .before .args in
-    rw (c .ticks .ensures) (few-ticks (a .m .now) (a .order .now) (sym (first .refusal .ensures) ∙ whole .if1 .left))
+    rw (c .ticks .ensures) (few-ticks (a .text) (a .m .now) (a .order .now) (sym (first .refusal .ensures) ∙ whole .if1 .left))
 
 returns-2 : tie.Need-returns-2
 returns-2 c =
     let second = c .before in
     let ticks = second .before in
     let whole = ticks .before in
-    refused-second _ _ (sym (whole .before .refusal .ensures) ∙ whole .if1 .left) (rw (ticks .ticks .ensures) at (second .order-refusal .ensures)) (c .if2 .taken)
+    refused-second _ _ _ (sym (whole .before .refusal .ensures) ∙ whole .if1 .left) (rw (ticks .ticks .ensures) at (second .order-refusal .ensures)) (c .if2 .taken)
 
 in-modes-requires : tie.Need-in-modes-requires
 in-modes-requires c κs =
@@ -37,7 +37,7 @@ in-modes-requires c κs =
     let first = whole .before in
     let a = first .before .before .before .before .before .before .args in
     let passed = sym (first .refusal .ensures) ∙ whole .if1 .left in
-    (is-ready _ passed .reaches, few-ticks (a .m .now) (a .order .now) passed)
+    (is-ready (a .text) _ passed .reaches, few-ticks (a .text) (a .m .now) (a .order .now) passed)
 
 returns-3 : tie.Need-returns-3
 returns-3 c =
@@ -46,7 +46,7 @@ returns-3 c =
     let second = ordered .before in
     let ticks = second .before in
     let whole = ticks .before in
-    refused-7 _ _ (sym (whole .before .refusal .ensures) ∙ whole .if1 .left) (sym (rw (ticks .ticks .ensures) at (second .order-refusal .ensures)) ∙ ordered .if2 .left)
+    refused-7 _ _ _ (sym (whole .before .refusal .ensures) ∙ whole .if1 .left) (sym (rw (ticks .ticks .ensures) at (second .order-refusal .ensures)) ∙ ordered .if2 .left)
     (omega (arith, needed .in-modes .ensures .0))
 
 returns-4 : tie.Need-returns-4
@@ -56,7 +56,7 @@ returns-4 c =
     let second = ordered .before in
     let ticks = second .before in
     let whole = ticks .before in
-    refused-8 _ _ (sym (whole .before .refusal .ensures) ∙ whole .if1 .left) (sym (rw (ticks .ticks .ensures) at (second .order-refusal .ensures)) ∙ ordered .if2 .left)
+    refused-8 _ _ _ (sym (whole .before .refusal .ensures) ∙ whole .if1 .left) (sym (rw (ticks .ticks .ensures) at (second .order-refusal .ensures)) ∙ ordered .if2 .left)
     (omega (arith, needed .in-modes .ensures .0)) (omega (arith, needed .in-modes .ensures .1))
 
 memory-good-requires : tie.Need-memory-good-requires
@@ -70,17 +70,17 @@ returns-5 c =
     let second = ordered .before in
     let ticks = second .before in
     let whole = ticks .before in
-    refused-10 _ _ (sym (whole .before .refusal .ensures) ∙ whole .if1 .left) (sym (rw (ticks .ticks .ensures) at (second .order-refusal .ensures)) ∙ ordered .if2 .left)
+    refused-10 _ _ _ (sym (whole .before .refusal .ensures) ∙ whole .if1 .left) (sym (rw (ticks .ticks .ensures) at (second .order-refusal .ensures)) ∙ ordered .if2 .left)
     (omega (arith, needed .in-modes .ensures .0)) (omega (arith, needed .in-modes .ensures .1)) (sym (good .memory-good .ensures) ∙ not-true _ (c .if5 .taken))
 
-delay-refusal-requires : tie.Need-delay-refusal-requires
-delay-refusal-requires c κs =
+unit-refusal-requires : tie.Need-unit-refusal-requires
+unit-refusal-requires c κs =
     let needed = c .before .before .before .before .before .before in
     let whole = needed .before .before .before .before in
     let first = whole .before in
     let a = first .before .before .before .before .before .before .args in
     let passed = sym (first .refusal .ensures) ∙ whole .if1 .left in
-    (is-ready _ passed .reaches, few-ticks (a .m .now) (a .order .now) passed)
+    (is-ready (a .text) _ passed .reaches, few-ticks (a .text) (a .m .now) (a .order .now) passed)
 
 returns-6 : tie.Need-returns-6
 returns-6 c =
@@ -90,8 +90,8 @@ returns-6 c =
     let second = ordered .before in
     let ticks = second .before in
     let whole = ticks .before in
-    c .delay-refusal .ensures
-    ∙ sym (past-memory _ _ (sym (whole .before .refusal .ensures) ∙ whole .if1 .left) (sym (rw (ticks .ticks .ensures) at (second .order-refusal .ensures)) ∙ ordered .if2 .left)
+    c .unit-refusal .ensures
+    ∙ sym (past-memory _ _ _ (sym (whole .before .refusal .ensures) ∙ whole .if1 .left) (sym (rw (ticks .ticks .ensures) at (second .order-refusal .ensures)) ∙ ordered .if2 .left)
     (omega (arith, needed .in-modes .ensures .0)) (omega (arith, needed .in-modes .ensures .1)) (sym (good .memory-good .ensures) ∙ not-false _ (c .before .if5 .left)))
 
 pub refusal-spec : {M : Type 1} → statement M
@@ -108,5 +108,5 @@ refusal-spec =
     returns-4
     memory-good-requires
     returns-5
-    delay-refusal-requires
+    unit-refusal-requires
     returns-6)

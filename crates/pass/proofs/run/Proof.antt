@@ -31,7 +31,7 @@ modifiers-requires c κs =
     let ticks = load .before .before in
     let known = ticks .before in
     let start = known .before .before .before .before .before .before in
-    (same-reach (generators .generators .kept .0) (start .pre .0 .reaches), omega (arith, ticks .ticks .ensures, start .pre .1 .1 .0))
+    (same-reach (generators .generators .kept .1 .0) (start .pre .0 .reaches), omega (arith, ticks .ticks .ensures, start .pre .1 .1 .0))
 
 close-requires : tie.Need-close-requires
 close-requires c κs =
@@ -42,7 +42,7 @@ close-requires c κs =
     let ticks = load .before .before in
     let known = ticks .before in
     let start = known .before .before .before .before .before .before in
-    same-reach (modifiers .modifiers .kept .0 ∙ generators .generators .kept .0) (start .pre .0 .reaches)
+    same-reach (modifiers .modifiers .kept .1 .0 ∙ generators .generators .kept .1 .0) (start .pre .0 .reaches)
 
 count-requires : tie.Need-count-requires
 count-requires c κs =
@@ -55,7 +55,7 @@ count-requires c κs =
     let ticks = load .before .before in
     let known = ticks .before in
     let start = known .before .before .before .before .before .before in
-    same-reach (close .close .kept .0 ∙ (modifiers .modifiers .kept .0 ∙ generators .generators .kept .0)) (start .pre .0 .reaches)
+    same-reach (close .close .kept .0 ∙ (modifiers .modifiers .kept .1 .0 ∙ generators .generators .kept .1 .0)) (start .pre .0 .reaches)
 
 same-length : tie.Need-same-length
 same-length c =
@@ -65,7 +65,7 @@ same-length c =
     let modifiers = called .before .before .before .before in
     let handed = modifiers .before .before .before .before in
     let generators = handed .before .before .before .before in
-    count .count .kept .0 ∙ (close .close .kept .0 ∙ (modifiers .modifiers .kept .0 ∙ generators .generators .kept .0))
+    count .count .kept .0 ∙ (close .close .kept .0 ∙ (modifiers .modifiers .kept .1 .0 ∙ generators .generators .kept .1 .0))
 
 same-length-2 : tie.Need-same-length-2
 same-length-2 c =
@@ -74,14 +74,14 @@ same-length-2 c =
     let modifiers = called .before .before .before .before in
     let handed = modifiers .before .before .before .before in
     let generators = handed .before .before .before .before in
-    generators .generators .kept .1 .1 .1 .1 .1 .0
+    generators .generators .kept .1 .1 .1 .1 .1 .1 .0
 
 same-length-3 : tie.Need-same-length-3
 same-length-3 c =
     let close = c .before .before .before .before .before .before in
     let called = close .before .before .before in
     let modifiers = called .before .before .before .before in
-    modifiers .modifiers .kept .1 .1 .0
+    modifiers .modifiers .kept .1 .1 .1 .0
 
 returns : tie.Need-returns
 unfolding zeros
@@ -94,7 +94,7 @@ returns c =
     let generators = handed .before .before .before .before in
     let load = generators .before .before .before .before .before in
     let ticks = load .before .before in
-    ran-by _ _ _ _ _ (ticks .ticks .ensures) (load .load .ensures) (generators .generators .ensures .0) (generators .generators .ensures .1) (modifiers .modifiers .ensures) (close .close .ensures) (count .count .ensures)
+    ran-by _ _ _ _ _ _ (ticks .ticks .ensures) (load .load .ensures) (generators .generators .ensures .0) (generators .generators .ensures .1) (modifiers .modifiers .ensures) (close .close .ensures) (count .count .ensures)
 
 pub run-spec : {M : Type 1} → statement M
 run-spec =

@@ -5,7 +5,7 @@ use native.Mathlib.Omega.{arith}
 use borrow.Author.Needs.{needs}
 use lib.ListN.{length, drop}
 use Rattle.lists.specs.Lists.{zeros}
-use Rattle.pass_model.specs.Generators.{of1978, State, begun, steps}
+use Rattle.pass_model.specs.Generators.{generatorsOf, State, begun, steps}
 use Rattle.pass_model.specs.Clipped.{markedBy}
 use Rattle.pass_generators.specs.Loops.{Ready}
 use Rattle.pass_generators.proofs.Runs.{steps-on, steps-end, marks-on, marks-end, reads-most, writes-most, still-ready}
@@ -13,20 +13,20 @@ use Rattle.pass_generators.proofs.generators.Statement.{statement}
 use Rattle.pass_generators.proofs.generators.Tie as tie
 
 abbrev Inv-loop : tie.InvT-loop
-Inv-loop m₀ s₀ clipped₀ order items places₀ sine decay switches triggered₀ done₀ i₀ m s clipped places triggered done i =
+Inv-loop text m₀ s₀ clipped₀ order items places₀ sine decay switches triggered₀ done₀ i₀ m s clipped places triggered done i =
     (i ≤ length order)
     × (length m ≡ length m₀)
     × (length places ≡ length places₀)
     × Ready m
     × (done .reads ≤ i)
     × (done .writes ≤ i)
-    × (steps of1978 items (record { words = m; sums = s; triggered = triggered; places = places; reads = done .reads; writes = done .writes }) (drop i order)
-    ≡ steps of1978 items (begun m₀ s₀ places₀) order)
-    × (markedBy of1978 items (record { words = m; sums = s; triggered = triggered; places = places; reads = done .reads; writes = done .writes }) clipped (drop i order)
-    ≡ markedBy of1978 items (begun m₀ s₀ places₀) clipped₀ order)
+    × (steps (generatorsOf text) items (record { words = m; sums = s; triggered = triggered; places = places; reads = done .reads; writes = done .writes }) (drop i order)
+    ≡ steps (generatorsOf text) items (begun m₀ s₀ places₀) order)
+    × (markedBy (generatorsOf text) items (record { words = m; sums = s; triggered = triggered; places = places; reads = done .reads; writes = done .writes }) clipped (drop i order)
+    ≡ markedBy (generatorsOf text) items (begun m₀ s₀ places₀) clipped₀ order)
 
 abbrev μ-loop : tie.MeasureT-loop
-μ-loop m₀ s₀ clipped₀ order items places₀ sine decay switches triggered₀ done₀ i₀ m s clipped places triggered done i =
+μ-loop text m₀ s₀ clipped₀ order items places₀ sine decay switches triggered₀ done₀ i₀ m s clipped places triggered done i =
     length order - i
 
 table-requires : tie.Need-table-requires Inv-loop μ-loop
@@ -69,24 +69,28 @@ loop-again c =
     let tables = z .before in
     let start = tables .before .before .before .before .before in
     let l = z .loop in
-    let items = start .args .items .now in
+    let a = start .args in
+    let items = a .items .now in
     let s : State = record { words = l .m; sums = l .s; triggered = l .triggered; places = l .places; reads = l .done .reads; writes = l .done .writes } in
-    let more : l .i < length (start .args .order .now) = test .loop-test .taken in
+    let more : l .i < length (a .order .now) = test .loop-test .taken in
     let below : entry .wide .result < 256 = rw (entry .wide .ensures) (start .pre .1 .0 .below (l .i) more) in (
       omega (arith, more),
-      taken .step .kept .0 ∙ l .inv .1,
-      taken .step .kept .1 .1 .1 .1 .1 .1 .1 .1 .0 ∙ l .inv .2,
-      still-ready items s _ (taken .step .ensures .0) below (l .inv .3),
-      omega (arith, reads-most items s _ (taken .step .ensures .0)),
-      omega (arith, writes-most items s _ (taken .step .ensures .0)),
-      steps-on items _ s _ _ more (entry .wide .ensures) (taken .step .ensures .0) ∙ l .inv .6,
-      marks-on items _ s _ _ _ more (entry .wide .ensures) (taken .step .ensures .0) (taken .step .ensures .1) ∙ l .inv .7,
+      taken .step .kept .1 .0 ∙ l .inv .1,
+      taken .step .kept .1 .1 .1 .1 .1 .1 .1 .1 .1 .0 ∙ l .inv .2,
+      still-ready (a .text) items s _ (taken .step .ensures .0) below (l .inv .3),
+      omega (arith, reads-most (a .text) items s _ (taken .step .ensures .0)),
+      omega (arith, writes-most (a .text) items s _ (taken .step .ensures .0)),
+      steps-on (a .text) items _ s _ _ more (entry .wide .ensures) (taken .step .ensures .0) ∙ l .inv .6,
+      marks-on (a .text) items _ s _ _ _ more (entry .wide .ensures) (taken .step .ensures .0) (taken .step .ensures .1) ∙ l .inv .7,
     )
 
 returns : tie.Need-returns Inv-loop μ-loop
 returns c =
     let z = c .before in
-    (steps-end _ _ _ _ (z .loop .i) (omega arith) (z .loop .inv .6), marks-end _ _ _ _ _ _ (z .loop .i) (omega arith) (z .loop .inv .7))
+    let a = z .before .before .before .before .before .before .args in (
+      steps-end (a .text) _ (a .order .now) _ _ (z .loop .i) (omega arith) (z .loop .inv .6),
+      marks-end (a .text) _ (a .order .now) _ _ _ _ (z .loop .i) (omega arith) (z .loop .inv .7),
+    )
 
 pub generators-spec : {M : Type 1} → statement M
 generators-spec =

@@ -11,12 +11,12 @@ use Rattle.pass_modifiers.proofs.modifiers.Statement.{statement}
 use Rattle.pass_modifiers.proofs.modifiers.Tie as tie
 
 abbrev Inv-loop : tie.InvT-loop
-Inv-loop m₀ s₀ memory₀ t n early₀ first msums₀ lefts₀ k₀ m s memory early msums lefts k =
+Inv-loop text m₀ s₀ memory₀ t n early₀ first msums₀ lefts₀ k₀ m s memory early msums lefts k =
     (k ≤ n) × (length m ≡ length m₀) × (length memory ≡ length memory₀)
-    × (record { held = record { words = m; memory = memory }; sums = s; early = early; msums = msums; lefts = lefts } ≡ lagged t (record { words = m₀; memory = memory₀ }) s₀ k)
+    × (record { held = record { words = m; memory = memory }; sums = s; early = early; msums = msums; lefts = lefts } ≡ lagged text t (record { words = m₀; memory = memory₀ }) s₀ k)
 
 abbrev μ-loop : tie.MeasureT-loop
-μ-loop m₀ s₀ memory₀ t n early₀ first msums₀ lefts₀ k₀ m s memory early msums lefts k = n - k
+μ-loop text m₀ s₀ memory₀ t n early₀ first msums₀ lefts₀ k₀ m s memory early msums lefts k = n - k
 
 loop-holds : tie.Need-loop-holds Inv-loop μ-loop
 unfolding lagged
@@ -35,16 +35,16 @@ loop-again c =
     let z = handed .before .before .before .before in
     let a = z .before .before .before .before .args in (
       omega arith,
-      p .step .kept .0 ∙ z .loop .inv .1,
-      p .step .kept .1 .1 .0 ∙ z .loop .inv .2,
-      lagged-on (a .t) (record { words = a .m .now; memory = a .memory .now }) (a .s .now) (z .loop .k) (p .step .ensures) (z .loop .inv .3),
+      p .step .kept .1 .0 ∙ z .loop .inv .1,
+      p .step .kept .1 .1 .1 .0 ∙ z .loop .inv .2,
+      lagged-on (a .text) (a .t) (record { words = a .m .now; memory = a .memory .now }) (a .s .now) (z .loop .k) (p .step .ensures) (z .loop .inv .3),
     )
 
 returns : tie.Need-returns Inv-loop μ-loop
 returns c =
     let z = c .before in
     let a = z .before .before .before .before .args in
-    stage-end (a .t) (record { words = a .m .now; memory = a .memory .now }) (a .s .now) (a .n) (z .loop .k) (omega arith) (z .loop .inv .3)
+    stage-end (a .text) (a .t) (record { words = a .m .now; memory = a .memory .now }) (a .s .now) (a .n) (z .loop .k) (omega arith) (z .loop .inv .3)
 
 pub modifiers-spec : {M : Type 1} → statement M
 modifiers-spec =

@@ -22,7 +22,7 @@ put-requires : tie.Need-put-requires
 put-requires c κs =
     let t = c .before .before .before .before .before in
     let u = t .before .before .before .before .before in
-    rw (t .taken .ensures .0, u .modifier-at .ensures) (turn-seen-low _ _ _ _ _ _ .s-low)
+    rw (t .taken .ensures .0, u .modifier-at .ensures) (turn-seen-low _ _ _ _ _ _ _ .s-low)
 
 returns : tie.Need-returns
 unfolding lagStep

@@ -17,13 +17,13 @@ refuse-requires c κs = search needs
 
 slice-aggregate-ring-all : tie.Need-slice-aggregate-ring-all
 slice-aggregate-ring-all c =
-    let file = c .before .before .before in
-    read-whole (file .before .before .before .before .args .text .now) (replicate machineLength 0) (replicate commandPlaces 0) (length-replicate {A = ℕ} machineLength 0) (file .read .ensures)
+    let reading = c .before .before .before in
+    read-whole (reading .before .before .before .before .args .file .now) (replicate machineLength 0) (replicate commandPlaces 0) (length-replicate {A = ℕ} machineLength 0) (reading .read .ensures)
 
 part-ring-all-end : tie.Need-part-ring-all-end
 part-ring-all-end c =
-    let file = c .before .before .before .before in
-    read-within (file .before .before .before .before .args .text .now) (replicate machineLength 0) (replicate commandPlaces 0) (length-replicate {A = ℕ} commandPlaces 0) (file .read .ensures)
+    let reading = c .before .before .before .before in
+    read-within (reading .before .before .before .before .args .file .now) (replicate machineLength 0) (replicate commandPlaces 0) (length-replicate {A = ℕ} commandPlaces 0) (reading .read .ensures)
 
 ring-all-requires : tie.Need-ring-all-requires
 ring-all-requires c κs = search needs

@@ -1,7 +1,7 @@
 -- `print` meets its contract: all that is printed lies within its buffer.
 -- Assumes nothing.
 use mathlib.Core.Path.{refl}
-use Rattle.sorted_findings.proofs.WholeText.{findings-within}
+use Rattle.sorted_findings.proofs.WholeFile.{findings-within}
 use borrow.Author.Needs.{needs}
 use Rattle.sorted.proofs.print.Statement.{statement}
 use Rattle.sorted.proofs.print.Tie as tie
@@ -13,7 +13,7 @@ part-write-all-end : tie.Need-part-write-all-end
 part-write-all-end c =
     let found = c .before in
     let a = found .before .before .before .before .args in
-    findings-within (a .text .now) (a .given) (a .order .now) _ refl (found .findings .ensures)
+    findings-within (a .file .now) (a .given) (a .order .now) _ refl (found .findings .ensures)
 
 write-all-requires : tie.Need-write-all-requires
 write-all-requires c κs = search needs

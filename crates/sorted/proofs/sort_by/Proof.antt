@@ -21,8 +21,8 @@ close-requires c κs = search needs
 write-all-requires-2 : tie.Need-write-all-requires-2
 write-all-requires-2 c κs = search needs
 
-array-share-prefix-text : tie.Need-array-share-prefix-text
-array-share-prefix-text c =
+array-share-prefix-file : tie.Need-array-share-prefix-file
+array-share-prefix-file c =
     let input = c .before .input .given in
     c .before .before .before .before .before .read-all .ensures (input .0 .0) (input .1)
 
@@ -40,4 +40,4 @@ sort-by-spec =
     tie.close
     (tie.spec open-read-requires (λ c. search needs) write-all-requires (λ c. search needs) (λ c. search needs)
     read-all-requires close-requires (λ c. search needs) (λ c. search needs) (λ c. search needs) write-all-requires-2
-    (λ c. search needs) array-share-prefix-text slice-aggregate-sort sort-requires (λ c. search needs))
+    (λ c. search needs) array-share-prefix-file slice-aggregate-sort sort-requires (λ c. search needs))

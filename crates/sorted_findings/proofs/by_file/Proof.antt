@@ -1,7 +1,7 @@
--- `sorted_findings::by_file` meets its contract: a text that is no order file, a machine that is refused, or two orders.
+-- `sorted_findings::by_file` meets its contract: a file that is no order file, a machine that is refused, or two orders.
 -- Assumes nothing.
 use Rattle.sorted_findings.proofs.Comparing.{first-asked}
-use Rattle.sorted_findings.proofs.WholeText.{file-refused, file-within, file-compared}
+use Rattle.sorted_findings.proofs.WholeFile.{file-refused, file-within, file-compared}
 use borrow.Author.Needs.{needs}
 use Rattle.sorted_findings.proofs.by_file.Statement.{statement}
 use Rattle.sorted_findings.proofs.by_file.Tie as tie
@@ -15,9 +15,9 @@ put-order-refusal-requires c κs = search needs
 returns : tie.Need-returns
 returns c =
     let refused = c .before .before in
-    let file = refused .before .before .before in
-    let a = file .before .before .before .args in
-    rw (file-refused (a .m .now) (a .text .now) (file .read .ensures) (refused .if1 .taken)) (c .put-order-refusal .ensures)
+    let reading = refused .before .before .before in
+    let a = reading .before .before .before .args in
+    rw (file-refused (a .text) (a .m .now) (a .file .now) (reading .read .ensures) (refused .if1 .taken)) (c .put-order-refusal .ensures)
 
 refusal-requires : tie.Need-refusal-requires
 refusal-requires c κs = search needs
@@ -30,17 +30,17 @@ returns-2 c =
     let refused = c .before .before in
     let asked = refused .before in
     let named = asked .before in
-    let file = named .before .before .before in
-    let a = file .before .before .before .args in
-    let order = file-compared (a .m .now) (a .text .now) (file .read .ensures) (named .if1 .left) in
-    rw (order, first-asked (a .m .now) _ (asked .refusal .ensures) (refused .if2 .taken)) (c .put-refusal .ensures)
+    let reading = named .before .before .before in
+    let a = reading .before .before .before .args in
+    let order = file-compared (a .text) (a .m .now) (a .file .now) (reading .read .ensures) (named .if1 .left) in
+    rw (order, first-asked (a .text) (a .m .now) _ (asked .refusal .ensures) (refused .if2 .taken)) (c .put-refusal .ensures)
 
 part-compared-end : tie.Need-part-compared-end
 part-compared-end c =
     let named = c .before .before .before in
-    let file = named .before .before .before in
-    let a = file .before .before .before .args in
-    file-within (a .m .now) (a .text .now) (file .read .ensures)
+    let reading = named .before .before .before in
+    let a = reading .before .before .before .args in
+    file-within (a .text) (a .m .now) (a .file .now) (reading .read .ensures)
 
 compared-requires : tie.Need-compared-requires
 compared-requires c κs = search needs
@@ -49,9 +49,9 @@ returns-3 : tie.Need-returns-3
 returns-3 c =
     let passed = c .before .before .before .before in
     let named = passed .before .before in
-    let file = named .before .before .before in
-    let a = file .before .before .before .args in
-    rw (file-compared (a .m .now) (a .text .now) (file .read .ensures) (named .if1 .left)) (c .compared .ensures)
+    let reading = named .before .before .before in
+    let a = reading .before .before .before .args in
+    rw (file-compared (a .text) (a .m .now) (a .file .now) (reading .read .ensures) (named .if1 .left)) (c .compared .ensures)
 
 pub by-file-spec : {M : Type 1} → statement M
 by-file-spec =

@@ -4,7 +4,7 @@ use mathlib.Core.Path.{sym, _∙_}
 use Rattle.order_pitch.specs.Pitch.{byPitch}
 use Rattle.compare.proofs.Asked.{is-traceable}
 use Rattle.sorted_findings.proofs.Comparing.{first-asked}
-use Rattle.sorted_findings.proofs.WholeText.{pitch-part, pitch-within}
+use Rattle.sorted_findings.proofs.WholeFile.{pitch-part, pitch-within}
 use borrow.Author.Needs.{needs}
 use Rattle.sorted_findings.proofs.by_pitch.Statement.{statement}
 use Rattle.sorted_findings.proofs.by_pitch.Tie as tie
@@ -19,23 +19,26 @@ returns : tie.Need-returns
 returns c =
     let refused = c .before .before in
     let asked = refused .before in
-    let m = asked .before .before .args .m .now in
-    rw (first-asked m (byPitch m) (asked .refusal .ensures) (refused .if1 .taken)) (c .put-refusal .ensures)
+    let a = asked .before .before .args in
+    let m = a .m .now in
+    rw (first-asked (a .text) m (byPitch m) (asked .refusal .ensures) (refused .if1 .taken)) (c .put-refusal .ensures)
 
 by-pitch-requires : tie.Need-by-pitch-requires
 by-pitch-requires c κs =
     let passed = c .before in
     let asked = passed .before in
-    let m = asked .before .before .args .m .now in
-    let ready = is-traceable m (sym (asked .refusal .ensures) ∙ passed .if1 .left) in
+    let a = asked .before .before .args in
+    let m = a .m .now in
+    let ready = is-traceable (a .text) m (sym (asked .refusal .ensures) ∙ passed .if1 .left) in
     (ready .reaches, ready .ticks)
 
 ticks-requires : tie.Need-ticks-requires
 ticks-requires c κs =
     let passed = c .before .before in
     let asked = passed .before in
-    let m = asked .before .before .args .m .now in
-    let ready = is-traceable m (sym (asked .refusal .ensures) ∙ passed .if1 .left) in
+    let a = asked .before .before .args in
+    let m = a .m .now in
+    let ready = is-traceable (a .text) m (sym (asked .refusal .ensures) ∙ passed .if1 .left) in
     ready .reaches
 
 part-compared-end : tie.Need-part-compared-end
@@ -44,8 +47,9 @@ part-compared-end c =
     let filled = ticks .before in
     let passed = filled .before .before in
     let asked = passed .before in
-    let m = asked .before .before .args .m .now in
-    let ready = is-traceable m (sym (asked .refusal .ensures) ∙ passed .if1 .left) in
+    let a = asked .before .before .args in
+    let m = a .m .now in
+    let ready = is-traceable (a .text) m (sym (asked .refusal .ensures) ∙ passed .if1 .left) in
     pitch-within m (ready .ticks) (filled .by-pitch .ensures) (ticks .ticks .ensures)
 
 compared-requires : tie.Need-compared-requires
@@ -57,8 +61,9 @@ returns-2 c =
     let filled = ticks .before in
     let passed = filled .before .before in
     let asked = passed .before in
-    let m = asked .before .before .args .m .now in
-    let ready = is-traceable m (sym (asked .refusal .ensures) ∙ passed .if1 .left) in
+    let a = asked .before .before .args in
+    let m = a .m .now in
+    let ready = is-traceable (a .text) m (sym (asked .refusal .ensures) ∙ passed .if1 .left) in
     rw (pitch-part m (ready .ticks) (filled .by-pitch .ensures) (ticks .ticks .ensures)) at (c .compared .ensures)
 
 pub by-pitch-spec : {M : Type 1} → statement M

@@ -10,23 +10,25 @@ by-number-requires : tie.Need-by-number-requires
 by-number-requires c κs = search needs
 
 ticks-requires : tie.Need-ticks-requires
-ticks-requires c κs = let start = c .before .before .before .before in is-traceable (start .args .m .now) (start .pre) .reaches
+ticks-requires c κs = let start = c .before .before .before .before in is-traceable _ (start .args .m .now) (start .pre) .reaches
 
 part-put-compared-end : tie.Need-part-put-compared-end
 part-put-compared-end c =
     let ticks = c .before in
     let numbers = ticks .before in
     let start = numbers .before .before .before .before in
-    let m = start .args .m .now in
-    numbers-within m (is-traceable m (start .pre) .ticks) (numbers .by-number .ensures) (ticks .ticks .ensures)
+    let a = start .args in
+    let m = a .m .now in
+    numbers-within m (is-traceable (a .text) m (start .pre) .ticks) (numbers .by-number .ensures) (ticks .ticks .ensures)
 
 put-compared-requires : tie.Need-put-compared-requires
 put-compared-requires c κs =
     let ticks = c .before .before .before in
     let numbers = ticks .before in
     let start = numbers .before .before .before .before in
-    let m = start .args .m .now in
-    numbers-part m (is-traceable m (start .pre) .ticks) (numbers .by-number .ensures) (ticks .ticks .ensures)
+    let a = start .args in
+    let m = a .m .now in
+    numbers-part m (is-traceable (a .text) m (start .pre) .ticks) (numbers .by-number .ensures) (ticks .ticks .ensures)
 
 pub compared-spec : {M : Type 1} → statement M
 compared-spec =

@@ -1,11 +1,11 @@
--- `sorted_findings::findings` meets its contract: a text that is no bench file, an order file, or the order by pitch.
+-- `sorted_findings::findings` meets its contract: a file that is no bench file, an order file, or the order by pitch.
 -- Assumes nothing.
 use Prim.Native.Nat.{ℕ}
 use lib.ListN.{replicate, length-replicate}
 use Rattle.layout.specs.Layout.{machineLength}
 use Rattle.bench_file.specs.BenchFile.{commandPlaces}
 use Rattle.bench_ringing.proofs.RungFile.{read-whole}
-use Rattle.sorted_findings.proofs.WholeText.{text-refused, text-given, text-sorted}
+use Rattle.sorted_findings.proofs.WholeFile.{bench-refused, bench-given, bench-sorted}
 use borrow.Author.Needs.{needs}
 use Rattle.sorted_findings.proofs.findings.Statement.{statement}
 use Rattle.sorted_findings.proofs.findings.Tie as tie
@@ -19,15 +19,15 @@ put-refusal-requires c κs = search needs
 returns : tie.Need-returns
 returns c =
     let refused = c .before .before in
-    let file = refused .before .before in
-    let a = file .before .before .before .before .before .args in
-    rw (text-refused (a .text .now) (replicate machineLength 0) (replicate commandPlaces 0) (file .read .ensures) (refused .if1 .taken) (a .given) (a .order .now)) (c .put-refusal .ensures)
+    let reading = refused .before .before in
+    let a = reading .before .before .before .before .before .args in
+    rw (bench-refused (a .file .now) (replicate machineLength 0) (replicate commandPlaces 0) (reading .read .ensures) (refused .if1 .taken) (a .given) (a .order .now)) (c .put-refusal .ensures)
 
 slice-aggregate-by-file : tie.Need-slice-aggregate-by-file
 slice-aggregate-by-file c =
-    let file = c .before .before .before .before in
-    let a = file .before .before .before .before .before .args in
-    read-whole (a .text .now) (replicate machineLength 0) (replicate commandPlaces 0) (length-replicate {A = ℕ} machineLength 0) (file .read .ensures)
+    let reading = c .before .before .before .before in
+    let a = reading .before .before .before .before .before .args in
+    read-whole (a .file .now) (replicate machineLength 0) (replicate commandPlaces 0) (length-replicate {A = ℕ} machineLength 0) (reading .read .ensures)
 
 by-file-requires : tie.Need-by-file-requires
 by-file-requires c κs = search needs
@@ -36,15 +36,15 @@ returns-2 : tie.Need-returns-2
 returns-2 c =
     let given = c .before .before .before in
     let good = given .before in
-    let file = good .before .before in
-    let a = file .before .before .before .before .before .args in
-    rw (text-given (a .text .now) (replicate machineLength 0) (replicate commandPlaces 0) (file .read .ensures) (good .if1 .left) (given .if2 .taken) (a .order .now)) (c .by-file .ensures)
+    let reading = good .before .before in
+    let a = reading .before .before .before .before .before .args in
+    rw (bench-given (a .file .now) (replicate machineLength 0) (replicate commandPlaces 0) (reading .read .ensures) (good .if1 .left) (given .if2 .taken) (a .order .now)) (c .by-file .ensures)
 
 slice-aggregate-by-pitch : tie.Need-slice-aggregate-by-pitch
 slice-aggregate-by-pitch c =
-    let file = c .before .before .before .before in
-    let a = file .before .before .before .before .before .args in
-    read-whole (a .text .now) (replicate machineLength 0) (replicate commandPlaces 0) (length-replicate {A = ℕ} machineLength 0) (file .read .ensures)
+    let reading = c .before .before .before .before in
+    let a = reading .before .before .before .before .before .args in
+    read-whole (a .file .now) (replicate machineLength 0) (replicate commandPlaces 0) (length-replicate {A = ℕ} machineLength 0) (reading .read .ensures)
 
 by-pitch-requires : tie.Need-by-pitch-requires
 by-pitch-requires c κs = search needs
@@ -53,9 +53,9 @@ returns-3 : tie.Need-returns-3
 returns-3 c =
     let sorted = c .before .before .before in
     let good = sorted .before in
-    let file = good .before .before in
-    let a = file .before .before .before .before .before .args in
-    rw (text-sorted (a .text .now) (replicate machineLength 0) (replicate commandPlaces 0) (file .read .ensures) (good .if1 .left) (sorted .if2 .left) (a .order .now)) (c .by-pitch .ensures)
+    let reading = good .before .before in
+    let a = reading .before .before .before .before .before .args in
+    rw (bench-sorted (a .file .now) (replicate machineLength 0) (replicate commandPlaces 0) (reading .read .ensures) (good .if1 .left) (sorted .if2 .left) (a .order .now)) (c .by-pitch .ensures)
 
 pub findings-spec : {M : Type 1} → statement M
 findings-spec =

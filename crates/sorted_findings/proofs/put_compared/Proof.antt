@@ -18,7 +18,7 @@ returns c =
     let made = refused .before .before .before .before in
     let start = made .before .before .before .before .before .before in
     let a = start .args in
-    rw (says-refused (a .m .now) (a .second .now) (start .pre) (made .parts .ensures) (refused .if1 .taken)) (c .put-refusal .ensures)
+    rw (says-refused (a .text) (a .m .now) (a .second .now) (start .pre) (made .parts .ensures) (refused .if1 .taken)) (c .put-refusal .ensures)
 
 order-lines-requires : tie.Need-order-lines-requires
 order-lines-requires c κs =
@@ -26,7 +26,7 @@ order-lines-requires c κs =
     let made = passed .before .before .before .before in
     let start = made .before .before .before .before .before .before in
     let a = start .args in
-    omega (arith, lines-room (a .m .now) (a .second .now) (start .pre) (made .parts .ensures) (passed .if1 .left))
+    omega (arith, lines-room (a .text) (a .m .now) (a .second .now) (start .pre) (made .parts .ensures) (passed .if1 .left))
 
 put-found-requires : tie.Need-put-found-requires
 put-found-requires c κs =
@@ -35,7 +35,7 @@ put-found-requires c κs =
     let made = passed .before .before .before .before in
     let start = made .before .before .before .before .before .before in
     let a = start .args in
-    (line-room (a .m .now) (a .second .now) (start .pre) (made .parts .ensures) (passed .if1 .left) (lines .order-lines .ensures .0), search needs)
+    (line-room (a .text) (a .m .now) (a .second .now) (start .pre) (made .parts .ensures) (passed .if1 .left) (lines .order-lines .ensures .0), search needs)
 
 returns-2 : tie.Need-returns-2
 returns-2 c =
@@ -44,7 +44,7 @@ returns-2 c =
     let made = passed .before .before .before .before in
     let start = made .before .before .before .before .before .before in
     let a = start .args in
-    says-both (a .m .now) (a .second .now) (start .pre) (made .parts .ensures) (passed .if1 .left) (a .out .now) (lines .order-lines .ensures) (c .put-found .ensures)
+    says-both (a .text) (a .m .now) (a .second .now) (start .pre) (made .parts .ensures) (passed .if1 .left) (a .out .now) (lines .order-lines .ensures) (c .put-found .ensures)
 
 pub put-compared-spec : {M : Type 1} → statement M
 put-compared-spec =

@@ -15,26 +15,26 @@ part-put-end : tie.Need-part-put-end
 part-put-end c =
     let made = c .before .before in
     let a = made .before .before .args in
-    let text = failingLine (a .parted .point) (a .parted .place) (a .difference) in
+    let file = failingLine (a .parted .point) (a .parted .place) (a .difference) in
     let short = failing-line-length (a .parted .point) (a .parted .place) (a .difference) in
-    part-within text _ (omega (arith, short)) (made .failing-line .ensures)
+    part-within file _ (omega (arith, short)) (made .failing-line .ensures)
 
 put-requires : tie.Need-put-requires
 put-requires c κs =
     let made = c .before .before .before in
     let start = made .before .before in
     let a = start .args in
-    let text = failingLine (a .parted .point) (a .parted .place) (a .difference) in
+    let file = failingLine (a .parted .point) (a .parted .place) (a .difference) in
     let short = failing-line-length (a .parted .point) (a .parted .place) (a .difference) in
-    part-fits text _ (omega (arith, short)) (made .failing-line .ensures) (a .at) _ (omega (arith, start .pre .0, short))
+    part-fits file _ (omega (arith, short)) (made .failing-line .ensures) (a .at) _ (omega (arith, start .pre .0, short))
 
 returns : tie.Need-returns
 returns c =
     let made = c .before .before .before .before in
     let a = made .before .before .args in
-    let text = failingLine (a .parted .point) (a .parted .place) (a .difference) in
+    let file = failingLine (a .parted .point) (a .parted .place) (a .difference) in
     let short = failing-line-length (a .parted .point) (a .parted .place) (a .difference) in
-    part-put text _ (omega (arith, short)) (made .failing-line .ensures) (a .at) (a .out .now) (c .put .ensures)
+    part-put file _ (omega (arith, short)) (made .failing-line .ensures) (a .at) (a .out .now) (c .put .ensures)
 
 pub put-failing-spec : {M : Type 1} → statement M
 put-failing-spec =

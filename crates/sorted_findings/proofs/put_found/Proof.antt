@@ -15,7 +15,7 @@ returns c =
     let same = c .before .before .before in
     let a = same .before .before .before .before .before .args in
     let found : Parting = record { number = a .parted .number; point = a .parted .point; place = a .parted .place; contents = a .contents .now; items = a .items .now } in
-    rw (found-equal (a .first .now) (a .second .now) found (same .if1 .taken)) (c .put .ensures)
+    rw (found-equal (a .text) (a .first .now) (a .second .now) found (same .if1 .taken)) (c .put .ensures)
 
 differ-by-requires : tie.Need-differ-by-requires
 differ-by-requires c κs = search needs
@@ -26,7 +26,7 @@ put-failing-requires c κs =
     let parted = shown .before in
     let start = parted .before .before .before .before .before in
     let a = start .args in
-    (start .pre .0, rw (shown .differ-by .ensures) (place-small (a .contents .now) (a .items .now) (a .first .now) (a .second .now) (start .pre .1)))
+    (start .pre .0, rw (shown .differ-by .ensures) (place-small (a .text) (a .contents .now) (a .items .now) (a .first .now) (a .second .now) (start .pre .1)))
 
 returns-2 : tie.Need-returns-2
 returns-2 c =
@@ -34,7 +34,7 @@ returns-2 c =
     let parted = shown .before in
     let a = parted .before .before .before .before .before .args in
     let found : Parting = record { number = a .parted .number; point = a .parted .point; place = a .parted .place; contents = a .contents .now; items = a .items .now } in
-    rw (found-failing (a .first .now) (a .second .now) found (parted .if1 .left), ← (shown .differ-by .ensures)) (c .put-failing .ensures)
+    rw (found-failing (a .text) (a .first .now) (a .second .now) found (parted .if1 .left), ← (shown .differ-by .ensures)) (c .put-failing .ensures)
 
 pub put-found-spec : {M : Type 1} → statement M
 put-found-spec =

@@ -1,21 +1,21 @@
--- The generators of the 1978 text: the DACs that they name, and the words that they are loaded from.
+-- The generators of a text: the DACs that they name, and the words that they are loaded from.
 -- Assumes nothing.
 use mathlib.Core.Path.{_≡_}
 use Prim.Native.Nat.{ℕ, _+_, _<_}
-use native.Mathlib.Omega.{arith}
 use lib.Dec.{lit<}
 use lib.ListN.{getD, drop}
 use lib.Seq.{getD-drop}
 use Rattle.layout.specs.Layout.{generatorAt}
 use Rattle.layout.specs.Machine.{Machine}
+use Rattle.texts.specs.declared.Text.{Text}
 use Rattle.generator.specs.Generator.{loaded}
-use Rattle.pass_model.specs.Generators.{generatorOf, turn1978, of1978}
+use Rattle.pass_model.specs.Generators.{generatorOf, generatorsOf}
+use Rattle.pass_model.proofs.Keeps.{turn-keeps}
 use Rattle.pass_laws.proofs.Frames.{Sixteen}
 
--- A DAC number is the low 4 bits of GO.
-pub sixteen : Sixteen of1978
-unfolding turn1978
-sixteen = record { dac-low = λ words sums g told. omega arith }
+-- A DAC number is below 16.
+pub sixteen : (text : Text) → Sixteen (generatorsOf text)
+sixteen text = record { dac-low = λ words sums g told. turn-keeps text words sums g told .dac-low }
 
 -- A generator is its eleven words.
 pub same-generator : (l m : Machine) (k : ℕ) → ((j : ℕ) → j < 11 → getD l (generatorAt k + j) 0 ≡ getD m (generatorAt k + j) 0) → generatorOf l k ≡ generatorOf m k

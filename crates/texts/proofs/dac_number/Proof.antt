@@ -1,4 +1,4 @@
--- `layout::dac_number` meets its contract: the low 4 bits of GO are a number below 16.
+-- `texts::dac_number` meets its contract: the low 4 bits of GO are a number below 16.
 -- Assumes nothing.
 use mathlib.Core.Path.{_≡_}
 use Prim.Native.Nat.{_*_, _%_}
@@ -6,8 +6,9 @@ use native.Mathlib.Nat.{mod-lt, add-zero}
 use native.Mathlib.Omega.{arith}
 use borrow.Author.Needs.{needs}
 use lib.ListN.{getD}
-use Rattle.layout.proofs.dac_number.Statement.{statement}
-use Rattle.layout.proofs.dac_number.Tie as tie
+use Rattle.texts.proofs.One.{one}
+use Rattle.texts.proofs.dac_number.Statement.{statement}
+use Rattle.texts.proofs.dac_number.Tie as tie
 
 wide-requires : tie.Need-wide-requires
 wide-requires c κs = search needs
@@ -16,7 +17,7 @@ returns : tie.Need-returns
 returns c =
     let b = c .before .before .before .args in
     let e : c .wide .result ≡ getD (b .m .now) (11 * b .g) 0 % 16 = rw (add-zero (11 * b .g)) at (c .wide .ensures) in
-    (e, rw e (mod-lt (getD (b .m .now) (11 * b .g) 0) {m = 16} (omega arith)))
+    rw (one (b .text)) (e, rw e (mod-lt (getD (b .m .now) (11 * b .g) 0) {m = 16} (omega arith)))
 
 pub dac-number-spec : {M : Type 1} → statement M
 dac-number-spec =

@@ -1,0 +1,128 @@
+-- A file by what reading it answers: refused by 9, by question 2, or rung; in each case what is made of it is its file.
+-- Assumes nothing.
+use mathlib.Core.Path.{_≡_, refl, sym, _∙_, ap}
+use mathlib.Core.Logic.{_≢_}
+use mathlib.Core.Bool.{Bool, true, false}
+use mathlib.Core.List.{List, [], _∷_}
+use Prim.Native.Nat.{ℕ, _-_, _≤_}
+use native.Mathlib.Omega.{arith}
+use borrow.Author.Tests.{eq-eqb, ne-eqb}
+use lib.ListN.{length, getD, take, replicate}
+use lib.Seq.{sets}
+use Rattle.lists.specs.Lists.{zeros}
+use Rattle.layout.specs.Layout.{nAt, memoryWords}
+use Rattle.texts.specs.declared.Text.the-variants.{Of1978}
+use Rattle.questions.specs.Questions.{asked}
+use Rattle.machine.specs.Questions.{question1, question2}
+use Rattle.bench_bytes.proofs.Puts.{first-part}
+use Rattle.bench_lines.specs.Lines.{mostPasses}
+use Rattle.bench_file.specs.BenchFile.{fileOf, isBenchFile, commandPlaces, Answer, readOf}
+use Rattle.bench_file.proofs.FewCommands.{few-commands}
+use Rattle.bench_ringing.specs.Ringing.{memoryAtFirst}
+use Rattle.bench_ringing.specs.Heard.{Heard, heardRefused, heard}
+use Rattle.bench_wave.specs.Wave.{heardOf, heardFile, waveFile, waveOf}
+use Rattle.bench_wave.proofs.FewPasses.{few-passes}
+use Rattle.bench_wave.proofs.Sounding.{silent}
+
+-- A delay memory of zeros, as the code has it.
+pub zeros-at-first : replicate memoryWords 0 ≡ memoryAtFirst
+unfolding memoryAtFirst zeros
+zeros-at-first = refl
+
+module _ (file m room : List ℕ) where
+  good : isBenchFile file ≡ true
+      → readOf file m room ≡ record { number = 0; passes = fileOf file .passes; count = length (fileOf file .commands); machine = fileOf file .machine; room = sets room 0 (fileOf file .commands) }
+  unfolding readOf
+  good e = rw e
+
+  bad : isBenchFile file ≡ false → readOf file m room ≡ record { number = 9; passes = 0; count = 0; machine = m; room = room }
+  unfolding readOf
+  bad e = rw e
+
+  output-is : waveOf file .output ≡ waveFile (getD (fileOf file .machine) nAt 0) (heardFile file)
+  unfolding waveOf
+  output-is = refl
+
+  heard-bad : isBenchFile file ≡ false → heardFile file ≡ heardRefused 9
+  unfolding heardFile
+  heard-bad e = rw e
+
+  heard-good : isBenchFile file ≡ true → heardFile file ≡ heardOf (fileOf file)
+  unfolding heardFile
+  heard-good e = rw e
+
+  -- What is told of a file: the number, the file's length, and the file as the first part of a buffer.
+  abbrev pub Told : ℕ → ℕ → List ℕ → Type 0
+  Told number size out = (number ≡ heardFile file .number) × ((size ≡ length (waveOf file .output)) × (take size out ≡ waveOf file .output))
+
+  refused : {number : ℕ} (out : List ℕ) → number ≢ 0 → heardFile file ≡ heardRefused number → Told number 0 out
+  refused {number} out h e =
+      let n = getD (fileOf file .machine) nAt 0 in
+      let w : waveOf file .output ≡ [] = output-is ∙ ap (waveFile n) e ∙ silent n (heardRefused number) h in
+      (sym (ap (λ (x : Heard). x .number) e), (ap length (sym w), sym w))
+
+  module _ {number passes count : ℕ} {m' room' : List ℕ} (read : record { number = number; passes = passes; count = count; machine = m'; room = room' } ≡ readOf file m room) where
+    number-is : readOf file m room .number ≡ number
+    number-is = sym (ap (λ (a : Answer). a .number) read)
+
+    -- It asks for few passes.
+    pub few-read : passes ≤ mostPasses
+    few-read = go (isBenchFile file) refl
+      where
+        go : (b : Bool) → isBenchFile file ≡ b → passes ≤ mostPasses
+        go true e = omega (arith, ap (λ (a : Answer). a .passes) (read ∙ good e), few-passes file)
+        go false e = omega (arith, ap (λ (a : Answer). a .passes) (read ∙ bad e))
+
+    -- It is no bench file.
+    pub told-no : (out : List ℕ) → number ≢ 0 → Told number 0 out
+    told-no out h = go (isBenchFile file) refl
+      where
+        go : (b : Bool) → isBenchFile file ≡ b → Told number 0 out
+        go true e = absurd (h (ap (λ (a : Answer). a .number) (read ∙ good e)))
+        go false e = refused out h (heard-bad e ∙ ap heardRefused (sym (ap (λ (a : Answer). a .number) (read ∙ bad e))))
+
+    -- It is one.
+    module _ (z : number ≡ 0) where
+      is-good : isBenchFile file ≡ true
+      is-good = go (isBenchFile file) refl
+        where
+          go : (b : Bool) → isBenchFile file ≡ b → b ≡ true
+          go true e = refl
+          go false e = absurd (not-nine (sym (ap (λ (a : Answer). a .number) (read ∙ bad e)) ∙ z))
+            where
+              not-nine : _≡_ {A = ℕ} 9 0 → ⊥
+              not-nine q = omega (arith, q)
+
+      machine-is : m' ≡ fileOf file .machine
+      machine-is = ap (λ (a : Answer). a .machine) (read ∙ good is-good)
+
+      first-heard : asked (question1 m' ∷ question2 Of1978 m' ∷ []) ≢ 0 → heardFile file ≡ heardRefused (asked (question1 m' ∷ question2 Of1978 m' ∷ []))
+      unfolding heardOf
+      first-heard h = heard-good is-good ∙ rw (← machine-is, ne-eqb (asked (question1 m' ∷ question2 Of1978 m' ∷ [])) 0 h)
+
+      -- Questions 1 and 2 refuse its machine.
+      pub told-questions : {first : ℕ} (out : List ℕ) → first ≡ asked (question1 m' ∷ question2 Of1978 m' ∷ []) → first ≢ 0 → Told first 0 out
+      told-questions out e h = refused out h (first-heard (λ q. h (e ∙ q)) ∙ ap heardRefused (sym e))
+
+      commands-are : length room ≡ commandPlaces → take (count - 0) room' ≡ fileOf file .commands
+      commands-are l =
+          let reading = fileOf file in
+          let k : count - 0 ≡ length (reading .commands) = omega (arith, ap (λ (a : Answer). a .count) (read ∙ good is-good)) in
+          ap (λ (i : ℕ). take i room') k ∙ ap (take (length (reading .commands))) (ap (λ (a : Answer). a .room) (read ∙ good is-good))
+          ∙ first-part (reading .commands) room (omega (arith, l, few-commands file is-good))
+
+      rung-heard : length room ≡ commandPlaces → asked (question1 m' ∷ question2 Of1978 m' ∷ []) ≡ 0 → heardFile file ≡ heard Of1978 passes m' memoryAtFirst (take (count - 0) room')
+      unfolding heardOf
+      rung-heard l q =
+          heard-good is-good
+          ∙ rw (← machine-is, eq-eqb (asked (question1 m' ∷ question2 Of1978 m' ∷ [])) 0 q, ← (ap (λ (a : Answer). a .passes) (read ∙ good is-good)), ← (commands-are l))
+
+      -- It was rung.
+      pub told-rung : {result size : ℕ} (out : List ℕ) → length room ≡ commandPlaces → asked (question1 m' ∷ question2 Of1978 m' ∷ []) ≡ 0 → let h = heard Of1978 passes m' memoryAtFirst (take (count - 0) room') in
+          (result ≡ h .number) × ((size ≡ length (waveFile (getD m' nAt 0) h)) × (take size out ≡ waveFile (getD m' nAt 0) h)) → Told result size out
+      told-rung out l q (en, (es, et)) =
+          let e = rung-heard l q in
+          let w : waveOf file .output ≡ waveFile (getD m' nAt 0) (heard Of1978 passes m' memoryAtFirst (take (count - 0) room')) =
+          output-is ∙ ap (waveFile (getD (fileOf file .machine) nAt 0)) e
+          ∙ ap (λ (l' : List ℕ). waveFile (getD l' nAt 0) (heard Of1978 passes m' memoryAtFirst (take (count - 0) room'))) (sym machine-is) in
+          (en ∙ ap (λ (x : Heard). x .number) (sym e), (es ∙ ap length (sym w), et ∙ sym w))

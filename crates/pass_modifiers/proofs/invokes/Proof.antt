@@ -1,0 +1,22 @@
+-- `invokes` meets its contract: a modifier does by its function's code.
+-- Assumes nothing.
+use mathlib.Core.Path.{_∙_, ap}
+use Prim.Native.Nat.{ℕ}
+use lib.Dec.{eqb}
+use borrow.Author.Needs.{needs}
+use Rattle.texts.proofs.One.{one}
+use Rattle.pass_modifiers.proofs.invokes.Statement.{statement}
+use Rattle.pass_modifiers.proofs.invokes.Tie as tie
+
+function-requires : tie.Need-function-requires
+function-requires c κs = search needs
+
+invoking-requires : tie.Need-invoking-requires
+invoking-requires c κs = search needs
+
+returns : tie.Need-returns
+returns c =
+    rw (one (c .before .before .args .text)) (c .invoking .ensures ∙ ap (λ (f : ℕ). eqb f 0b00111) (c .before .function .ensures))
+
+pub invokes-spec : {M : Type 1} → statement M
+invokes-spec = tie.close (tie.spec function-requires invoking-requires returns)

@@ -1,0 +1,121 @@
+-- What is printed of a file, by what reading it and an order file answers.
+-- Assumes nothing.
+use mathlib.Core.Path.{_≡_, refl, sym, ap, _∙_}
+use mathlib.Core.Logic.{_≢_}
+use mathlib.Core.Bool.{Bool, true, false, cond}
+use mathlib.Core.List.{List}
+use Prim.Native.Nat.{ℕ, _-_, _≤_}
+use native.Mathlib.Omega.{arith}
+use native.Mathlib.Nat.{sub-zero}
+use lib.ListN.{length, take, replicate, length-replicate}
+use lib.Seq.{sets, length-sets}
+use Rattle.lists.specs.Lists.{zeros}
+use Rattle.lists.proofs.Choices.{of-cond}
+use Rattle.lists.proofs.Zeros.{zeros-length}
+use Rattle.layout.specs.Layout.{generators}
+use Rattle.layout.specs.Machine.{Machine, Order, ticksOf}
+use Rattle.texts.specs.declared.Text.{Text}
+use Rattle.texts.specs.declared.Text.the-variants.{Of1978}
+use Rattle.order_pitch.specs.Pitch.{byPitch}
+use Rattle.order_pitch.proofs.Sorted.{by-pitch-sorted}
+use Rattle.order_file.specs.OrderFile.{Answer, isOrderFile, orderOf, noOrderFile, readOf}
+use Rattle.order_file.proofs.Answers.{number-zero, number-nine, count-within, entries-are}
+use Rattle.bench_bytes.proofs.Puts.{first-part}
+use Rattle.bench_text.specs.Text.{refusalLine}
+use Rattle.bench_text.proofs.Lines.{refusal-line-length}
+use Rattle.bench_file.specs.BenchFile.{fileOf, isBenchFile, Answer as FileAnswer, readOf as fileReadOf}
+use Rattle.sorted_lines.specs.SortedLines.{orderRefusalLine}
+use Rattle.sorted_lines.proofs.Lines.{order-refusal-line-length}
+use Rattle.sorted_findings.specs.Findings.{comparedLines, byFileLines, findingsOf, findingsRoom}
+use Rattle.sorted_findings.proofs.Comparing.{compared-length}
+
+-- The order by pitch is the first T entries of what was filled.
+module _ (m : Machine) (few : ticksOf m ≤ generators) {order : Order} {t : ℕ} (filled : order ≡ sets (replicate generators 0) 0 (byPitch m)) (et : t ≡ ticksOf m) where
+  pitch-length : length (byPitch m) ≡ ticksOf m
+  pitch-length = by-pitch-sorted m .is-order .entries
+
+  pub pitch-within : t ≤ length order
+  pitch-within = omega (arith, et, few, ap length filled, length-sets (replicate generators 0) 0 (byPitch m), length-replicate {A = ℕ} generators 0)
+
+  pub pitch-part : take (t - 0) order ≡ byPitch m
+  pitch-part =
+      let k : t - 0 ≡ length (byPitch m) = omega (arith, et, pitch-length) in
+      rw (k, filled) (first-part (byPitch m) (replicate generators 0) (omega (arith, pitch-length, few, length-replicate {A = ℕ} generators 0)))
+
+-- The entries that were read, with those after them, are as many as there are generators.
+entries-length : (file : List ℕ) → length (readOf file .entries) ≡ generators
+unfolding readOf noOrderFile
+entries-length file =
+    of-cond (λ (a : Answer). length (a .entries) ≡ generators) (isOrderFile file) (length-sets (zeros generators) 0 (orderOf file) ∙ zeros-length generators) (zeros-length generators)
+
+-- An order file.
+module _ (text : Text) (m : Machine) (file : List ℕ) {a : Answer} (read : a ≡ readOf file) where
+  pub file-refused : a .number ≢ 0 → byFileLines text m file ≡ orderRefusalLine (a .number)
+  unfolding byFileLines
+  file-refused h =
+      let q = number-nine file (λ z. h (ap (λ (b : Answer). b .number) read ∙ z)) in
+      rw (q .0) (ap orderRefusalLine (sym (ap (λ (b : Answer). b .number) read ∙ q .1)))
+
+  pub file-within : a .count ≤ length (a .entries)
+  file-within =
+      omega (arith, ap (λ (b : Answer). b .count) read, ap (λ (b : Answer). length (b .entries)) read, count-within file, entries-length file)
+
+  pub file-compared : a .number ≡ 0 → byFileLines text m file ≡ comparedLines text m (take (a .count - 0) (a .entries))
+  unfolding byFileLines
+  file-compared z =
+      let good = number-zero file (sym (ap (λ (b : Answer). b .number) read) ∙ z) in
+      rw (sub-zero, read, entries-are file good, good)
+
+-- A bench file.
+module _ (file m room : List ℕ) {a : FileAnswer} (read : a ≡ fileReadOf file m room) where
+  good : isBenchFile file ≡ true → (a .number ≡ 0) × (a .machine ≡ fileOf file .machine)
+  unfolding fileReadOf
+  good e = rw (read, e) (refl, refl)
+
+  bad : isBenchFile file ≡ false → a .number ≡ 9
+  unfolding fileReadOf
+  bad e = rw (read, e)
+
+  pub bench-refused : a .number ≢ 0 → (given : Bool) (orderFile : List ℕ) → findingsOf file given orderFile ≡ refusalLine (a .number)
+  unfolding findingsOf
+  bench-refused h given orderFile = go (isBenchFile file) refl
+    where
+      go : (b : Bool) → isBenchFile file ≡ b
+          → cond b (cond given (byFileLines Of1978 (fileOf file .machine) orderFile) (comparedLines Of1978 (fileOf file .machine) (byPitch (fileOf file .machine)))) (refusalLine 9)
+          ≡ refusalLine (a .number)
+      go true e = absurd (h (good e .0))
+      go false e = ap refusalLine (sym (bad e))
+
+  module _ (z : a .number ≡ 0) where
+    is-good : isBenchFile file ≡ true
+    is-good = go (isBenchFile file) refl
+      where
+        go : (b : Bool) → isBenchFile file ≡ b → b ≡ true
+        go true e = refl
+        go false e = absurd (omega (arith, bad e, z))
+
+    pub bench-given : {given : Bool} → given ≡ true → (orderFile : List ℕ) → findingsOf file given orderFile ≡ byFileLines Of1978 (a .machine) orderFile
+    unfolding findingsOf
+    bench-given e orderFile = rw (is-good, e, good is-good .1)
+
+    pub bench-sorted : {given : Bool} → given ≡ false → (orderFile : List ℕ) → findingsOf file given orderFile ≡ comparedLines Of1978 (a .machine) (byPitch (a .machine))
+    unfolding findingsOf
+    bench-sorted e orderFile = rw (is-good, e, good is-good .1)
+
+-- All that is printed has room in its buffer.
+by-file-length : (m : Machine) (file : List ℕ) → length (byFileLines Of1978 m file) ≤ findingsRoom
+unfolding byFileLines
+by-file-length m file =
+    of-cond (λ (l : List ℕ). length l ≤ findingsRoom) (isOrderFile file) (compared-length Of1978 m (orderOf file)) (omega (arith, order-refusal-line-length 9))
+
+findings-length : (file : List ℕ) (given : Bool) (order : List ℕ) → length (findingsOf file given order) ≤ findingsRoom
+unfolding findingsOf
+findings-length file given order =
+    let m = fileOf file .machine in
+    of-cond (λ (l : List ℕ). length l ≤ findingsRoom) (isBenchFile file)
+    (of-cond (λ (l : List ℕ). length l ≤ findingsRoom) given (by-file-length m order) (compared-length Of1978 m (byPitch m))) (omega (arith, refusal-line-length 9))
+
+pub findings-within : (file : List ℕ) (given : Bool) (order out : List ℕ) {size : ℕ} {after : List ℕ} → length out ≡ findingsRoom
+    → (size ≡ length (findingsOf file given order)) × (after ≡ sets out 0 (findingsOf file given order)) → size ≤ length after
+findings-within file given order out e (es, ea) =
+    omega (arith, e, es, ap length ea, length-sets out 0 (findingsOf file given order), findings-length file given order)

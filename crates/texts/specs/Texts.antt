@@ -1,0 +1,28 @@
+-- What stands in a generator's words by the text that its machine follows.
+-- Assumes nothing.
+use Prim.Native.Nat.{ℕ, _/_, _%_, _^_}
+use lib.ListN.{getD}
+use Rattle.layout.specs.Layout.{generatorAt}
+use Rattle.layout.specs.Machine.{Machine, gmodeAt, gfmAt}
+use Rattle.texts.specs.declared.Text.{Text}
+use Rattle.texts.specs.declared.Text.the-variants.{Of1978}
+
+-- The run mode of generator g: the left 4 of GMODE's 10 bits.
+abbrev pub runModeAt : Text → Machine → ℕ → ℕ
+runModeAt Of1978 m g = gmodeAt m g / 2 ^ 6
+
+-- GMODE's other modes, of the envelope and of the oscillator: its right 6 bits.
+abbrev pub otherModesAt : Text → Machine → ℕ → ℕ
+otherModesAt Of1978 m g = gmodeAt m g % 2 ^ 6
+
+-- The DAC that generator g feeds where it feeds one: the low 4 bits of GO, its first word.
+abbrev pub dacNumberAt : Text → Machine → ℕ → ℕ
+dacNumberAt Of1978 m g = getD m (generatorAt g) 0 % 2 ^ 4
+
+-- What tells apart what generator g sends, to a DAC or as a written item: it sends F, the word at GFM.
+abbrev pub sourceAt : Text → Machine → ℕ → ℕ
+sourceAt Of1978 m g = gfmAt m g
+
+-- How far below a generator its lower neighbour stands.
+abbrev pub distanceOf : Text → ℕ
+distanceOf Of1978 = 1

@@ -1,0 +1,52 @@
+// The texts that a machine can follow, and what stands in a generator's words by a text. Elsewhere a text is only handed on.
+ghost use mathlib.Core.Path.{_≡_};
+ghost use Prim.Native.Nat.{_<_};
+ghost use Rattle.layout.specs.Machine.{Reaches};
+ghost use Rattle.texts.specs.Texts.{runModeAt, dacNumberAt, sourceAt, distanceOf};
+
+// A specification: that of 1978.
+pub enum Text {
+    Of1978,
+}
+
+// How far below a generator its lower neighbour stands.
+pub fn distance(text: Text) -> usize
+    ensures { λ r. ⌜ r ≡ distanceOf text ⌝ }
+{
+    match text {
+        Text::Of1978 => 1,
+    }
+}
+
+// The run mode of generator g.
+pub fn run_mode(text: Text, m: &[u32], g: usize) -> u32
+    requires { ⌜ Reaches (now m) ⌝ }
+    requires { ⌜ g < 256 ⌝ }
+    ensures { λ r. ⌜ r ≡ runModeAt text (now (m .entry)) g ⌝ }
+{
+    match text {
+        Text::Of1978 => m[layout::GENERATOR_WORDS * g + layout::GMODE] / 64,
+    }
+}
+
+// The DAC number of generator g.
+pub fn dac_number(text: Text, m: &[u32], g: usize) -> usize
+    requires { ⌜ Reaches (now m) ⌝ }
+    requires { ⌜ g < 256 ⌝ }
+    ensures { λ r. ⌜ (r ≡ dacNumberAt text (now (m .entry)) g) × (r < 16) ⌝ }
+{
+    match text {
+        Text::Of1978 => layout::wide(m[layout::GENERATOR_WORDS * g + layout::GO] % 16),
+    }
+}
+
+// What tells apart what generator g sends from what others send.
+pub fn source(text: Text, m: &[u32], g: usize) -> u32
+    requires { ⌜ Reaches (now m) ⌝ }
+    requires { ⌜ g < 256 ⌝ }
+    ensures { λ r. ⌜ r ≡ sourceAt text (now (m .entry)) g ⌝ }
+{
+    match text {
+        Text::Of1978 => layout::gfm(m, g),
+    }
+}
