@@ -6,12 +6,11 @@ use mathlib.Core.List.{List}
 use Prim.Native.Nat.{ℕ}
 use borrow.Author.Tests.{eqb-true}
 use lib.Dec.{eqb}
-use Rattle.lists.specs.Lists.{isOneOf}
 use Rattle.layout.specs.Layout.{modifierAt}
 use Rattle.layout.specs.Machine.{Machine, Memory, Sums}
 use Rattle.modifier.specs.declared.Modifier.{Modifier}
 use Rattle.modifier.specs.Modifier.{functionOf, stored}
-use Rattle.modifier_turn.specs.Turn.{turnOf, lateFunctions, readsLate}
+use Rattle.modifier_turn.specs.Turn.{turnOf, readsLate}
 use Rattle.modifier_delay.specs.Invoke.{invoking, invokeDelay}
 use Rattle.pass_model.specs.Modifiers.{seen, given, beside, turnSeen, Held, delayed}
 use Rattle.modifier_views.specs.Views.{turnBeside}
@@ -23,7 +22,7 @@ is-invoking u e i r = rw (← e) (sym i ∙ r)
 module _ (t : ℕ) (words : Machine) (s : Sums) (early late : List ℕ) (u : Modifier) where
   -- One that invokes a unit reads A late, and the word that the unit gives.
   pub turn-invoking : invoking u ≡ true → turnSeen t words s early late u ≡ invokeDelay u (seen s late (u .min)) (given t words u)
-  unfolding turnSeen beside turnOf readsLate lateFunctions isOneOf
+  unfolding turnSeen beside turnOf readsLate
   turn-invoking i = rw (eqb-true (functionOf u) 0b00111 i)
 
   -- One that invokes none has B beside A.
