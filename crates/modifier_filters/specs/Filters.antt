@@ -20,16 +20,12 @@ filtered u = sum 20 (timesM1 u (u .l1)) (timesM0 u (u .l0))
 unfoldable pub oneZero : Modifier → ℕ → Turned
 oneZero u a = gives (shifted u a) (filtered u)
 
--- The two-pole and two-zero modes, with x the sum of products of a text's filters, `filtered` of the 1978 text.
+-- In the two-pole and two-zero modes x is the sum of products of a text: `filtered` of the 1978 text.
 -- Two poles. S := x + A; L0 := L1; L1 := S.
 unfoldable pub twoPoles : Modifier → ℕ → ℕ → Turned
 twoPoles u x a =
     let s = sum 20 x a in
     gives (shifted u s) s
-
--- Two zeros. S := x + A; L0 := L1; L1 := A.
-unfoldable pub twoZeros : Modifier → ℕ → ℕ → Turned
-twoZeros u x a = gives (shifted u a) (sum 20 x a)
 
 -- After a turn, M0 := M0 + B.
 unfoldable pub m0Variable : Turned → ℕ → Turned
@@ -46,6 +42,10 @@ twoPolesM0Variable u x a b = m0Variable (twoPoles u x a) b
 -- Two poles, M1 variable. As two poles; M1 := M1 + B.
 unfoldable pub twoPolesM1Variable : Modifier → ℕ → ℕ → ℕ → Turned
 twoPolesM1Variable u x a b = m1Variable (twoPoles u x a) b
+
+-- Two zeros. S := x + A; L0 := L1; L1 := A.
+unfoldable pub twoZeros : Modifier → ℕ → ℕ → Turned
+twoZeros u x a = gives (shifted u a) (sum 20 x a)
 
 -- Two zeros, M0 variable. As two zeros; M0 := M0 + B.
 unfoldable pub twoZerosM0Variable : Modifier → ℕ → ℕ → ℕ → Turned

@@ -32,24 +32,24 @@ module _ (x y : ℕ) where
   unfolding opposite signed
   right-zero e = rw e (zero-right (signed 20 x))
 
-  older : (v w : Bool) → eqb y 0 ≡ v → eqb x 0 ≡ w → cond v 0 (cond w 0 (cond (opposite x y) minusEpsilon 0)) ≡ cond (opposite x y) minusEpsilon 0
-  older true w e f = rw (right-zero (eqb-true y 0 e))
-  older false true e f = rw (left-zero (eqb-true x 0 f))
-  older false false e f = refl
+  old : (v w : Bool) → eqb y 0 ≡ v → eqb x 0 ≡ w → cond v 0 (cond w 0 (cond (opposite x y) minusEpsilon 0)) ≡ cond (opposite x y) minusEpsilon 0
+  old true w e f = rw (right-zero (eqb-true y 0 e))
+  old false true e f = rw (left-zero (eqb-true x 0 f))
+  old false false e f = refl
 
-  newer : (v w : Bool) → cond v 0 (cond w minusEpsilon (cond (opposite x y) minusEpsilon 0)) ≡ cond (not v && (w || opposite x y)) minusEpsilon 0
-  newer true w = refl
-  newer false true = refl
-  newer false false = refl
+  of-1978 : (v w : Bool) → cond v 0 (cond w minusEpsilon (cond (opposite x y) minusEpsilon 0)) ≡ cond (not v && (w || opposite x y)) minusEpsilon 0
+  of-1978 true w = refl
+  of-1978 false true = refl
+  of-1978 false false = refl
 
 module _ (u : Modifier) (b : ℕ) where
-  -- Older text: S := -epsilon if Temp0*Temp1 is negative, else S := 0.
-  pub pulser-older : pulser u b 0 ≡ gives (withL1 u (timesM0 u b)) (cond (opposite (timesM0 u b) (timesM1 u (u .l1))) minusEpsilon 0)
+  -- The older text: S := -epsilon if Temp0*Temp1 is negative, else S := 0.
+  pub pulser-old : pulser u b 0 ≡ gives (withL1 u (timesM0 u b)) (cond (opposite (timesM0 u b) (timesM1 u (u .l1))) minusEpsilon 0)
   unfolding pulser
-  pulser-older = ap (gives (withL1 u (timesM0 u b))) (older (timesM0 u b) (timesM1 u (u .l1)) _ _ refl refl)
+  pulser-old = ap (gives (withL1 u (timesM0 u b))) (old (timesM0 u b) (timesM1 u (u .l1)) _ _ refl refl)
 
-  -- 1978 text: if Temp1 is not 0 and either Temp0 is 0 or Temp0*Temp1 is negative, S := -epsilon, else S := 0.
+  -- The 1978 text: if Temp1 is not 0 and either Temp0 is 0 or Temp0*Temp1 is negative, S := -epsilon, else S := 0.
   pub pulser-1978 : pulser u b minusEpsilon
       ≡ gives (withL1 u (timesM0 u b)) (cond (not (eqb (timesM1 u (u .l1)) 0) && (eqb (timesM0 u b) 0 || opposite (timesM0 u b) (timesM1 u (u .l1)))) minusEpsilon 0)
   unfolding pulser
-  pulser-1978 = ap (gives (withL1 u (timesM0 u b))) (newer (timesM0 u b) (timesM1 u (u .l1)) (eqb (timesM1 u (u .l1)) 0) (eqb (timesM0 u b) 0))
+  pulser-1978 = ap (gives (withL1 u (timesM0 u b))) (of-1978 (timesM0 u b) (timesM1 u (u .l1)) (eqb (timesM1 u (u .l1)) 0) (eqb (timesM0 u b) 0))
