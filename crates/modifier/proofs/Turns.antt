@@ -5,6 +5,7 @@ use Prim.Native.Nat.{ℕ, _^_, _<_}
 use Rattle.modifier.specs.declared.Modifier.{Modifier}
 use Rattle.modifier.specs.declared.Turned.{Turned}
 use Rattle.modifier.specs.Modifier.{Ranged, gives, updated}
+use Rattle.modifier.proofs.Low.{lows}
 
 -- The registers afterwards and S are within their widths.
 pub record Low (t : Turned) : Type 0 where
@@ -44,3 +45,7 @@ module _ (u : Modifier) (a : ℕ) where
               s-low = b .4;
             };
       }
+
+  -- A turn that changes nothing and gives 0.
+  pub nothing-steady : Steady u a (gives u 0)
+  nothing-steady = changed (λ r g. search lows)

@@ -1,1 +1,2 @@
 pub mod Modifier
+pub mod Functions

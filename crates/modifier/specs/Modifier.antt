@@ -6,7 +6,7 @@ use lib.ListN.{getD, set}
 use Rattle.layout.specs.Layout.{M0, M1, L0, L1, MIN, MRM, MSUM, MMODE}
 use Rattle.layout.specs.Widths.{coefficientBits, latchBits, addressBits, msumBits, mmodeBits}
 use Rattle.words.specs.Words.{sumInto}
-use Rattle.product.specs.Product.{product, integerProduct}
+use Rattle.product.specs.Product.{product, integerProduct, wholeProduct}
 use Rattle.modifier.specs.declared.Modifier.{Modifier}
 use Rattle.modifier.specs.declared.Turned.{Turned}
 
@@ -88,6 +88,10 @@ integerM1 u x = integerProduct (scaleBB u) x (coefficient (u .m1))
 -- x*M0 as an integer product, second.
 unfoldable pub integerM0 : Modifier → ℕ → ℕ
 integerM0 u x = integerProduct (scaleAA u) x (coefficient (u .m0))
+
+-- x*M0 as an integer product of the older text, second.
+unfoldable pub wholeM0 : Modifier → ℕ → ℕ
+wholeM0 u x = wholeProduct (scaleAA u) x (coefficient (u .m0))
 
 -- What a turn gives: the registers afterwards, and S.
 abbrev pub gives : Modifier → ℕ → Turned

@@ -3,7 +3,7 @@ ghost use mathlib.Core.Path.{_≡_};
 ghost use Prim.Native.Nat.{_≤_, _<_, _^_};
 ghost use lib.ListN.{length};
 ghost use Rattle.words.specs.Words.{sum, Word};
-ghost use Rattle.modifier.specs.Modifier.{loaded, stored, Ranged, functionOf, timesM1, timesM0, timesSignal, integerM1, integerM0, gives};
+ghost use Rattle.modifier.specs.Modifier.{loaded, stored, Ranged, functionOf, timesM1, timesM0, timesSignal, integerM1, integerM0, wholeM0, gives};
 
 pub struct Modifier {
     pub m0: u32,
@@ -116,6 +116,15 @@ impl Modifier {
         ensures { λ r. ⌜ Word (integerM0 self x) r ⌝ }
     {
         product::multiply_integer(self.mmode / 4 % 4, x, self.m0 / 1024)
+    }
+
+    // x*M0 as an integer product of the older text.
+    pub fn whole_m0(self, x: u32) -> u32
+        requires { ⌜ Ranged self ⌝ }
+        requires { ⌜ x < 2 ^ 20 ⌝ }
+        ensures { λ r. ⌜ Word (wholeM0 self x) r ⌝ }
+    {
+        product::multiply_whole(self.mmode / 4 % 4, x, self.m0 / 1024)
     }
 
     // What a turn gives that leaves these registers.

@@ -15,28 +15,28 @@ module _ (u : Modifier) (a : ℕ) where
   unfolding oneZero filtered
   one-zero-steady = changed u a (λ r h. search lows)
 
-  pub two-poles-steady : Steady u a (twoPoles u a)
+  pub two-poles-steady : (x : ℕ) → Steady u a (twoPoles u x a)
   unfolding twoPoles
-  two-poles-steady = changed u a (λ r h. search lows)
+  two-poles-steady x = changed u a (λ r h. search lows)
 
-  pub two-poles-m0-variable-steady : (b : ℕ) → Steady u a (twoPolesM0Variable u a b)
+  pub two-poles-m0-variable-steady : (x b : ℕ) → Steady u a (twoPolesM0Variable u x a b)
   unfolding twoPolesM0Variable twoPoles m0Variable
-  two-poles-m0-variable-steady b = changed u a (λ r h. search lows)
+  two-poles-m0-variable-steady x b = changed u a (λ r h. search lows)
 
-  pub two-poles-m1-variable-steady : (b : ℕ) → Steady u a (twoPolesM1Variable u a b)
+  pub two-poles-m1-variable-steady : (x b : ℕ) → Steady u a (twoPolesM1Variable u x a b)
   unfolding twoPolesM1Variable twoPoles m1Variable
-  two-poles-m1-variable-steady b = changed u a (λ r h. search lows)
+  two-poles-m1-variable-steady x b = changed u a (λ r h. search lows)
 
-  pub two-zeros-steady : Steady u a (twoZeros u a)
+  pub two-zeros-steady : (x : ℕ) → Steady u a (twoZeros u x a)
   unfolding twoZeros
-  two-zeros-steady = changed u a (λ r h. search lows)
+  two-zeros-steady x = changed u a (λ r h. search lows)
 
-  pub two-zeros-m0-variable-steady : (b : ℕ) → Steady u a (twoZerosM0Variable u a b)
+  pub two-zeros-m0-variable-steady : (x b : ℕ) → Steady u a (twoZerosM0Variable u x a b)
   unfolding twoZerosM0Variable twoZeros m0Variable
-  two-zeros-m0-variable-steady b = changed u a (λ r h. search lows)
+  two-zeros-m0-variable-steady x b = changed u a (λ r h. search lows)
 
-  pub two-zeros-m1-variable-steady : (b : ℕ) → Steady u a (twoZerosM1Variable u a b)
+  pub two-zeros-m1-variable-steady : (x b : ℕ) → Steady u a (twoZerosM1Variable u x a b)
   unfolding twoZerosM1Variable twoZeros m1Variable
-  two-zeros-m1-variable-steady b = changed u a (λ r h. search lows)
+  two-zeros-m1-variable-steady x b = changed u a (λ r h. search lows)
 
 pub ruleset steady-filters = (one-pole-steady, one-zero-steady, two-poles-steady, two-poles-m0-variable-steady, two-poles-m1-variable-steady, two-zeros-steady, two-zeros-m0-variable-steady, two-zeros-m1-variable-steady)

@@ -12,7 +12,7 @@ onePole u b =
     let s = sum 20 (timesM1 u (u .l1)) (timesSignal u b (u .l0)) in
     gives (withL1 u s) s
 
--- L1*M1 + L0*M0.
+-- L1*M1 + L0*M0, the sum of products of the 1978 text's filters.
 unfoldable pub filtered : Modifier → ℕ
 filtered u = sum 20 (timesM1 u (u .l1)) (timesM0 u (u .l0))
 
@@ -20,10 +20,11 @@ filtered u = sum 20 (timesM1 u (u .l1)) (timesM0 u (u .l0))
 unfoldable pub oneZero : Modifier → ℕ → Turned
 oneZero u a = gives (shifted u a) (filtered u)
 
--- Two poles. S := L1*M1 + L0*M0 + A; L0 := L1; L1 := S.
-unfoldable pub twoPoles : Modifier → ℕ → Turned
-twoPoles u a =
-    let s = sum 20 (filtered u) a in
+-- In the two-pole and two-zero modes x is the sum of products of a text: `filtered` of the 1978 text.
+-- Two poles. S := x + A; L0 := L1; L1 := S.
+unfoldable pub twoPoles : Modifier → ℕ → ℕ → Turned
+twoPoles u x a =
+    let s = sum 20 x a in
     gives (shifted u s) s
 
 -- After a turn, M0 := M0 + B.
@@ -35,21 +36,21 @@ unfoldable pub m1Variable : Turned → ℕ → Turned
 m1Variable t b = gives (plusM1 (t .unit) b) (t .s)
 
 -- Two poles, M0 variable. As two poles; M0 := M0 + B.
-unfoldable pub twoPolesM0Variable : Modifier → ℕ → ℕ → Turned
-twoPolesM0Variable u a b = m0Variable (twoPoles u a) b
+unfoldable pub twoPolesM0Variable : Modifier → ℕ → ℕ → ℕ → Turned
+twoPolesM0Variable u x a b = m0Variable (twoPoles u x a) b
 
 -- Two poles, M1 variable. As two poles; M1 := M1 + B.
-unfoldable pub twoPolesM1Variable : Modifier → ℕ → ℕ → Turned
-twoPolesM1Variable u a b = m1Variable (twoPoles u a) b
+unfoldable pub twoPolesM1Variable : Modifier → ℕ → ℕ → ℕ → Turned
+twoPolesM1Variable u x a b = m1Variable (twoPoles u x a) b
 
--- Two zeros. S := L1*M1 + L0*M0 + A; L0 := L1; L1 := A.
-unfoldable pub twoZeros : Modifier → ℕ → Turned
-twoZeros u a = gives (shifted u a) (sum 20 (filtered u) a)
+-- Two zeros. S := x + A; L0 := L1; L1 := A.
+unfoldable pub twoZeros : Modifier → ℕ → ℕ → Turned
+twoZeros u x a = gives (shifted u a) (sum 20 x a)
 
 -- Two zeros, M0 variable. As two zeros; M0 := M0 + B.
-unfoldable pub twoZerosM0Variable : Modifier → ℕ → ℕ → Turned
-twoZerosM0Variable u a b = m0Variable (twoZeros u a) b
+unfoldable pub twoZerosM0Variable : Modifier → ℕ → ℕ → ℕ → Turned
+twoZerosM0Variable u x a b = m0Variable (twoZeros u x a) b
 
 -- Two zeros, M1 variable. As two zeros; M1 := M1 + B.
-unfoldable pub twoZerosM1Variable : Modifier → ℕ → ℕ → Turned
-twoZerosM1Variable u a b = m1Variable (twoZeros u a) b
+unfoldable pub twoZerosM1Variable : Modifier → ℕ → ℕ → ℕ → Turned
+twoZerosM1Variable u x a b = m1Variable (twoZeros u x a) b

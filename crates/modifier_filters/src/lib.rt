@@ -19,8 +19,8 @@ pub fn one_pole(u: Modifier, b: u32) -> Turned
     v.gives(s)
 }
 
-// L1*M1 + L0*M0.
-fn filtered(u: Modifier) -> u32
+// L1*M1 + L0*M0, the sum of products of the 1978 text's filters.
+pub fn filtered(u: Modifier) -> u32
     requires { ⌜ Ranged u ⌝ }
     ensures { λ r. ⌜ Word (filtered u) r ⌝ }
 {
@@ -45,13 +45,12 @@ pub fn one_zero(u: Modifier, a: u32) -> Turned
     shift(u, a).gives(filtered(u))
 }
 
-// Two poles: S := L1*M1 + L0*M0 + A; L0 := L1; L1 := S.
-pub fn two_poles(u: Modifier, a: u32) -> Turned
-    requires { ⌜ Ranged u ⌝ }
-    requires { ⌜ a < 2 ^ 20 ⌝ }
-    ensures { λ r. ⌜ r ≡ twoPoles u a ⌝ }
+// Two poles, with the sum x of products: S := x + A; L0 := L1; L1 := S.
+pub fn two_poles(u: Modifier, x: u32, a: u32) -> Turned
+    requires { ⌜ (x < 2 ^ 20) × (a < 2 ^ 20) ⌝ }
+    ensures { λ r. ⌜ r ≡ twoPoles u x a ⌝ }
 {
-    let s = modifier::added(filtered(u), a);
+    let s = modifier::added(x, a);
     shift(u, s).gives(s)
 }
 
@@ -76,47 +75,46 @@ fn m1_variable(t: Turned, b: u32) -> Turned
 }
 
 // Two poles, M0 variable.
-pub fn two_poles_m0_variable(u: Modifier, a: u32, b: u32) -> Turned
+pub fn two_poles_m0_variable(u: Modifier, x: u32, a: u32, b: u32) -> Turned
     requires { ⌜ Ranged u ⌝ }
-    requires { ⌜ (a < 2 ^ 20) × (b < 2 ^ 20) ⌝ }
-    ensures { λ r. ⌜ r ≡ twoPolesM0Variable u a b ⌝ }
+    requires { ⌜ (x < 2 ^ 20) × (a < 2 ^ 20) × (b < 2 ^ 20) ⌝ }
+    ensures { λ r. ⌜ r ≡ twoPolesM0Variable u x a b ⌝ }
 {
-    m0_variable(two_poles(u, a), b)
+    m0_variable(two_poles(u, x, a), b)
 }
 
 // Two poles, M1 variable.
-pub fn two_poles_m1_variable(u: Modifier, a: u32, b: u32) -> Turned
+pub fn two_poles_m1_variable(u: Modifier, x: u32, a: u32, b: u32) -> Turned
     requires { ⌜ Ranged u ⌝ }
-    requires { ⌜ (a < 2 ^ 20) × (b < 2 ^ 20) ⌝ }
-    ensures { λ r. ⌜ r ≡ twoPolesM1Variable u a b ⌝ }
+    requires { ⌜ (x < 2 ^ 20) × (a < 2 ^ 20) × (b < 2 ^ 20) ⌝ }
+    ensures { λ r. ⌜ r ≡ twoPolesM1Variable u x a b ⌝ }
 {
-    m1_variable(two_poles(u, a), b)
+    m1_variable(two_poles(u, x, a), b)
 }
 
-// Two zeros: S := L1*M1 + L0*M0 + A; L0 := L1; L1 := A.
-pub fn two_zeros(u: Modifier, a: u32) -> Turned
-    requires { ⌜ Ranged u ⌝ }
-    requires { ⌜ a < 2 ^ 20 ⌝ }
-    ensures { λ r. ⌜ r ≡ twoZeros u a ⌝ }
+// Two zeros, with the sum x of products: S := x + A; L0 := L1; L1 := A.
+pub fn two_zeros(u: Modifier, x: u32, a: u32) -> Turned
+    requires { ⌜ (x < 2 ^ 20) × (a < 2 ^ 20) ⌝ }
+    ensures { λ r. ⌜ r ≡ twoZeros u x a ⌝ }
 {
-    let s = modifier::added(filtered(u), a);
+    let s = modifier::added(x, a);
     shift(u, a).gives(s)
 }
 
 // Two zeros, M0 variable.
-pub fn two_zeros_m0_variable(u: Modifier, a: u32, b: u32) -> Turned
+pub fn two_zeros_m0_variable(u: Modifier, x: u32, a: u32, b: u32) -> Turned
     requires { ⌜ Ranged u ⌝ }
-    requires { ⌜ (a < 2 ^ 20) × (b < 2 ^ 20) ⌝ }
-    ensures { λ r. ⌜ r ≡ twoZerosM0Variable u a b ⌝ }
+    requires { ⌜ (x < 2 ^ 20) × (a < 2 ^ 20) × (b < 2 ^ 20) ⌝ }
+    ensures { λ r. ⌜ r ≡ twoZerosM0Variable u x a b ⌝ }
 {
-    m0_variable(two_zeros(u, a), b)
+    m0_variable(two_zeros(u, x, a), b)
 }
 
 // Two zeros, M1 variable.
-pub fn two_zeros_m1_variable(u: Modifier, a: u32, b: u32) -> Turned
+pub fn two_zeros_m1_variable(u: Modifier, x: u32, a: u32, b: u32) -> Turned
     requires { ⌜ Ranged u ⌝ }
-    requires { ⌜ (a < 2 ^ 20) × (b < 2 ^ 20) ⌝ }
-    ensures { λ r. ⌜ r ≡ twoZerosM1Variable u a b ⌝ }
+    requires { ⌜ (x < 2 ^ 20) × (a < 2 ^ 20) × (b < 2 ^ 20) ⌝ }
+    ensures { λ r. ⌜ r ≡ twoZerosM1Variable u x a b ⌝ }
 {
-    m1_variable(two_zeros(u, a), b)
+    m1_variable(two_zeros(u, x, a), b)
 }

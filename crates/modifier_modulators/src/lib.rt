@@ -7,6 +7,9 @@ ghost use Rattle.modifier_modulators.specs.Modulators.{latch, pulser, am
 use modifier::Modifier;
 use modifier::Turned;
 
+// -epsilon: a word with all bits set.
+pub const MINUS_EPSILON: u32 = 1048575;
+
 // Latch: S := L1; if B*M1 is not 0, L1 := A.
 pub fn latch(u: Modifier, a: u32, b: u32) -> Turned
     requires { ⌜ Ranged u ⌝ }
@@ -22,11 +25,11 @@ pub fn latch(u: Modifier, a: u32, b: u32) -> Turned
     v.gives(s)
 }
 
-// Zero-crossing pulser: S has all bits set where B*M0 has come to 0, or to the other side of it.
-pub fn pulser(u: Modifier, b: u32) -> Turned
+// Zero-crossing pulser: S has all bits set where B*M0 has come to the other side of 0, and is z where it has come to 0.
+pub fn pulser(u: Modifier, b: u32, z: u32) -> Turned
     requires { ⌜ Ranged u ⌝ }
     requires { ⌜ b < 2 ^ 20 ⌝ }
-    ensures { λ r. ⌜ r ≡ pulser u b ⌝ }
+    ensures { λ r. ⌜ r ≡ pulser u b z ⌝ }
 {
     let temp0 = u.times_m0(b);
     let temp1 = u.times_m1(u.l1);
@@ -36,10 +39,10 @@ pub fn pulser(u: Modifier, b: u32) -> Turned
         return v.gives(0);
     }
     if temp0 == 0 {
-        return v.gives(1048575);
+        return v.gives(z);
     }
     if product::opposite20(temp0, temp1) {
-        return v.gives(1048575);
+        return v.gives(MINUS_EPSILON);
     }
     v.gives(0)
 }
@@ -68,23 +71,21 @@ pub fn four_quadrant(u: Modifier, a: u32, b: u32) -> Turned
     v.gives(s)
 }
 
-// L0 + L1*M0, an integer product.
-fn noise(u: Modifier) -> u32
+// L0 + L1*M0, an integer product: the noise of the 1978 text.
+pub fn noise(u: Modifier) -> u32
     requires { ⌜ Ranged u ⌝ }
     ensures { λ r. ⌜ Word (noise u) r ⌝ }
 {
     modifier::added(u.l0, u.integer_m0(u.l1))
 }
 
-// Uniform noise: S := L0 + L1*M0; L1 := S.
-pub fn uniform_noise(u: Modifier) -> Turned
-    requires { ⌜ Ranged u ⌝ }
-    ensures { λ r. ⌜ r ≡ uniformNoise u ⌝ }
+// Uniform noise, with the noise n of a text: S := n; L1 := S.
+pub fn uniform_noise(u: Modifier, n: u32) -> Turned
+    ensures { λ r. ⌜ r ≡ uniformNoise u n ⌝ }
 {
-    let s = noise(u);
     let mut v = u;
-    v.l1 = s;
-    v.gives(s)
+    v.l1 = n;
+    v.gives(n)
 }
 
 // Triggered uniform noise: S := L0 + L1*M0; if B*M1 is not 0, L1 := S.

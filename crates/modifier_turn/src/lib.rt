@@ -17,17 +17,18 @@ pub fn turn(u: Modifier, a: u32, b: u32) -> Turned
 {
     let f = u.function();
     match f {
-        0b00010 => modifier_modulators::uniform_noise(u),
+        0b00000 => modifier_mixers::inactive(u),
+        0b00010 => modifier_modulators::uniform_noise(u, modifier_modulators::noise(u)),
         0b00011 => modifier_modulators::triggered_noise(u, b),
         0b00100 => modifier_modulators::latch(u, a, b),
         0b00110 => modifier_mixers::threshold(u, a, b),
         0b00111 => modifier_delay::invoke_delay(u, a, b),
-        0b01000 => modifier_filters::two_poles(u, a),
-        0b01001 => modifier_filters::two_poles_m0_variable(u, a, b),
-        0b01011 => modifier_filters::two_poles_m1_variable(u, a, b),
-        0b01100 => modifier_filters::two_zeros(u, a),
-        0b01101 => modifier_filters::two_zeros_m0_variable(u, a, b),
-        0b01111 => modifier_filters::two_zeros_m1_variable(u, a, b),
+        0b01000 => modifier_filters::two_poles(u, modifier_filters::filtered(u), a),
+        0b01001 => modifier_filters::two_poles_m0_variable(u, modifier_filters::filtered(u), a, b),
+        0b01011 => modifier_filters::two_poles_m1_variable(u, modifier_filters::filtered(u), a, b),
+        0b01100 => modifier_filters::two_zeros(u, modifier_filters::filtered(u), a),
+        0b01101 => modifier_filters::two_zeros_m0_variable(u, modifier_filters::filtered(u), a, b),
+        0b01111 => modifier_filters::two_zeros_m1_variable(u, modifier_filters::filtered(u), a, b),
         0b10000 => modifier_mixers::integer_mixing(u, a, b),
         0b10001 => modifier_filters::one_pole(u, b),
         0b10100 => modifier_mixers::mixing(u, a, b),
@@ -37,7 +38,7 @@ pub fn turn(u: Modifier, a: u32, b: u32) -> Turned
         0b11010 => modifier_mixers::maximum(u, a, b),
         0b11011 => modifier_mixers::minimum(u, a, b),
         0b11100 => modifier_mixers::signum(u, a, b),
-        0b11101 => modifier_modulators::pulser(u, b),
+        0b11101 => modifier_modulators::pulser(u, b, modifier_modulators::MINUS_EPSILON),
         _ => modifier_mixers::inactive(u),
     }
 }

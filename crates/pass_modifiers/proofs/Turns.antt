@@ -5,21 +5,20 @@ use mathlib.Core.Bool.{true, false}
 use mathlib.Core.List.{List}
 use Prim.Native.Nat.{ℕ}
 use borrow.Author.Tests.{eqb-true}
-use Rattle.lists.specs.Lists.{isOneOf}
 use Rattle.layout.specs.Layout.{modifierAt}
 use Rattle.layout.specs.Machine.{Machine, Memory, Sums}
 use Rattle.texts.specs.declared.Text.{Text}
 use Rattle.texts.specs.declared.Text.the-variants.{Of1978}
 use Rattle.modifier.specs.declared.Modifier.{Modifier}
 use Rattle.modifier.specs.Modifier.{functionOf, stored}
-use Rattle.modifier_turn.specs.Turn.{turnOf, lateFunctions, readsLate}
+use Rattle.modifier_turn.specs.Turn.{turnOf, readsLate}
 use Rattle.modifier_delay.specs.Invoke.{invokeDelay}
 use Rattle.pass_model.specs.Modifiers.{seen, given, modifierTurn, modifierReadsLate, invokesDelay, beside, turnSeen, Held, delayed}
 use Rattle.modifier_views.specs.Views.{turnBeside}
 
 -- Where it does, it reads A late, and its turn is that of 00111.
 invoking-late : (text : Text) (u : Modifier) → invokesDelay text u ≡ true → modifierReadsLate text (functionOf u) ≡ true
-unfolding readsLate lateFunctions isOneOf
+unfolding readsLate
 invoking-late Of1978 u i = rw (eqb-true (functionOf u) 0b00111 i)
 
 invoking-turn : (text : Text) (u : Modifier) (a b : ℕ) → invokesDelay text u ≡ true → modifierTurn text u a b ≡ invokeDelay u a b

@@ -2,7 +2,7 @@
 -- Assumes nothing.
 use Prim.Native.Nat.{ℕ, _^_, _<_}
 use Rattle.words.proofs.Residues.{low-lt}
-use Rattle.product.specs.Product.{product, integerProduct, half}
+use Rattle.product.specs.Product.{product, integerProduct, wholeProduct, half}
 
 pub product-low : (s a b : ℕ) → product s a b < 2 ^ 20
 unfolding product
@@ -11,6 +11,10 @@ product-low s a b = low-lt 20 _
 pub integer-low : (s a b : ℕ) → integerProduct s a b < 2 ^ 20
 unfolding integerProduct
 integer-low s a b = low-lt 20 _
+
+pub whole-low : (s a b : ℕ) → wholeProduct s a b < 2 ^ 20
+unfolding wholeProduct
+whole-low s a b = low-lt 20 _
 
 pub half-low : (b : ℕ) → half b < 2 ^ 20
 unfolding half

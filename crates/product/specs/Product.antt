@@ -18,6 +18,10 @@ product s a b = lowBits 20 (shrZ (scaled s a b +ℤ pos (2 ^ 18)) (2 ^ 19))
 unfoldable pub integerProduct : ℕ → ℕ → ℕ → ℕ
 integerProduct s a b = lowBits 20 (shrZ (scaled s a b) 4)
 
+-- The integer product of the older text at scale s: ab times 2^s, reduced to 20 bits.
+unfoldable pub wholeProduct : ℕ → ℕ → ℕ → ℕ
+wholeProduct s a b = lowBits 20 (scaled s a b)
+
 -- Whether a is less than b.
 unfoldable pub less : ℕ → ℕ → Bool
 less a b = ltZ (signed 20 a) (signed 20 b)

@@ -3,7 +3,7 @@ ghost use mathlib.Core.Path.{_≡_};
 ghost use Prim.Native.Nat.{_<_, _≤_, _^_};
 ghost use lib.IntN.{natAbs};
 ghost use Rattle.words.specs.Words.{signed, lowBits};
-ghost use Rattle.product.specs.Product.{scaled, product, integerProduct, less, opposite, half};
+ghost use Rattle.product.specs.Product.{scaled, product, integerProduct, wholeProduct, less, opposite, half};
 
 // The integer that a signed word of 20 bits stands for.
 fn value20(a: u32) -> i64
@@ -44,6 +44,14 @@ pub fn multiply_integer(s: u32, a: u32, b: u32) -> u32
     ensures { λ r. ⌜ r ≡ integerProduct s a b ⌝ }
 {
     low20(multiplied(s, a, b) >> 2)
+}
+
+// The older text's integer product of two signed words of 20 bits at scale s, reduced to 20 bits.
+pub fn multiply_whole(s: u32, a: u32, b: u32) -> u32
+    requires { ⌜ (s < 4) × (a < 2 ^ 20) × (b < 2 ^ 20) ⌝ }
+    ensures { λ r. ⌜ r ≡ wholeProduct s a b ⌝ }
+{
+    low20(multiplied(s, a, b))
 }
 
 // Whether a signed word of 20 bits is less than another.

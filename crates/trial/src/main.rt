@@ -1,5 +1,5 @@
 // The test program over the proved leaves. A request is 16 words, and so is its answer; requests follow one another until the input ends.
-// Word 0 is the operation: 0 sine, 1 exponential, 2 products, 3 a generator's turn, 4 a modifier's turn, 5 whether modes are built, 6 sums.
+// Word 0 is the operation: 0 sine, 1 exponential, 2 products, 3 a generator's turn, 4 a modifier's turn, 5 whether modes are built, 6 sums, 7 a modifier's turn by the older text.
 ghost use mathlib.Core.Path.{_≡_};
 ghost use mathlib.Core.Bool.{true};
 ghost use Prim.Native.Nat.{_+_, _*_, _≤_, _<_, _^_};
@@ -14,6 +14,7 @@ use generator::Generator;
 use modes::Rows;
 use modes::Switches;
 use modifier::Modifier;
+use modifier::Turned;
 use sine::Quarter;
 
 fn flag(b: bool) -> u32 {
@@ -115,9 +116,8 @@ fn modifier_of(x: &[u32]) -> Modifier
     Modifier::load(&x[1..])
 }
 
-// A modifier's turn with A and B: its words afterwards, and S.
-fn modifier_turn(x: &[u32; 16]) -> [u32; 16] {
-    let turned = modifier_turn::turn(modifier_of(x), x[9] % 1048576, x[10] % 1048576);
+// What a turn gives: a modifier's words afterwards, and S.
+fn turned_words(turned: Turned) -> [u32; 16] {
     let unit = turned.unit;
     let mut r = [0u32; 16];
     r[0] = unit.m0;
@@ -129,6 +129,20 @@ fn modifier_turn(x: &[u32; 16]) -> [u32; 16] {
     r[6] = unit.msum;
     r[7] = unit.mmode;
     r[8] = turned.s;
+    r
+}
+
+// A modifier's turn with A and B.
+fn modifier_turn(x: &[u32; 16]) -> [u32; 16] {
+    turned_words(modifier_turn::turn(modifier_of(x), x[9] % 1048576, x[10] % 1048576))
+}
+
+// The same by the older text, whether its function reads A late, and whether it is built.
+fn old_modifier_turn(x: &[u32; 16]) -> [u32; 16] {
+    let f = x[8] / 16 % 32;
+    let mut r = turned_words(old_modifier::turn(modifier_of(x), x[9] % 1048576, x[10] % 1048576));
+    r[9] = flag(old_modifier::reads_late(f));
+    r[10] = flag(built_codes::old_built_function(f));
     r
 }
 
@@ -167,6 +181,7 @@ fn answer(x: &[u32; 16], sine: &Quarter, decay: &Entries, modes: &Rows) -> [u32;
         4 => modifier_turn(x),
         5 => built(x),
         6 => sums(x),
+        7 => old_modifier_turn(x),
         _ => [0u32; 16],
     }
 }

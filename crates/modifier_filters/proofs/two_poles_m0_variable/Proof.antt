@@ -11,7 +11,7 @@ two-poles-requires c κs = search needs
 
 m0-variable-requires : tie.Need-m0-variable-requires
 unfolding twoPoles
-m0-variable-requires c κs = (rw (c .two-poles .ensures) (c .before .pre .0 .m0-low), c .before .pre .1 .1)
+m0-variable-requires c κs = (rw (c .two-poles .ensures) (c .before .pre .0 .m0-low), c .before .pre .1 .2)
 
 returns : tie.Need-returns
 unfolding twoPoles m0Variable twoPolesM0Variable

@@ -11,7 +11,7 @@ two-poles-requires c κs = search needs
 
 m1-variable-requires : tie.Need-m1-variable-requires
 unfolding twoPoles
-m1-variable-requires c κs = (rw (c .two-poles .ensures) (c .before .pre .0 .m1-low), c .before .pre .1 .1)
+m1-variable-requires c κs = (rw (c .two-poles .ensures) (c .before .pre .0 .m1-low), c .before .pre .1 .2)
 
 returns : tie.Need-returns
 unfolding twoPoles m1Variable twoPolesM1Variable

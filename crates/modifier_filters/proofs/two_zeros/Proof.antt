@@ -5,9 +5,6 @@ use Rattle.modifier_filters.specs.Filters.{twoZeros}
 use Rattle.modifier_filters.proofs.two_zeros.Statement.{statement}
 use Rattle.modifier_filters.proofs.two_zeros.Tie as tie
 
-filtered-requires : tie.Need-filtered-requires
-filtered-requires c κs = search needs
-
 added-requires : tie.Need-added-requires
 added-requires c κs = search needs
 
@@ -19,10 +16,8 @@ gives-requires c κs = search needs
 
 returns : tie.Need-returns
 unfolding twoZeros
-returns c =
-    let summed = c .before .before in
-    rw (c .gives .ensures, c .before .shift .ensures, summed .added .ensures .is, summed .before .filtered .ensures .is)
+returns c = rw (c .gives .ensures, c .before .shift .ensures, c .before .before .added .ensures .is)
 
 pub two-zeros-spec : {M : Type 1} → statement M
 two-zeros-spec =
-    tie.close (tie.spec filtered-requires added-requires shift-requires gives-requires returns)
+    tie.close (tie.spec added-requires shift-requires gives-requires returns)

@@ -11,7 +11,7 @@ two-zeros-requires c κs = search needs
 
 m0-variable-requires : tie.Need-m0-variable-requires
 unfolding twoZeros
-m0-variable-requires c κs = (rw (c .two-zeros .ensures) (c .before .pre .0 .m0-low), c .before .pre .1 .1)
+m0-variable-requires c κs = (rw (c .two-zeros .ensures) (c .before .pre .0 .m0-low), c .before .pre .1 .2)
 
 returns : tie.Need-returns
 unfolding twoZeros m0Variable twoZerosM0Variable

@@ -11,7 +11,7 @@ two-zeros-requires c κs = search needs
 
 m1-variable-requires : tie.Need-m1-variable-requires
 unfolding twoZeros
-m1-variable-requires c κs = (rw (c .two-zeros .ensures) (c .before .pre .0 .m1-low), c .before .pre .1 .1)
+m1-variable-requires c κs = (rw (c .two-zeros .ensures) (c .before .pre .0 .m1-low), c .before .pre .1 .2)
 
 returns : tie.Need-returns
 unfolding twoZeros m1Variable twoZerosM1Variable

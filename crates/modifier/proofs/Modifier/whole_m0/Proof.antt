@@ -1,0 +1,18 @@
+-- `modifier::Modifier::whole_m0` meets its contract: the product's promise, and its width.
+-- Assumes nothing.
+use borrow.Author.Needs.{needs}
+use Rattle.modifier.specs.Modifier.{wholeM0}
+use Rattle.product.proofs.Widths.{whole-low}
+use Rattle.modifier.proofs.Low.{word-of}
+use Rattle.modifier.proofs.Modifier.whole_m0.Statement.{statement}
+use Rattle.modifier.proofs.Modifier.whole_m0.Tie as tie
+
+multiply-whole-requires : tie.Need-multiply-whole-requires
+multiply-whole-requires c κs = search needs
+
+returns : tie.Need-returns
+unfolding wholeM0
+returns c = word-of (c .multiply-whole .ensures) (whole-low _ _ _)
+
+pub whole-m0-spec : {M : Type 1} → statement M
+whole-m0-spec = tie.close (tie.spec multiply-whole-requires returns)
