@@ -4,7 +4,7 @@ use mathlib.Core.Path.{_≡_}
 use mathlib.Core.Bool.{Bool, Bool·beq, true, false, cond, _&&_, _||_}
 use Prim.Native.Nat.{ℕ, zero, suc, _+_, _*_, _/_, _%_, _^_, _<_}
 use native.Mathlib.Omega.{arith}
-use lib.Dec.{eqb, ltb}
+use lib.Dec.{eqb, ltb, lit<}
 use borrow.Author.Tests.{eqb-true, ltb-true}
 use Rattle.words.specs.Words.{sum, sumInto, leaves}
 use Rattle.modes.specs.Modes.{oscillatorOn, envelopeOn, free, wait}
@@ -29,6 +29,16 @@ digits-low r false h = ltb-true _ 16 (below (λ (r : ℕ). ltb (switchedAs r fal
 pub switched-low : (gmode gn : ℕ) → oldRunMode gmode gn < 16
 unfolding oldRunMode
 switched-low gmode gn = digits-low (oldRun gmode) (negativeGN gn) (omega arith)
+
+-- 000 and 001, with GMODE below 64, are switched as the same numbers, and have nothing on.
+idle-run : (r : ℕ) (negative : Bool) → r < 2 → switchedAs r negative < 2
+idle-run zero negative h = lit< tt
+idle-run (suc zero) negative h = lit< tt
+idle-run (suc (suc r)) negative h = absurd (omega arith)
+
+pub idle-low : (gmode gn : ℕ) → gmode < 64 → oldRunMode gmode gn < 2
+unfolding oldRunMode
+idle-low gmode gn h = idle-run (oldRun gmode) (negativeGN gn) (omega arith)
 
 -- 100 alone is switched as 1001.
 waits-alone : (r : ℕ) (negative : Bool) → r < 8 → eqb (switchedAs r negative) wait ≡ eqb r 0b100

@@ -1,5 +1,6 @@
 -- `old_generator::level` meets its contract: Q is the 1978 text's of GQ without its low 12 bits.
 -- Assumes nothing.
+use mathlib.Core.Path.{_∙_}
 use native.Mathlib.Omega.{arith}
 use Rattle.envelope.proofs.Levels.{q-low}
 use Rattle.old_generator.specs.OldGenerator.{oldLevel}
@@ -16,7 +17,7 @@ level-by-requires c κs = (c .before .pre .1 .0, rw (c .q .ensures) (q-low _ _ (
 
 returns : tie.Need-returns
 unfolding oldLevel
-returns c = rw (← (q-is (c .before .before .args .mode) (c .before .before .args .gq)), ← (c .before .q .ensures)) (c .level-by .ensures)
+returns c = rw (← (c .before .q .ensures ∙ q-is _ _)) (c .level-by .ensures)
 
 pub level-spec : {M : Type 1} → statement M
 level-spec = tie.close (tie.spec (λ c. search needs) q-requires level-by-requires returns)
