@@ -24,10 +24,13 @@ decayed free gq gp = cond (overflows gq gp && not free) gq (lowBits 24 (exactSum
 unfoldable pub qOf : ℕ → ℕ → ℕ
 qOf mode gq = cond (leb 2 mode) (exponential tableSize (exponentOf gq)) (hOf gq)
 
--- V: GL - Q in the envelope modes 00 and 10, GL + Q in 01 and 11; its low 12 bits, unsigned.
+-- GL + Q, or GL - Q; its low 12 bits, unsigned.
+abbrev pub levelBy : Bool → ℕ → ℕ → ℕ
+levelBy plus gl q = lowBits 12 (cond plus (pos gl +ℤ pos q) (pos gl -ℤ pos q))
+
+-- V: GL - Q in the envelope modes 00 and 10, GL + Q in 01 and 11.
 unfoldable pub level : ℕ → ℕ → ℕ → ℕ
-level mode gl gq =
-    lowBits 12 (cond (eqb (mode % 2) 0) (pos gl -ℤ pos (qOf mode gq)) (pos gl +ℤ pos (qOf mode gq)))
+level mode gl gq = levelBy (eqb (mode % 2) 1) gl (qOf mode gq)
 
 -- The magnitude of P: (|W| times V + 32) div 64.
 unfoldable pub rounded : ℕ → ℕ → ℕ

@@ -4,7 +4,7 @@ ghost use mathlib.Core.Path.{_≡_};
 ghost use lib.Dec.{eqb};
 ghost use Rattle.words.specs.Words.{lowBits, valueOf};
 ghost use Rattle.exponential.specs.Exponential.{tableSize, entries};
-ghost use Rattle.envelope.specs.Envelope.{overflows, decayed, qOf, level, enveloped};
+ghost use Rattle.envelope.specs.Envelope.{overflows, decayed, qOf, levelBy, level, enveloped};
 use exponential::Entries;
 use words::SignMagnitude;
 
@@ -31,7 +31,7 @@ pub fn decayed(free: u8, gq: u32, gp: u32) -> u32
 }
 
 // Q: the high 12 bits of GQ, or the exponential of its high 14.
-fn q(table: &Entries, mode: u32, gq: u32) -> u32
+pub fn q(table: &Entries, mode: u32, gq: u32) -> u32
     requires { ⌜ now table ≡ entries tableSize ⌝ }
     requires { ⌜ gq < 2 ^ 24 ⌝ }
     ensures { λ r. ⌜ r ≡ qOf mode gq ⌝ }
@@ -42,6 +42,17 @@ fn q(table: &Entries, mode: u32, gq: u32) -> u32
     gq / 4096
 }
 
+// GL plus Q, or minus Q.
+pub fn level_by(plus: bool, gl: u32, q: u32) -> u32
+    requires { ⌜ (gl < 2 ^ 12) × (q < 2 ^ 12) ⌝ }
+    ensures { λ r. ⌜ r ≡ levelBy plus gl q ⌝ }
+{
+    if plus {
+        return words::add12(gl, q);
+    }
+    words::subtract12(gl, q)
+}
+
 // V: GL minus or plus Q.
 pub fn level(table: &Entries, mode: u32, gl: u32, gq: u32) -> u32
     requires { ⌜ now table ≡ entries tableSize ⌝ }
@@ -49,10 +60,7 @@ pub fn level(table: &Entries, mode: u32, gl: u32, gq: u32) -> u32
     ensures { λ r. ⌜ r ≡ level mode gl gq ⌝ }
 {
     let q = q(table, mode, gq);
-    if mode % 2 == 0 {
-        return words::subtract12(gl, q);
-    }
-    words::add12(gl, q)
+    level_by(mode % 2 == 1, gl, q)
 }
 
 // P: the wave under the level v, rounded and then signed, as a word of 20 bits.

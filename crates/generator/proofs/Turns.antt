@@ -1,6 +1,6 @@
 -- The code's steps, one after the other, are the turn that Generator.antt defines.
 -- Assumes nothing.
-use mathlib.Core.Path.{_≡_, refl, sym, ap, _∙_}
+use mathlib.Core.Path.{_≡_, refl, ap, _∙_}
 use mathlib.Core.Bool.{Bool, true, false, cond, _&&_, and-true, and-false}
 use Prim.Native.Nat.{ℕ, _/_, _^_, _<_, _≤_}
 use native.Mathlib.Omega.{arith}
@@ -12,13 +12,14 @@ use Rattle.words.specs.Words.{lowBits, sum, sumInto, leaves, valueOf}
 use Rattle.modes.specs.declared.Switches.{Switches}
 use Rattle.modes.specs.Modes.{oscillatorOn, envelopeOn, free, wait, runningC, switchesOf, withRunMode}
 use Rattle.modes.proofs.RunModes.{oscillator-tells, free-tells}
-use Rattle.modes.proofs.Exclusions.{quiet, off-not-on, on-not-off}
+use Rattle.modes.proofs.Exclusions.{quiet, off-not-on}
 use Rattle.oscillator.specs.Oscillator.{Wave, waveOf, sineWave, sumOfCosines}
 use Rattle.envelope.specs.Envelope.{overflows, decayed, enveloped}
 use Rattle.lists.specs.Lists.{isOneOf}
 use Rattle.generator.specs.declared.Generator.{Generator}
+use Rattle.generator.specs.declared.Sounded.{Sounded}
 use Rattle.generator.specs.Generator.{updated, Ranged, runMode, oscillatorMode, jOf, kOf, leftRange, wOf, vOf, pOf, gjAfter, gkAfter, gqAfter, gmodeAfter, triggers, after, soundedOf}
-use Rattle.generator.specs.Steps.{phaseOf, oscillated, kBy, leftBy, outputBy, endedOf}
+use Rattle.generator.specs.Steps.{phaseOf, oscillated, kBy, leftBy, outputBy, advancedBy, endedOf}
 
 -- J, of the exact sum of step 1.
 pub phase-low : (g : Generator) (f : ℕ) → lowBits 20 (phaseOf g f) ≡ jOf g f
@@ -57,11 +58,6 @@ module _ (on : Bool) (g : Generator) (z : ℤ) (j v : ℕ) {p : ℕ} (is-v : v �
   unfolding outputBy kBy waveOf
   output-rest h n c l = simp (ne-eqb (oscillatorMode g) 8 n, ne-eqb (oscillatorMode g) 1 (λ e. omega arith), ne-eqb (oscillatorMode g) 2 (λ e. omega arith), ne-eqb (oscillatorMode g) 3 (λ e. omega arith), ne-eqb (oscillatorMode g) 4 c) (rw (← is-v) h)
 
--- A generator whose envelope is on doesn't wait.
-sounds-not-waits : (r : ℕ) → envelopeOn r ≡ true → eqb r wait ≡ false
-unfolding envelopeOn isOneOf
-sounds-not-waits r e = on-not-off envelopeOn r wait e refl
-
 -- GP added into GQ.
 abbrev decays : Bool → Generator → Generator
 decays b g = updated g (g .gj) (g .gk) (decayed b (g .gq) (g .gp)) (g .gmode)
@@ -82,67 +78,42 @@ ends-by g = go (eqb (runMode g) runningC)
     go true = refl
     go false = refl
 
--- The turn of a generator whose envelope is on: one that triggers, and one that doesn't.
-module _ (g : Generator) (f : ℕ) (told : Bool) (sounds : envelopeOn (runMode g) ≡ true) where
-  pub turn-triggers : triggers g ≡ true →
-      endedOf (decays (free (runMode g)) (oscillated (oscillatorOn (runMode g)) g (jOf g f))) ≡ after g f told
-  unfolding after gjAfter gkAfter gqAfter gmodeAfter oscillated
-  turn-triggers t =
-      ap endedOf (decays-by g (free (runMode g)) (oscillatorOn (runMode g)) _ _)
-      ∙ ends-by _
-      ∙ rw (sounds, t, and-true, sounds-not-waits (runMode g) sounds)
+-- Steps 2, 4 and 7 by the switches of a run mode r: the registers with GMODE as it was, P, and whether it triggers.
+pub advanced-in : (r : ℕ) (on : Switches) → on ≡ switchesOf r → (g : Generator) (j p : ℕ) →
+    advancedBy on g j p
+    ≡ record {
+      unit = updated g (cond (oscillatorOn r) (sumInto 28 20 (g .gj) (g .go)) (g .gj)) (cond (oscillatorOn r) (sum 20 (g .gk) j) (g .gk)) (decayed (free r) (g .gq) (g .gp)) (g .gmode);
+      p = p;
+      triggers = free r && overflows (g .gq) (g .gp);
+    }
+unfolding advancedBy oscillated
+advanced-in r on same g j p = rw (same, oscillator-tells r, free-tells r, decays-by g (free r) (oscillatorOn r) _ _)
 
-  pub turn-quiet : triggers g ≡ false →
-      decays (free (runMode g)) (oscillated (oscillatorOn (runMode g)) g (jOf g f)) ≡ after g f told
-  unfolding after gjAfter gkAfter gqAfter gmodeAfter oscillated
-  turn-quiet t =
-      decays-by g (free (runMode g)) (oscillatorOn (runMode g)) _ _
-      ∙ rw (sounds, t, and-false, sounds-not-waits (runMode g) sounds)
-
--- The turn by the code's values: the exact sum z of step 1, J, P, the registers u after the oscillator's steps and v after the envelope's, and whether the envelope overflows.
+-- The turn of a generator whose envelope is on by the code's values: the exact sum z of step 1, J, P, and x after steps 2, 4 and 7.
 module _ (g : Generator) (f : ℕ) (on : Switches) (same : on ≡ switchesOf (runMode g)) (sounds : envelopeOn (runMode g) ≡ true)
-    (z : ℤ) (j p : ℕ) (u v : Generator) (over : Bool) (is-z : z ≡ phaseOf g f) (is-low : j ≡ lowBits 20 z) (is-p : p ≡ outputBy (eqb (on .oscillator) 1) g z j)
-    (is-u : u ≡ oscillated (eqb (on .oscillator) 1) g j) (is-v : v ≡ decays (eqb (on .free) 1) u)
-    (is-over : over ≡ overflows (g .gq) (g .gp)) where
+    (z : ℤ) (j p : ℕ) (x : Sounded) (is-z : z ≡ phaseOf g f) (is-low : j ≡ lowBits 20 z) (is-p : p ≡ outputBy (eqb (on .oscillator) 1) g z j)
+    (is-x : x ≡ advancedBy on g j p) where
   is-j : j ≡ jOf g f
   is-j = low-is-j g f is-z is-low
 
-  oscillator-same : eqb (on .oscillator) 1 ≡ oscillatorOn (runMode g)
-  oscillator-same = rw same (oscillator-tells (runMode g))
-
-  free-same : eqb (on .free) 1 ≡ free (runMode g)
-  free-same = rw same (free-tells (runMode g))
-
   p-same : p ≡ pOf g f
-  p-same = rw (is-p, is-z, is-j, oscillator-same) (output-is g f)
+  p-same = rw (is-p, is-z, is-j, same, oscillator-tells (runMode g)) (output-is g f)
 
-  triggers-same : (eqb (on .free) 1 && over) ≡ triggers g
-  unfolding triggers
-  triggers-same = rw (is-over, free-same)
+  x-same : x ≡ record { unit = updated g (gjAfter g) (gkAfter g f) (gqAfter g) (g .gmode); p = pOf g f; triggers = triggers g }
+  unfolding gjAfter gkAfter gqAfter triggers
+  x-same = is-x ∙ advanced-in (runMode g) on same g j p ∙ rw (is-j, p-same, sounds)
 
-  triggers-by : {b o : Bool} → eqb (on .free) 1 ≡ b → over ≡ o → triggers g ≡ (b && o)
-  triggers-by h k = sym triggers-same ∙ rw (h, k)
+  triggers-same : {t : Bool} → x .triggers ≡ t → triggers g ≡ t
+  triggers-same h = rw (← h, x-same)
 
-  quiet-by : triggers g ≡ false → record { unit = v; p = p; triggers = false } ≡ soundedOf g f
-  unfolding soundedOf
-  quiet-by t = rw (whole, p-same, t)
-    where
-      whole : v ≡ after g f false
-      whole = rw (is-v, is-u, is-j, oscillator-same, free-same) (turn-quiet g f false sounds t)
+  -- One that triggers, and one that doesn't.
+  pub sounded-triggers : {w : Generator} → w ≡ endedOf (x .unit) → x .triggers ≡ true → record { unit = w; p = p; triggers = true } ≡ soundedOf g f
+  unfolding soundedOf after gmodeAfter
+  sounded-triggers e t = rw (e, x-same, ends-by, p-same, triggers-same t, and-true, and-false)
 
-  -- An overflow of a free envelope, one of a sticky envelope, and none.
-  pub sounded-triggers : {w : Generator} → w ≡ endedOf v → over ≡ true → eqb (on .free) 1 ≡ true → record { unit = w; p = p; triggers = true } ≡ soundedOf g f
-  unfolding soundedOf
-  sounded-triggers {w} e k h = rw (whole, p-same, triggers-by h k)
-    where
-      whole : w ≡ after g f false
-      whole = rw (e, is-v, is-u, is-j, oscillator-same, free-same) (turn-triggers g f false sounds (triggers-by h k))
-
-  pub sounded-sticky : over ≡ true → eqb (on .free) 1 ≡ false → record { unit = v; p = p; triggers = false } ≡ soundedOf g f
-  sounded-sticky k h = quiet-by (triggers-by h k)
-
-  pub sounded-quiet : over ≡ false → record { unit = v; p = p; triggers = false } ≡ soundedOf g f
-  sounded-quiet k = quiet-by (triggers-by refl k ∙ and-false (eqb (on .free) 1))
+  pub sounded-quiet : x .triggers ≡ false → x ≡ soundedOf g f
+  unfolding soundedOf after gmodeAfter
+  sounded-quiet t = x-same ∙ simp (triggers-same t, and-false)
 
 oscillated-gq : (o : Bool) (g : Generator) (j : ℕ) → oscillated o g j .gq ≡ g .gq
 unfolding oscillated

@@ -6,10 +6,12 @@ use lib.Dec.{eqb, leb}
 use lib.IntN.{ℤ, _+ℤ_}
 use lib.Signed.{mag}
 use Rattle.words.specs.Words.{lowBits, signed, sum, sumInto, leaves}
+use Rattle.modes.specs.declared.Switches.{Switches}
 use Rattle.modes.specs.Modes.{wait, runningC, withRunMode}
 use Rattle.oscillator.specs.Oscillator.{waveOf}
-use Rattle.envelope.specs.Envelope.{enveloped}
+use Rattle.envelope.specs.Envelope.{overflows, decayed, enveloped}
 use Rattle.generator.specs.declared.Generator.{Generator}
+use Rattle.generator.specs.declared.Sounded.{Sounded}
 use Rattle.generator.specs.Generator.{updated, runMode, oscillatorMode, vOf}
 
 -- Step 1: the high 20 bits of GJ plus F, before J is made of it.
@@ -32,6 +34,16 @@ leftBy on g z j = leb (2 ^ 19) (mag z) || (on && leaves 20 (g .gk) j)
 -- Steps 6 to 9.
 unfoldable pub outputBy : Bool → Generator → ℤ → ℕ → ℕ
 outputBy on g z j = lowBits 20 (enveloped (waveOf (oscillatorMode g) (kBy g j) (g .gn) (g .gm) (leftBy on g z j)) (vOf g))
+
+-- Steps 2, 4 and 7 by a run mode's switches, its envelope being on: the registers with GMODE as it was, P, and whether a free envelope overflows.
+unfoldable pub advancedBy : Switches → Generator → ℕ → ℕ → Sounded
+advancedBy on g j p =
+    let u = oscillated (eqb (on .oscillator) 1) g j in
+    record {
+      unit = updated u (u .gj) (u .gk) (decayed (eqb (on .free) 1) (u .gq) (u .gp)) (u .gmode);
+      p = p;
+      triggers = eqb (on .free) 1 && overflows (g .gq) (g .gp);
+    }
 
 -- 1101 goes to 1001.
 unfoldable pub endedOf : Generator → Generator

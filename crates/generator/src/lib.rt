@@ -11,7 +11,7 @@ ghost use Rattle.modes.specs.Modes.{switchesOf, envelopeOn, wait, withRunMode};
 ghost use Rattle.oscillator.specs.Oscillator.{Wave, waveOf, sineWave, sumOfCosines};
 ghost use Rattle.envelope.specs.Envelope.{overflows, decayed, enveloped};
 ghost use Rattle.generator.specs.Generator.{loaded, stored, updated, Ranged, runMode, oscillatorMode, after, soundedOf};
-ghost use Rattle.generator.specs.Steps.{phaseOf, oscillated, leftBy, outputBy, endedOf};
+ghost use Rattle.generator.specs.Steps.{phaseOf, oscillated, leftBy, outputBy, advancedBy, endedOf};
 use exponential::Entries;
 use modes::Switches;
 use sine::Quarter;
@@ -82,7 +82,7 @@ impl Generator {
     }
 
     // Step 1: the high 20 bits of GJ plus F, exactly; J is its low 20 bits. One number tells J and whether the sum left its range.
-    fn phase(self, f: u32) -> u32
+    pub fn phase(self, f: u32) -> u32
         requires { ⌜ Ranged self ⌝ }
         requires { ⌜ f < 2 ^ 20 ⌝ }
         ensures { λ r. ⌜ signed 32 r ≡ phaseOf self f ⌝ }
@@ -135,7 +135,7 @@ impl Generator {
     }
 
     // Steps 2 and 4, where the oscillator is on.
-    fn oscillate(self, on: u8, j: u32) -> Generator
+    pub fn oscillate(self, on: u8, j: u32) -> Generator
         requires { ⌜ Ranged self ⌝ }
         requires { ⌜ j < 2 ^ 20 ⌝ }
         ensures { λ r. ⌜ r ≡ oscillated (eqb on 1) self j ⌝ }
@@ -148,7 +148,7 @@ impl Generator {
     }
 
     // Whether the exact sum of step 1, or the sum of step 4 where it is done, leaves its range.
-    fn left_range(self, on: u8, exact: u32, j: u32) -> bool
+    pub fn left_range(self, on: u8, exact: u32, j: u32) -> bool
         requires { ⌜ Ranged self ⌝ }
         requires { ⌜ j < 2 ^ 20 ⌝ }
         ensures { λ r. ⌜ r ≡ leftBy (eqb on 1) self (signed 32 exact) j ⌝ }
@@ -220,6 +220,29 @@ impl Generator {
         self.sine_under(sine, self.gk / 128, v)
     }
 
+    // Steps 2, 4 and 7 where the envelope is on, by a run mode's switches: the registers with GMODE as it was, P, and whether a free envelope overflows.
+    pub fn advance(self, on: Switches, j: u32, p: u32) -> Sounded
+        requires { ⌜ Ranged self ⌝ }
+        requires { ⌜ j < 2 ^ 20 ⌝ }
+        ensures { λ r. ⌜ r ≡ advancedBy on self j p ⌝ }
+    {
+        let turned = self.oscillate(on.oscillator, j);
+        if self.overflows() {
+            let decayed = turned.decay(on.free);
+            return Sounded {
+                unit: decayed,
+                p,
+                triggers: on.free == 1,
+            };
+        }
+        let decayed = turned.decay(on.free);
+        Sounded {
+            unit: decayed,
+            p,
+            triggers: false,
+        }
+    }
+
     // 1101 goes to 1001.
     fn ended(self) -> Generator
         ensures { λ r. ⌜ r ≡ endedOf self ⌝ }
@@ -240,30 +263,18 @@ impl Generator {
     {
         let exact = self.phase(f);
         let j = words::low20(exact);
-        let turned = self.oscillate(on.oscillator, j);
         let p = self.output(sine, decay, on.oscillator, exact, j);
-        if self.overflows() {
-            let decayed = turned.decay(on.free);
-            if on.free == 1 {
-                let ended = decayed.ended();
-                return Sounded {
-                    unit: ended,
-                    p,
-                    triggers: true,
-                };
-            }
+        let sounded = self.advance(on, j, p);
+        if sounded.triggers {
+            let advanced = sounded.unit;
+            let ended = advanced.ended();
             return Sounded {
-                unit: decayed,
+                unit: ended,
                 p,
-                triggers: false,
+                triggers: true,
             };
         }
-        let decayed = turned.decay(on.free);
-        Sounded {
-            unit: decayed,
-            p,
-            triggers: false,
-        }
+        sounded
     }
 
     // The turn of a generator in 1001, told whether its lower neighbour has triggered in this pass.

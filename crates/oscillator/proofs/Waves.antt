@@ -3,17 +3,18 @@
 use mathlib.Core.Path.{_≡_, refl, ap, _∙_}
 use mathlib.Core.Bool.{Bool, true, false, cond}
 use Prim.Native.Nat.{ℕ, suc, _-_, _/_, _%_, _^_, _<_, _≤_}
-use native.Mathlib.Nat.{div-le-self}
+use native.Mathlib.Nat.{div-le-self, div-eq-of-lt, le-div-iff-mul-le}
 use native.Mathlib.Omega.{arith}
 use lib.Dec.{eqb, ltb}
 use lib.IntN.{pos, negsuc, negℤ}
+use lib.Pow.{pow-pos}
 use lib.Signed.{nonNeg}
 use borrow.Author.Tests.{lt-ltb, le-ltb, ltb-true, ltb-false, eq-eqb, ne-eqb, eqb-true, eqb-false}
 use Rattle.words.specs.Words.{signed, valueOf}
 use Rattle.words.proofs.Residues.{either-low}
 use Rattle.sine.specs.Sine.{magnitude, negative, signOf}
 use Rattle.sine.proofs.Quarter.{magnitude-low}
-use Rattle.oscillator.specs.Oscillator.{sawtooth, square}
+use Rattle.oscillator.specs.Oscillator.{sawtooth, halfOf, square}
 
 -- A negative K of 13 bits: its magnitude, but 0 at -4,096.
 saw-negative : (n : ℕ) → n < 4096 → negℤ (pos (suc n % 4096)) ≡ sawtooth (negsuc n)
@@ -45,13 +46,19 @@ module _ (k : ℕ) (h : k < 2 ^ 13) where
       whole : 8192 - k ≡ suc (8192 - suc k)
       whole = omega arith
 
-  pub square-by : cond (eqb (k / 4096) 0) (pos 2048) (negℤ (pos 2048)) ≡ square (signed 13 k)
-  unfolding square signed
-  square-by = go (ltb k 4096) refl
-    where
-      go : (b : Bool) → ltb k 4096 ≡ b → cond (eqb (k / 4096) 0) (pos 2048) (negℤ (pos 2048)) ≡ cond (nonNeg (cond b (pos k) (negsuc (8192 - suc k)))) (pos 2048) (negℤ (pos 2048))
-      go true e = rw (eq-eqb (k / 4096) 0 (omega (arith, ltb-true k 4096 e)))
-      go false e = rw (ne-eqb (k / 4096) 0 (λ z. omega (arith, ltb-false k 4096 e)))
+-- The square of a word of b bits has the sign of its top bit.
+pub square-by : (b k : ℕ) → cond (eqb (k / 2 ^ (b - 1)) 0) (pos (halfOf b)) (negℤ (pos (halfOf b))) ≡ square b (signed b k)
+unfolding square signed
+square-by b k = go (ltb k (2 ^ (b - 1))) refl
+  where
+    go : (c : Bool) → ltb k (2 ^ (b - 1)) ≡ c →
+        cond (eqb (k / 2 ^ (b - 1)) 0) (pos (halfOf b)) (negℤ (pos (halfOf b)))
+        ≡ cond (nonNeg (cond c (pos k) (negsuc (2 ^ b - suc k)))) (pos (halfOf b)) (negℤ (pos (halfOf b)))
+    go true e = rw (eq-eqb (k / 2 ^ (b - 1)) 0 (div-eq-of-lt (ltb-true k (2 ^ (b - 1)) e)))
+    go false e = rw (ne-eqb (k / 2 ^ (b - 1)) 0 (λ z. omega (arith, at-least-one)))
+      where
+        at-least-one : 1 ≤ k / 2 ^ (b - 1)
+        at-least-one = le-div-iff-mul-le {k = 2 ^ (b - 1)} {x = 1} {y = k} (pow-pos (b - 1)) .1 (omega (arith, ltb-false k (2 ^ (b - 1)) e))
 
 -- The sine's sign is 0 or 1, and with it a magnitude stands for the signed number.
 pub sign-bit : (k : ℕ) → signOf k < 2

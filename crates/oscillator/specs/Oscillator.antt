@@ -1,6 +1,6 @@
--- The wave W of a generator by its oscillator mode (document 01, "A generator", step 6; document 02, Q-4).
+-- The wave W of a generator by its oscillator mode (document 01, "A generator", step 6; document 02, Q-4). K has 13 bits; square and pulse are over its width, as the older text has 12 (Q-10).
 -- Assumes nothing.
-use Prim.Native.Nat.{ℕ, _*_, _/_, _^_, _<_, min}
+use Prim.Native.Nat.{ℕ, _-_, _*_, _/_, _^_, _<_, min}
 use mathlib.Core.Bool.{Bool, cond}
 use mathlib.Core.Path.{_≡_}
 use lib.Dec.{eqb}
@@ -15,13 +15,17 @@ unfoldable pub sawtooth : ℤ → ℤ
 sawtooth (pos n) = pos n
 sawtooth (negsuc n) = cond (eqb n 4095) (pos 0) (negsuc n)
 
--- 0010: -2,048 if K is negative, else 2,048.
-unfoldable pub square : ℤ → ℤ
-square k = cond (nonNeg k) (pos 2048) (negℤ (pos 2048))
+-- Half of the largest magnitude of a K of b bits: 2,048 of 13.
+abbrev pub halfOf : ℕ → ℕ
+halfOf b = 2 ^ (b - 2)
 
--- 0011: 2,048 if a signed sum left its range, else 0.
-unfoldable pub pulse : Bool → ℤ
-pulse left = cond left (pos 2048) (pos 0)
+-- 0010, of a K of b bits: minus that half if K is negative, else that half.
+unfoldable pub square : ℕ → ℤ → ℤ
+square b k = cond (nonNeg k) (pos (halfOf b)) (negℤ (pos (halfOf b)))
+
+-- 0011, by the bits of K: that half if a signed sum left its range, else 0.
+unfoldable pub pulse : ℕ → Bool → ℤ
+pulse b left = cond left (pos (halfOf b)) (pos 0)
 
 -- 0000 and 1000: the sine of K, its magnitude shifted right GM places, then signed.
 unfoldable pub sineWave : ℕ → ℕ → ℤ
@@ -51,8 +55,8 @@ sumOfCosines k gn gm =
 unfoldable pub waveOf : ℕ → ℕ → ℕ → ℕ → Bool → ℤ
 waveOf mode k gn gm left =
     cond (eqb mode 0b0001) (sawtooth (signed 13 k))
-    (cond (eqb mode 0b0010) (square (signed 13 k))
-    (cond (eqb mode 0b0011) (pulse left)
+    (cond (eqb mode 0b0010) (square 13 (signed 13 k))
+    (cond (eqb mode 0b0011) (pulse 13 left)
     (cond (eqb mode 0b0100) (sumOfCosines k gn gm)
     (sineWave k gm))))
 

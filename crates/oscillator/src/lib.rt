@@ -1,5 +1,5 @@
 // The wave of a generator: one function for each shape.
-ghost use Prim.Native.Nat.{_*_, _<_, _^_, min};
+ghost use Prim.Native.Nat.{_*_, _<_, _≤_, _^_, min};
 ghost use mathlib.Core.Path.{_≡_};
 ghost use Rattle.words.specs.Words.{signed};
 ghost use Rattle.sine.specs.Sine.{quarter};
@@ -27,7 +27,7 @@ pub fn sawtooth(k: u32) -> SignMagnitude
 // 2,048 with the sign of K.
 pub fn square(k: u32) -> SignMagnitude
     requires { ⌜ k < 2 ^ 13 ⌝ }
-    ensures { λ r. ⌜ Wave (square (signed 13 k)) r ⌝ }
+    ensures { λ r. ⌜ Wave (square 13 (signed 13 k)) r ⌝ }
 {
     SignMagnitude {
         sign: k / 4096,
@@ -37,7 +37,7 @@ pub fn square(k: u32) -> SignMagnitude
 
 // 2,048 where a signed sum left its range.
 pub fn pulse(left: bool) -> SignMagnitude
-    ensures { λ r. ⌜ Wave (pulse left) r ⌝ }
+    ensures { λ r. ⌜ Wave (pulse 13 left) r ⌝ }
 {
     if left {
         return SignMagnitude {
@@ -54,7 +54,7 @@ pub fn pulse(left: bool) -> SignMagnitude
 // The sine of K, shifted right GM places.
 pub fn sine_wave(table: &Quarter, k: u32, gm: u32) -> SignMagnitude
     requires { ⌜ now table ≡ quarter ⌝ }
-    requires { ⌜ (k < 2 ^ 13) × (gm < 2 ^ 4) ⌝ }
+    requires { ⌜ (k < 2 ^ 13) × (gm ≤ 2 ^ 4) ⌝ }
     ensures { λ r. ⌜ Wave (sineWave k gm) r ⌝ }
 {
     let whole = sine::magnitude(table, k);

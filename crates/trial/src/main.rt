@@ -1,5 +1,5 @@
 // The test program over the proved leaves. A request is 16 words, and so is its answer; requests follow one another until the input ends.
-// Word 0 is the operation: 0 sine, 1 exponential, 2 products, 3 a generator's turn, 4 a modifier's turn, 5 whether modes are built, 6 sums, 7 a modifier's turn by the older text.
+// Word 0 is the operation: 0 sine, 1 exponential, 2 products, 3 a generator's turn, 4 a modifier's turn, 5 whether modes are built, 6 sums, 7 a modifier's turn by the older text, 8 a generator's turn by the older text.
 ghost use mathlib.Core.Path.{_≡_};
 ghost use mathlib.Core.Bool.{true};
 ghost use Prim.Native.Nat.{_+_, _*_, _≤_, _<_, _^_};
@@ -11,6 +11,7 @@ ghost use Rattle.generator.specs.Generator.{Ranged, runMode};
 ghost use Rattle.modifier.specs.Modifier.{Ranged as InRange};
 use exponential::Entries;
 use generator::Generator;
+use generator::Sounded;
 use modes::Rows;
 use modes::Switches;
 use modifier::Modifier;
@@ -77,18 +78,22 @@ fn registers(unit: Generator) -> [u32; 16] {
     r
 }
 
-// The turn of a generator whose envelope is on: its words afterwards, P, and whether it triggers.
+// What a generator whose envelope is on brings: its words afterwards, P, and whether it triggers.
+fn brought(after: Sounded) -> [u32; 16] {
+    let mut r = registers(after.unit);
+    r[11] = after.p;
+    r[12] = flag(after.triggers);
+    r
+}
+
+// The turn of a generator whose envelope is on.
 fn sounded(unit: Generator, on: Switches, f: u32, sine: &Quarter, decay: &Entries) -> [u32; 16]
     requires { ⌜ Ranged unit ⌝ }
     requires { ⌜ f < 2 ^ 20 ⌝ }
     requires { ⌜ (on ≡ switchesOf (runMode unit)) × (envelopeOn (runMode unit) ≡ true) ⌝ }
     requires { ⌜ (now sine ≡ quarter) × (now decay ≡ entries tableSize) ⌝ }
 {
-    let after = unit.play(sine, decay, on, f);
-    let mut r = registers(after.unit);
-    r[11] = after.p;
-    r[12] = flag(after.triggers);
-    r
+    brought(unit.play(sine, decay, on, f))
 }
 
 // A generator's turn with F, told whether its lower neighbour has triggered.
@@ -106,6 +111,25 @@ fn generator_turn(x: &[u32; 16], sine: &Quarter, decay: &Entries, modes: &Rows) 
         return registers(unit.wait(f, x[13] % 2 == 1));
     }
     registers(unit)
+}
+
+// The same turn by the older text. Of a generator with nothing on word 13 is its angle, which 111 sends.
+fn old_generator_turn(x: &[u32; 16], sine: &Quarter, decay: &Entries, modes: &Rows) -> [u32; 16]
+    requires { ⌜ (now sine ≡ quarter) × (now decay ≡ entries tableSize) × (now modes ≡ rows) ⌝ }
+{
+    let unit = generator_of(x);
+    let run = old_generator::run_mode(unit.gmode, unit.gn);
+    let on = modes::switches_of(modes, run);
+    let f = x[12] % 1048576;
+    if on.envelope == 1 {
+        return brought(old_generator::play(unit, sine, decay, on, f));
+    }
+    if run == 9 {
+        return registers(old_generator::wait(unit, f, x[13] % 2 == 1));
+    }
+    let mut r = registers(unit);
+    r[13] = old_generator::angle(unit, f);
+    r
 }
 
 // The modifier whose eight words follow the operation.
@@ -182,6 +206,7 @@ fn answer(x: &[u32; 16], sine: &Quarter, decay: &Entries, modes: &Rows) -> [u32;
         5 => built(x),
         6 => sums(x),
         7 => old_modifier_turn(x),
+        8 => old_generator_turn(x, sine, decay, modes),
         _ => [0u32; 16],
     }
 }

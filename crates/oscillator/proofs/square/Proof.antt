@@ -8,7 +8,7 @@ use Rattle.oscillator.proofs.square.Tie as tie
 
 returns : tie.Need-returns
 unfolding valueOf
-returns c = record { is = square-by _ (c .pre); bit = omega arith; low = omega arith }
+returns c = record { is = square-by 13 _; bit = omega arith; low = omega arith }
 
 pub square-spec : {M : Type 1} → statement M
 square-spec = tie.close (tie.spec returns)

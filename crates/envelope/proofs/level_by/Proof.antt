@@ -1,0 +1,20 @@
+-- `envelope::level_by` meets its contract: each arm is its side of the definition, reduced to 12 bits.
+-- Assumes nothing.
+use borrow.Author.Needs.{needs}
+use Rattle.envelope.proofs.level_by.Statement.{statement}
+use Rattle.envelope.proofs.level_by.Tie as tie
+
+add12-requires : tie.Need-add12-requires
+add12-requires c κs = search needs
+
+returns : tie.Need-returns
+returns c = rw (c .before .if1 .taken) (c .add12 .ensures)
+
+subtract12-requires : tie.Need-subtract12-requires
+subtract12-requires c κs = search needs
+
+returns-2 : tie.Need-returns-2
+returns-2 c = rw (c .before .if1 .left) (c .subtract12 .ensures)
+
+pub level-by-spec : {M : Type 1} → statement M
+level-by-spec = tie.close (tie.spec add12-requires returns subtract12-requires returns-2)

@@ -1,0 +1,6 @@
+pub mod RunModes
+pub mod Levels
+pub mod OldTurns
+pub mod Registers
+pub mod Sounding
+pub mod Figures

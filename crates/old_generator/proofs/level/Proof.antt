@@ -1,0 +1,23 @@
+-- `old_generator::level` meets its contract: Q is the 1978 text's of GQ without its low 12 bits.
+-- Assumes nothing.
+use mathlib.Core.Path.{_∙_}
+use native.Mathlib.Omega.{arith}
+use Rattle.envelope.proofs.Levels.{q-low}
+use Rattle.old_generator.specs.OldGenerator.{oldLevel}
+use Rattle.old_generator.proofs.Levels.{q-is}
+use borrow.Author.Needs.{needs}
+use Rattle.old_generator.proofs.level.Statement.{statement}
+use Rattle.old_generator.proofs.level.Tie as tie
+
+q-requires : tie.Need-q-requires
+q-requires c κs = search needs
+
+level-by-requires : tie.Need-level-by-requires
+level-by-requires c κs = (c .before .pre .1 .0, rw (c .q .ensures) (q-low _ _ (omega (arith, c .before .pre .1 .1))))
+
+returns : tie.Need-returns
+unfolding oldLevel
+returns c = rw (← (c .before .q .ensures ∙ q-is _ _)) (c .level-by .ensures)
+
+pub level-spec : {M : Type 1} → statement M
+level-spec = tie.close (tie.spec (λ c. search needs) q-requires level-by-requires returns)

@@ -1,0 +1,24 @@
+-- `old_generator::output` meets its contract: the wave's and the level's promises go into the envelope's.
+-- Assumes nothing.
+use Rattle.old_generator.specs.OldGenerator.{oldV}
+use Rattle.old_generator.specs.OldSteps.{oldOutputBy}
+use Rattle.old_generator.proofs.Levels.{old-level-low}
+use borrow.Author.Needs.{needs}
+use Rattle.old_generator.proofs.output.Statement.{statement}
+use Rattle.old_generator.proofs.output.Tie as tie
+
+level-requires : tie.Need-level-requires
+level-requires c κs = search needs
+
+wave-requires : tie.Need-wave-requires
+wave-requires c κs = search needs
+
+enveloped-requires : tie.Need-enveloped-requires
+enveloped-requires c κs = (c .wave .ensures .bit, c .wave .ensures .low, rw (c .before .level .ensures) (old-level-low _ _ _))
+
+returns : tie.Need-returns
+unfolding oldOutputBy oldV
+returns c = rw (← (c .before .wave .ensures .is), ← (c .before .before .level .ensures)) (c .enveloped .ensures)
+
+pub output-spec : {M : Type 1} → statement M
+output-spec = tie.close (tie.spec level-requires wave-requires enveloped-requires returns)

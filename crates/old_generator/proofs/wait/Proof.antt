@@ -1,0 +1,41 @@
+-- `old_generator::wait` meets its contract: the oscillator's steps, and the run mode where it is told.
+-- Assumes nothing.
+use mathlib.Core.Path.{_∙_}
+use Rattle.generator.specs.Steps.{oscillated}
+use Rattle.generator.proofs.Turns.{low-is-j}
+use Rattle.old_generator.proofs.OldTurns.{old-turn-waits}
+use borrow.Author.Needs.{needs}
+use Rattle.old_generator.proofs.wait.Statement.{statement}
+use Rattle.old_generator.proofs.wait.Tie as tie
+
+phase-requires : tie.Need-phase-requires
+phase-requires c κs = search needs
+
+low20-requires : tie.Need-low20-requires
+low20-requires c κs = search needs
+
+oscillate-requires : tie.Need-oscillate-requires
+oscillate-requires c κs = search needs
+
+with-run-requires : tie.Need-with-run-requires
+with-run-requires c κs = search needs
+
+returns : tie.Need-returns
+unfolding oscillated
+returns c =
+    let turned = c .before .before in
+    let low = turned .before in
+    let b = low .before .before in
+    rw (old-turn-waits (b .args .unit) (b .args .f) (b .args .told) (b .pre .1 .0), c .before .if1 .taken, ← (low-is-j _ _ (low .before .phase .ensures) (low .low20 .ensures .0))) (c .with-run .ensures ∙ rw (turned .oscillate .ensures))
+
+returns-2 : tie.Need-returns-2
+unfolding oscillated
+returns-2 c =
+    let turned = c .before in
+    let low = turned .before in
+    let b = low .before .before in
+    rw (old-turn-waits (b .args .unit) (b .args .f) (b .args .told) (b .pre .1 .0), c .if1 .left, ← (low-is-j _ _ (low .before .phase .ensures) (low .low20 .ensures .0))) (turned .oscillate .ensures)
+
+pub wait-spec : {M : Type 1} → statement M
+wait-spec =
+    tie.close (tie.spec phase-requires low20-requires oscillate-requires with-run-requires returns returns-2)
