@@ -80,6 +80,38 @@ class Faults:
         self.timer_keeps_high_bits = False
         self.clear_keeps_high_bits = False
         self.prints_20_bits = False
+        # The older text: generators.
+        self.old_trigger_from_next = False
+        self.old_first_told = False
+        self.old_envelope_signs_of_1978 = False
+        self.old_square_sawtooth_exchanged = False
+        self.old_k_of_13_bits = False
+        self.old_cosine_low_bit_kept = False
+        self.old_sine_for_cosine = False
+        self.old_exponential_of_14_bits = False
+        self.old_sends_f = False
+        self.old_sends_gk = False
+        self.old_dac_by_go = False
+        self.old_writes_where_positive = False
+        self.old_runs_on_after_overflow = False
+        # The older text: modifiers.
+        self.old_scales_of_1978 = False
+        self.old_terms_of_1978 = False
+        self.old_pulser_zero_case = False
+        self.old_integer_product_quartered = False
+        self.old_latch_early = False
+        self.old_00111_delays = False
+        # The older text: questions, orders and files.
+        self.old_10001_built = False
+        self.old_10100_built = False
+        self.old_cosines_in_pause = False
+        self.old_places_for_all_111 = False
+        self.old_feeders_by_gfm = False
+        self.old_sides_by_next = False
+        self.old_update_after_pass = False
+        self.old_commands_taken = False
+        self.text_13_before_9 = False
+        self.unknown_text_rung = False
         # The order by pitch, and the order file.
         self.pitch_unsigned = False
         self.pitch_not_by_magnitude = False
