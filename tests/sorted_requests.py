@@ -7,7 +7,6 @@ that are no bench file or no order file stand between them.
 """
 
 import os
-import random
 from typing import NamedTuple
 
 # First, since it makes the reference known.
@@ -16,7 +15,7 @@ from library import ROOT
 from compare_requests import put_settings
 from leaf_requests import biased
 from part_requests import put_parting_settings
-from pass_requests import (BAD_ORDERS, DAMAGES, good_order, put_controls, put_modifiers, swapped,
+from pass_requests import (BAD_ORDERS, damages, good_order, put_controls, put_modifiers, swapped,
                            walked)
 from reference import layout
 from reference.cases.sortings import NOT_TAKEN
@@ -24,6 +23,7 @@ from reference.machine import fresh_machine, put_update_ticks, refusal
 from reference.ring import FILE_MOST, PASSES_MOST, bench_file, first_machine
 from reference.sorted import by_pitch, order_lines
 from reference.words import low
+from texts import Chance
 from ring_files import (DAMAGE, bench, delay_files, drawn_bench, drawn_commands, drawn_words, not_fitting,
                         numbers, ringing, sizes)
 
@@ -225,7 +225,7 @@ def bad_order(chance, machine, number):
 
 def damaged_machine(chance, machine):
     """A copy with a word beyond its width or range, or a mode that is not built, and what was done."""
-    name, place, keep, put = chance.choice(DAMAGES)
+    name, place, keep, put = chance.choice(damages(chance.text))
     other = list(machine)
     other[place] = other[place] & keep | put
     return other, name
@@ -402,7 +402,7 @@ def at_the_end():
 
 def all_inputs(count, seed):
     """Those by hand, then those of so many bells, then some of the bench files of tests/ring.py."""
-    chance = random.Random(seed)
+    chance = Chance(seed)
     yield from files()
     yield from order_files()
     yield from at_the_end()
