@@ -14,8 +14,8 @@ OLD_LINE, NEW_LINE = b"text=old\n", b"text=1978\n"
 
 # What files at random meet at least, in so many of them as tests/ringing.py says: how they end.
 PROMISED = {
-    "rung": 90, "no passes": 8, "refused=2": 8, "refused=7": 2, "refused=8": 2, "refused=9": 60,
-    "refused=13": 12, "a number above 20 bits": 30,
+    "rung": 90, "no passes": 8, "refused=2": 8, "refused=7": 1, "refused=8": 1, "refused=9": 60,
+    "refused=13": 6, "a number above 20 bits": 30,
 }
 
 # Generator 1 waits for nobody, generator 2 for generator 0; 0 strikes in pass 1. Lines of three.
