@@ -12,7 +12,8 @@ from reference.cases import (any_orders, benches, clipped, commands, comparisons
 from reference.faults import NAMES, switched_on
 
 MODULES = (examples, generators, modifiers, passes, clipped, questions, commands, comparisons,
-           any_orders, parts, delays, benches, sortings, old_turns, old_passes, old_orders, old_files)
+           any_orders, parts, delays, benches, sortings, old_turns, old_passes, old_orders,
+           old_files)
 GROUPS = [group for module in MODULES for group in module.GROUPS]
 # How long each group took.
 SECONDS = {}

@@ -528,13 +528,21 @@ def every_word(chance, pool):
             yield Request(PASS, machine, [0], [0], [0], memory, f"{EVERY} {place}", chance.text)
 
 
-def every_order(chance, pool, machines=8):
-    """All orders of up to four generators, on some machines each."""
+def put_struck(chance, machine, t):
+    """All generators below T trigger or wait, and every envelope that can overflows."""
+    for g in range(t):
+        at = layout.generator_at(g)
+        chance.text.put_mode(chance, machine, at, chance.choice(TRIGGERING))
+        machine[at + layout.GQ], machine[at + layout.GP] = (1 << 24) - 1, 1
+
+
+def every_order(chance, pool, machines=12):
+    """All orders of up to four generators, on some machines each: any, loud ones, struck ones."""
     for number in range(machines):
         for t in (1, 2, 3, 4):
             machine = machine_for(chance, pool, t)
-            if number % 2:
-                put_loud(chance, machine, t)
+            if number % 3:
+                (put_loud if number % 3 == 1 else put_struck)(chance, machine, t)
             request = good_request(chance, machine, drawn_memory(chance), f"all orders of {t}")
             for order in permutations(range(t)):
                 yield request._replace(order=list(order))

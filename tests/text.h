@@ -1,5 +1,5 @@
-/* The text that a program of the tests is built for: with OLD_TEXT the older one, else that of 1978. Its calls, and what
- * its machines' settings are.
+/* The text that a program of the tests is built for: with OLD_TEXT the older one, else that of 1978. Its calls, and
+ * what its machines' settings are.
  */
 #ifndef TEXT_H
 #define TEXT_H

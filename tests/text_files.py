@@ -1,13 +1,12 @@
 """Bench files with a text= line, most of them of the older text, for tests/ring.py, wav.py and sorted.py."""
 
 # First, since it makes the reference known.
-import library  # noqa: F401
+from ring_files import (DAMAGE, NUMBERS, bench, drawn_bench, drawn_commands, drawn_machine,
+                        examples, file, known)
 
 from reference import layout
 from reference.cases.old_files import NOT_FITTING, OTHER_TEXTS, TONE, TONE_1978
 from reference.ring import FILE_MOST
-from ring_files import (DAMAGE, NUMBERS, bench, drawn_bench, drawn_commands, drawn_machine,
-                        examples, file, known)
 from texts import OLD_TEXT, Chance
 
 OLD_LINE, NEW_LINE = b"text=old\n", b"text=1978\n"

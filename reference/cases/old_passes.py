@@ -52,7 +52,8 @@ def sums():
     yield "five wrap", number(done.machine[3904]), -655200 + 1048576
     yield "marked", (done.clipped[0], sum(done.clipped)), (1, 1)
     reader = generator("110 00 001", GL=1, GSUM=3)
-    yield "P and item", after(machine([reader], words={3843: 9}), items=[0xFFF00005]).machine[3907], 21
+    made = machine([reader], words={3843: 9})
+    yield "P and item", after(made, items=[0xFFF00005]).machine[3907], 21
     quiet = machine(words={3840: 1, 3904: 2, 4031: 3, 4095: 4})
     left = after(quiet).machine
     yield "closed", places_changed(quiet, left), {3840: 0, 3904: 1, 4031: 0, 4095: 3, 4115: 1}
@@ -72,8 +73,8 @@ def sending():
     yield "and nothing else", places_changed(writes, done.machine), {3909: 0, 4115: 1}
     three = machine([generator("111 00 001", GK=g, GN=1024) for g in (4, 5, 6)], words={4113: 3})
     yield "in order", after(three, [2, 0, 1], places=[0] * 3).places, [6, 4, 5]
-    yield "the last feeds", after(machine([generator("111 00 001", GK=g, GN=16 * g) for g in (4, 5)],
-                                          words={4113: 2}), [1, 0]).machine[4096], 4
+    two = machine([generator("111 00 001", GK=g, GN=16 * g) for g in (4, 5)], words={4113: 2})
+    yield "the last feeds", after(two, [1, 0]).machine[4096], 4
 
 
 def timing():
