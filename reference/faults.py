@@ -112,6 +112,18 @@ class Faults:
         self.old_commands_taken = False
         self.text_13_before_9 = False
         self.unknown_text_rung = False
+        # Numbers for a chain of modifiers.
+        self.chain_early_by_3 = False
+        self.chain_late_by_4 = False
+        self.chain_before_not_waited = False
+        self.chain_equal_numbers = False
+        self.chain_names_itself = False
+        self.chain_names_outside = False
+        self.chain_128_let_through = False
+        self.chain_15_before_14 = False
+        self.chain_written_in_refusal = False
+        self.chain_names_of_before = False
+        self.chain_names_left_over = False
         # The order by pitch, and the order file.
         self.pitch_unsigned = False
         self.pitch_not_by_magnitude = False
