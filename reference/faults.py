@@ -124,6 +124,27 @@ class Faults:
         self.chain_written_in_refusal = False
         self.chain_names_of_before = False
         self.chain_names_left_over = False
+        # Two bells in one ring.
+        self.join_wait_let_through = False
+        self.join_1101_let_through = False
+        self.join_asked_of_first = False
+        self.join_this_not_brought = False
+        self.join_last_not_brought = False
+        self.join_quadrants_exchanged = False
+        self.join_dacs_not_brought = False
+        self.join_all_dacs_brought = False
+        self.join_t_of_first = False
+        self.join_ticks_of_first_t = False
+        self.join_ticks_by_second_n = False
+        self.join_17_of_first_alone = False
+        self.join_gfm_not_used = False
+        self.join_idle_not_counted = False
+        self.join_above_t_counted = False
+        self.join_257_let_through = False
+        self.join_17_before_16 = False
+        self.join_18_before_17 = False
+        self.join_modifiers_below_half = False
+        self.join_one_too_high = False
         # The order by pitch, and the order file.
         self.pitch_unsigned = False
         self.pitch_not_by_magnitude = False

@@ -7,13 +7,13 @@ import sys
 from time import process_time
 
 from reference.cases import (any_orders, benches, chains, clipped, commands, comparisons, delays,
-                             examples, generators, modifiers, old_files, old_orders, old_passes,
+                             examples, generators, joins, modifiers, old_files, old_orders, old_passes,
                              old_turns, parts, passes, questions, sortings)
 from reference.faults import NAMES, switched_on
 
 MODULES = (examples, generators, modifiers, passes, clipped, questions, commands, comparisons,
            any_orders, parts, delays, benches, sortings, old_turns, old_passes, old_orders,
-           old_files, chains)
+           old_files, chains, joins)
 GROUPS = [group for module in MODULES for group in module.GROUPS]
 # How long each group took.
 SECONDS = {}
@@ -74,7 +74,7 @@ def report_faults():
 def main():
     """Runs everything; gives the exit status."""
     total, bad = report(GROUPS + list(comparisons.TRIALS + any_orders.TRIALS + parts.TRIALS
-                                      + old_orders.TRIALS + chains.TRIALS))
+                                      + old_orders.TRIALS + chains.TRIALS + joins.TRIALS))
     faults, missed = report_faults()
     print(f"reference: {total + faults} checks, {bad + missed} failed")
     return 1 if bad or missed else 0
