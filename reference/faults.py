@@ -145,6 +145,13 @@ class Faults:
         self.join_18_before_17 = False
         self.join_modifiers_below_half = False
         self.join_one_too_high = False
+        # Partials that come and go.
+        self.change_leaves_ticks = False
+        self.change_of_any_kind = False
+        self.change_of_generator_256 = False
+        self.change_loses_go = False
+        self.change_to_dac_16 = False
+        self.change_kept_in_refusal = False
         # The order by pitch, and the order file.
         self.pitch_unsigned = False
         self.pitch_not_by_magnitude = False

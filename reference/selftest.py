@@ -7,13 +7,13 @@ import sys
 from time import process_time
 
 from reference.cases import (any_orders, benches, chains, clipped, commands, comparisons, delays,
-                             examples, generators, joins, modifiers, old_files, old_orders, old_passes,
-                             old_turns, parts, passes, questions, sortings)
+                             examples, generators, joins, keeps, modifiers, old_files, old_orders,
+                             old_passes, old_turns, parts, passes, questions, sortings)
 from reference.faults import NAMES, switched_on
 
 MODULES = (examples, generators, modifiers, passes, clipped, questions, commands, comparisons,
            any_orders, parts, delays, benches, sortings, old_turns, old_passes, old_orders,
-           old_files, chains, joins)
+           old_files, chains, joins, keeps)
 GROUPS = [group for module in MODULES for group in module.GROUPS]
 # How long each group took.
 SECONDS = {}

@@ -528,6 +528,20 @@ def every_word(chance, pool):
             yield Request(PASS, machine, [0], [0], [0], memory, f"{EVERY} {place}", chance.text)
 
 
+def every_mode(chance, pool):
+    """A pass with each GMODE of its width and each function that is not built."""
+    memory, reference = Memory(layout.MEMORY_WORDS, 0, {}), chance.text.reference
+    width = reference.generator_widths[layout.GMODE]
+    bad = [(layout.generator_at(gmode % 256) + layout.GMODE, gmode) for gmode in range(1 << width)
+           if not reference.gmode_built(gmode)]
+    bad += [(layout.modifier_at(code % 4) + layout.MMODE, code << 4 | code % 16) for code in range(32)
+            if not reference.function_built(code << 4)]
+    for number, (place, value) in enumerate(bad):
+        machine = list(pool[number % len(pool)])
+        machine[place] = value
+        yield Request(PASS, machine, [0], [0], [0], memory, f"mode {value} at {place}", chance.text)
+
+
 def put_struck(chance, machine, t):
     """All generators below T trigger or wait, and every envelope that can overflows."""
     for g in range(t):
@@ -553,7 +567,7 @@ EVERY = "damaged word"
 
 def swept_requests(chance, pool):
     """What the older text's requests begin with."""
-    for request in chain(every_word(chance, pool), every_order(chance, pool)):
+    for request in chain(every_word(chance, pool), every_mode(chance, pool), every_order(chance, pool)):
         yield request, answered(request)
 
 
