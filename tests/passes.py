@@ -49,7 +49,7 @@ PROMISED_OLD = {
     "triggered from two below": 300, "101 that stopped": 1000, "DACs fed": 5000,
     "items written": 5000, "items read": 5000,
     **{f"refused by {number}": least for number, least in
-       ((1, 250), (2, 4800), (5, 100), (6, 100), (7, 100), (8, 80), (10, 500))},
+       ((1, 250), (2, 4800), (5, 100), (6, 100), (7, 100), (8, 60), (10, 500))},
     "refused by 2 for a delay unit": 80, "refused by 2 for the count": 100,
     "done, though 1978 would ask 11": 300, "done, though 1978 would ask 12": 600,
 }
