@@ -43,7 +43,8 @@ def entry_of(entries, names, i):
     if faults.chain_names_itself:
         most = i + 1
     if faults.chain_names_outside and i:
-        named = [min(name, i - 1) if name >= len(entries) // ENTRY_WORDS else name for name in named]
+        size = len(entries) // ENTRY_WORDS
+        named = [name if name < size else 0 for name in named]
     return Entry(early == 1, named) if all(name < most for name in named) else None
 
 

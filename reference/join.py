@@ -52,7 +52,7 @@ def has_active_modifier(machine):
 
 
 def stands_alone(machine):
-    """Whether a bell has no reader, writer or modifier-quadrant GFM below T, and no active modifier."""
+    """Whether it has no reader, writer or modifier-quadrant GFM below T, nor an active modifier."""
     generators = [generator_words(machine, g) for g in range(machine[layout.T])]
     return not has_active_modifier(machine) and not any(
         OF_1978.reads(words) or OF_1978.writes(words) or words[layout.GFM] >= layout.QUADRANT_WORDS

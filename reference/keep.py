@@ -41,8 +41,8 @@ def put_change(machine, kind, generator, value):
     if kind in REGISTERS:
         machine[at + REGISTERS[kind]] = value
         return True
-    go = machine[at + layout.GO]
-    machine[at + layout.GO] = value if faults.change_loses_go else go // layout.DACS * layout.DACS + value
+    others = 0 if faults.change_loses_go else machine[at + layout.GO] // layout.DACS * layout.DACS
+    machine[at + layout.GO] = others + value
     return value < layout.DACS + faults.change_to_dac_16
 
 

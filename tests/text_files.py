@@ -1,6 +1,12 @@
 """Bench files with a text= line, most of them of the older text, for tests/ring.py, wav.py and sorted.py."""
 
+import os
+import subprocess
+import sys
+
 # First, since it makes the reference known.
+from library import ROOT
+
 from ring_files import (DAMAGE, NUMBERS, bench, drawn_bench, drawn_commands, drawn_machine,
                         examples, file, known)
 
@@ -36,6 +42,9 @@ def shown():
     yield known("shown, by 1978", NEW_LINE + b"passes=2\n" + TONE_1978,
                 b"pass=1 left=0 right=0\npass=2 left=131040 right=0\n")
     for name, text in examples(OLD_TEXT).items():
+        script = os.path.join(ROOT, "examples", name.replace(".txt", ".py"))
+        written = subprocess.run([sys.executable, script], stdout=subprocess.PIPE, check=True).stdout
+        assert written == text, f"{name} is not what its script writes"
         made = file("examples/" + name, text, delays=False)
         lines = made.printed.count(b"\n")
         assert made.printed.count(b"left=0 ") < lines // 4, f"{name} is silent"

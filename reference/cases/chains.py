@@ -1,4 +1,4 @@
-"""Numbers for chains of modifiers: by hand, and all chains of up to four entries by every numbering."""
+"""Numbers for chains of modifiers: by hand, and all small chains by every numbering."""
 
 from itertools import combinations, product
 

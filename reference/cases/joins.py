@@ -33,8 +33,8 @@ def joined():
     answer = join(one, two)
     yield "number", answer.number, 0
     # T 4, 265-4-8 ticks; GL, GSUM, GFM and GMODE of generator 2, and generator 3's GO, GSUM, GFM.
-    changes = {22 + 7: 7, 22 + 8: 2, 22 + 9: 2, 22 + 10: 978, 33: 4, 33 + 8: 5, 33 + 9: 5, 33 + 10: 128,
-               3842: 22, 3906: 23, 3909: 24, 4100: 26, 4113: 4, 4343: 253}
+    changes = {22 + 7: 7, 22 + 8: 2, 22 + 9: 2, 22 + 10: 978, 33: 4, 33 + 8: 5, 33 + 9: 5,
+               33 + 10: 128, 3842: 22, 3906: 23, 3909: 24, 4100: 26, 4113: 4, 4343: 253}
     yield "words", places_changed(one, answer.machine), changes
     # What the first held from its T on is written over, as far as the second goes.
     above = bell([partial(1)], {11 * 1 + 2: 5, 11 * 2 + 2: 6})
@@ -50,10 +50,12 @@ def questions():
     full = bell([partial(1)] * 255)
     waits, stops = (bell([partial(2, mode + " 01 0010")]) for mode in ("1001", "1101"))
     reads, writes = (bell([partial(2), partial(2, mode + " 01 0010")]) for mode in ("0111", "0011"))
-    active = bell([partial(2)], modifiers=[modifier("00000 11 11")] * 127 + [modifier("10100 00 00")])
+    last = [modifier("00000 11 11")] * 127 + [modifier("10100 00 00")]
+    active = bell([partial(2)], modifiers=last)
     fed = bell([feeder(3, 1)])
     for name, first, second, number in (
-            ("good", one, two, 0), ("1 of the first", one[1:], wide, 1), ("2 of the first", wide, one[1:], 2),
+            ("good", one, two, 0),
+            ("1 of the first", one[1:], wide, 1), ("2 of the first", wide, one[1:], 2),
             ("1 of the second", one, two[1:], 1), ("2 of the second", one, wide, 2),
             ("256", full, two, 0), ("257", full, bell([partial(2)] * 2), 16),
             ("16 before 17", full, bell([partial(2, "0111 00 0000")] * 2), 16),
@@ -61,8 +63,10 @@ def questions():
             ("1101 of the second", one, stops, 17), ("1101 of the first", stops, one, 0),
             ("reader", one, reads, 17), ("reader in the first", reads, one, 17),
             ("writer", one, writes, 17), ("modifier quadrant", one, bell([partial(2, gfm=66)]), 17),
-            ("active modifier", one, active, 17), ("17 before 18", one, bell([partial(1, "0111 00 0000")]), 17),
-            ("one word", one, bell([partial(1)]), 18), ("GFM on a word", one, bell([partial(2, gfm=1)]), 18),
+            ("active modifier", one, active, 17),
+            ("17 before 18", one, bell([partial(1, "0111 00 0000")]), 17),
+            ("one word", one, bell([partial(1)]), 18),
+            ("GFM on a word", one, bell([partial(2, gfm=1)]), 18),
             ("idle on a word", one, bell([partial(1, "0000 00 0000")]), 18),
             ("one DAC", fed, bell([feeder(3, 2)]), 18), ("two DACs", fed, bell([feeder(4, 2)]), 0),
             ("fresh twice", machine(), machine(), 18),
@@ -80,9 +84,10 @@ def drawn_bell(chance, words, dacs, following):
     for g in range(chance.randint(1, 6)):
         mode = chance.choice(modes[:2] if following and not g else modes)
         generators.append(generator(
-            f"{mode} {chance.randrange(4):02b} 0010", GO=chance.choice(dacs), GJ=chance.getrandbits(28),
-            GK=chance.getrandbits(20), GP=chance.choice((1, 524287)), GQ=chance.choice((0, 16777215)),
-            GL=chance.getrandbits(12), GSUM=chance.choice(words), GFM=chance.choice(words)))
+            f"{mode} {chance.randrange(4):02b} 0010", GO=chance.choice(dacs),
+            GJ=chance.getrandbits(28), GK=chance.getrandbits(20), GP=chance.choice((1, 524287)),
+            GQ=chance.choice((0, 16777215)), GL=chance.getrandbits(12),
+            GSUM=chance.choice(words), GFM=chance.choice(words)))
     sums = {quadrant + word: chance.getrandbits(20) for quadrant in (3840, 3904) for word in words}
     return bell(generators, {**sums, **{4096 + dac: chance.getrandbits(20) for dac in dacs}})
 

@@ -25,7 +25,8 @@ def changes():
     yield "GSUM 64", after(pair, (GSUM, 0, 64)), ({}, 2, False)
     yield "GFM", after(pair, (GFM, 1, 127)), ({20: 127}, 0, False)
     yield "GFM 128", after(pair, (GFM, 1, 128)), ({}, 2, False)
-    feeds = machine([generator("0010 00 0000", GO=0x12345, GFM=gfm) for gfm in (1, 2)], words={4113: 2})
+    feeders = [generator("0010 00 0000", GO=0x12345, GFM=gfm) for gfm in (1, 2)]
+    feeds = machine(feeders, words={4113: 2})
     yield "two feeders", keep(feeds), (0, False)
     yield "DAC", after(feeds, (DAC, 1, 6)), ({11: 0x12346}, 0, True)
     yield "DAC 16", after(feeds, (DAC, 1, 16)), ({}, 2, False)
