@@ -80,6 +80,78 @@ class Faults:
         self.timer_keeps_high_bits = False
         self.clear_keeps_high_bits = False
         self.prints_20_bits = False
+        # The older text: generators.
+        self.old_trigger_from_next = False
+        self.old_first_told = False
+        self.old_envelope_signs_of_1978 = False
+        self.old_square_sawtooth_exchanged = False
+        self.old_k_of_13_bits = False
+        self.old_cosine_low_bit_kept = False
+        self.old_sine_for_cosine = False
+        self.old_exponential_of_14_bits = False
+        self.old_sends_f = False
+        self.old_sends_gk = False
+        self.old_dac_by_go = False
+        self.old_writes_where_positive = False
+        self.old_runs_on_after_overflow = False
+        # The older text: modifiers.
+        self.old_scales_of_1978 = False
+        self.old_terms_of_1978 = False
+        self.old_pulser_zero_case = False
+        self.old_integer_product_quartered = False
+        self.old_latch_early = False
+        self.old_00111_delays = False
+        # The older text: questions, orders and files.
+        self.old_10001_built = False
+        self.old_10100_built = False
+        self.old_cosines_in_pause = False
+        self.old_places_for_all_111 = False
+        self.old_feeders_by_gfm = False
+        self.old_sides_by_next = False
+        self.old_update_after_pass = False
+        self.old_commands_taken = False
+        self.text_13_before_9 = False
+        self.unknown_text_rung = False
+        # Numbers for a chain of modifiers.
+        self.chain_early_by_3 = False
+        self.chain_late_by_4 = False
+        self.chain_before_not_waited = False
+        self.chain_equal_numbers = False
+        self.chain_names_itself = False
+        self.chain_names_outside = False
+        self.chain_128_let_through = False
+        self.chain_15_before_14 = False
+        self.chain_written_in_refusal = False
+        self.chain_names_of_before = False
+        self.chain_names_left_over = False
+        # Two bells in one ring.
+        self.join_wait_let_through = False
+        self.join_1101_let_through = False
+        self.join_asked_of_first = False
+        self.join_this_not_brought = False
+        self.join_last_not_brought = False
+        self.join_quadrants_exchanged = False
+        self.join_dacs_not_brought = False
+        self.join_all_dacs_brought = False
+        self.join_t_of_first = False
+        self.join_ticks_of_first_t = False
+        self.join_ticks_by_second_n = False
+        self.join_17_of_first_alone = False
+        self.join_gfm_not_used = False
+        self.join_idle_not_counted = False
+        self.join_above_t_counted = False
+        self.join_257_let_through = False
+        self.join_17_before_16 = False
+        self.join_18_before_17 = False
+        self.join_modifiers_below_half = False
+        self.join_one_too_high = False
+        # Partials that come and go.
+        self.change_leaves_ticks = False
+        self.change_of_any_kind = False
+        self.change_of_generator_256 = False
+        self.change_loses_go = False
+        self.change_to_dac_16 = False
+        self.change_kept_in_refusal = False
         # The order by pitch, and the order file.
         self.pitch_unsigned = False
         self.pitch_not_by_magnitude = False

@@ -1,4 +1,10 @@
-"""One generator's turn, by the nine steps of document 01 with requests Q-4 and Q-5 of 02."""
+"""One generator's turn, by the nine steps of document 01 with requests Q-4 and Q-5 of 02.
+
+What the older text has in common with it stands here too: turn_by takes the steps that a text has
+for itself.
+"""
+
+from typing import Callable, NamedTuple
 
 from reference import layout
 from reference.faults import faults
@@ -115,31 +121,65 @@ def next_mode(mode, triggers, told):
     return mode
 
 
-def generator_turn(words, f, told):
-    """A generator's eleven words after its turn, P as a 20-bit word, and whether it triggers.
+class Steps(NamedTuple):
+    """What a text has for itself in a generator's turn, each by the GMODE."""
 
-    f is the word at GFM; told says that the lower neighbour was taken earlier in
+    # What is on, by GMODE and told.
+    switches: Callable
+    # Whether E is J.
+    takes_j: Callable
+    # W, by GMODE, E, GN, GM and whether a sum of step 1 or 4 left its range.
+    wave: Callable
+    # V, by GMODE, GL and GQ.
+    envelope: Callable
+    # The GMODE for the next pass, by GMODE, whether it triggers, and told.
+    next_gmode: Callable
+
+
+def turn_by(steps, words, f, told):
+    """A generator's eleven words after its turn, P as a 20-bit word, whether it triggers, and E.
+
+    f is the word at GFM; told says that the neighbour below was taken earlier in
     this pass and triggered. P is what steps 6 to 9 give, whatever the run mode.
     """
     go, gj, gk, gn, gm, gp, gq, gl, gsum, gfm, gmode = words
-    mode = acting_mode(gmode, told)
-    switches = layout.RUN_MODES[mode]
-    oscillator = layout.oscillator_mode(gmode)
+    switches = steps.switches(gmode, told)
 
     gj_after = sweep(gj, go) if switches.oscillator else gj
     j, left_range = modulated(gj_after if faults.swept_gj_read else gj, f)
-    e = j if oscillator == layout.SINE_OF_J else gk
-    k = signed(e >> 7, 13)
+    e = j if steps.takes_j(gmode) else gk
     gk_after = gk
     if switches.oscillator:
         gk_after, left_again = turned(gk, j)
         left_range = left_range or left_again
-    w = wave(oscillator, k, gn, gm, left_range)
+    w = steps.wave(gmode, e, gn, gm, left_range)
 
     gq_after, overflow = decay(gq, gp, switches.free) if switches.envelope else (gq, False)
     triggers = switches.free and overflow
-    p = output(w, envelope(layout.envelope_mode(gmode), gl, gq))
+    p = output(w, steps.envelope(gmode, gl, gq))
 
-    gmode_after = layout.with_run_mode(gmode, next_mode(mode, triggers, told))
+    gmode_after = steps.next_gmode(gmode, triggers, told)
     after = [go, gj_after, gk_after, gn, gm, gp, gq_after, gl, gsum, gfm, gmode_after]
-    return after, low(p, 20), triggers
+    return after, low(p, 20), triggers, e
+
+
+# The steps of 1978
+
+def next_gmode(gmode, triggers, told):
+    """The GMODE for the next pass."""
+    return layout.with_run_mode(gmode, next_mode(acting_mode(gmode, told), triggers, told))
+
+
+STEPS = Steps(
+    switches=lambda gmode, told: layout.RUN_MODES[acting_mode(gmode, told)],
+    takes_j=lambda gmode: layout.oscillator_mode(gmode) == layout.SINE_OF_J,
+    wave=lambda gmode, e, gn, gm, left_range: wave(
+        layout.oscillator_mode(gmode), signed(e >> 7, 13), gn, gm, left_range),
+    envelope=lambda gmode, gl, gq: envelope(layout.envelope_mode(gmode), gl, gq),
+    next_gmode=next_gmode,
+)
+
+
+def generator_turn(words, f, told):
+    """A generator's eleven words after its turn, P as a 20-bit word, and whether it triggers."""
+    return turn_by(STEPS, words, f, told)[:3]

@@ -180,9 +180,29 @@ def with_run_mode(gmode, mode):
     return mode << 6 | gmode & 0b111111
 
 
+def run_mode_built(gmode):
+    """Whether the run mode of a GMODE is built."""
+    return run_mode(gmode) in RUN_MODES
+
+
+def oscillator_mode_built(gmode):
+    """Whether the oscillator mode of a GMODE is built."""
+    return oscillator_mode(gmode) in OSCILLATOR_MODES
+
+
 def function(mmode):
     """The function of an MMODE."""
     return mmode >> 4
+
+
+def left_scale(mmode):
+    """AA, the left scale of an MMODE."""
+    return mmode >> 2 & 0b11
+
+
+def right_scale(mmode):
+    """BB, the right scale of an MMODE."""
+    return mmode & 0b11
 
 
 def source_quadrant(address):

@@ -1,21 +1,24 @@
 """The machine: a fresh one, its questions, and a pass.
 
 The turns, delay units, sum words, products and tables have files of their own; the turns,
-products and tables are offered here too.
+products and tables are offered here too. What a text says for itself is asked of it: of the text
+of 1978 where none is named.
 """
 
+from functools import lru_cache
 from operator import le
 from typing import NamedTuple
 
 from reference import layout
-from reference.delay import (delay_mode_built, memory_refusal, take_word, units_refusal,
-                             word_given)
+from reference.delay import delay_mode_built, memory_refusal, take_word, word_given
 from reference.faults import faults
-from reference.generator import acting_mode, generator_turn
-from reference.modifier import (FORMULAS, delay_turn, integer_product, modifier_turn,
+from reference.generator import generator_turn
+from reference.layout import oscillator_mode_built, run_mode_built
+from reference.modifier import (delay_turn, function_built, integer_product, modifier_turn,
                                 product)
 from reference.sums import add_to, all_marks, mark, no_marks, replace_by
 from reference.tables import exponential, sine
+from reference.text import OF_1978
 from reference.words import low
 
 __all__ = [
@@ -67,31 +70,17 @@ def fresh(run):
 
 # Questions 1 and 2
 
-def run_mode_built(gmode):
-    """Whether the run mode of a GMODE is built."""
-    return layout.run_mode(gmode) in layout.RUN_MODES
-
-
-def oscillator_mode_built(gmode):
-    """Whether the oscillator mode of a GMODE is built."""
-    return layout.oscillator_mode(gmode) in layout.OSCILLATOR_MODES
-
-
-def function_built(mmode):
-    """Whether the function of an MMODE is built."""
-    return layout.function(mmode) in FORMULAS
-
-
 def source_built(address):
     """Whether a MIN or MRM has top bits other than 11."""
     return layout.source_quadrant(address) in layout.MODIFIER_SOURCES
 
 
-def word_ranges():
+@lru_cache(maxsize=None)
+def word_ranges(text=OF_1978):
     """The least and the greatest value of every word, in sequence."""
     def wide(width):
         return 0, (1 << width) - 1
-    ranges = [wide(w) for w in layout.GENERATOR_WIDTHS] * layout.GENERATORS
+    ranges = [wide(w) for w in text.generator_widths] * layout.GENERATORS
     ranges += [wide(w) for w in layout.MODIFIER_WIDTHS] * layout.MODIFIERS
     ranges += [wide(layout.SUM_WIDTH)] * (4 * layout.QUADRANT_WORDS)
     ranges += [wide(20)] * layout.DACS
@@ -103,8 +92,13 @@ def word_ranges():
     return ranges
 
 
+@lru_cache(maxsize=None)
+def bounds(text):
+    """The least values of all words, and the greatest."""
+    return tuple(zip(*word_ranges(text)))
+
+
 RANGES = word_ranges()
-LEAST, MOST = zip(*RANGES)
 
 
 def column(run, at, step, count):
@@ -128,13 +122,13 @@ def delay_unit_column(run, register):
                   layout.DELAY_UNITS)
 
 
-def modes_built(run):
+def modes_built(run, text):
     """Whether all modes are built and no MIN or MRM has top bits 11."""
     gmodes = set(generator_column(run, layout.GMODE))
     mmodes = set(modifier_column(run, layout.MMODE))
     sources = set(modifier_column(run, layout.MIN)) | set(modifier_column(run, layout.MRM))
-    return (all(map(run_mode_built, gmodes)) and all(map(oscillator_mode_built, gmodes))
-            and all(map(function_built, mmodes)) and all(map(source_built, sources))
+    return (all(map(text.gmode_built, gmodes)) and all(map(text.function_built, mmodes))
+            and all(map(source_built, sources))
             and all(map(delay_mode_built, set(delay_unit_column(run, layout.P)))))
 
 
@@ -144,14 +138,15 @@ def count_agrees(run):
             or run[layout.UPDATE_TICKS] == update_ticks(run[layout.T], run[layout.N]))
 
 
-def refusal(run):
+def refusal(run, text=OF_1978):
     """Questions 1 and 2 of a run of words: 0, 1 or 2."""
     if len(run) != layout.MACHINE_WORDS:
         return 1
-    in_range = all(map(le, LEAST, run)) and all(map(le, run, MOST))
+    least, most = bounds(text)
+    in_range = all(map(le, least, run)) and all(map(le, run, most))
     if faults.counter_asked_by_20_bits and run[layout.COUNTER] >> 20:
         return 2
-    return 0 if in_range and modes_built(run) and count_agrees(run) else 2
+    return 0 if in_range and modes_built(run, text) and count_agrees(run) else 2
 
 
 # Questions 5 to 8, and those of a pass
@@ -170,16 +165,27 @@ def below_t_in(machine, mode):
     return sum(layout.run_mode(gmode) == mode for gmode in gmodes)
 
 
-def pass_refusal(machine, order, items, places, memory):
+def generator_words(machine, g):
+    """The eleven words of generator g."""
+    at = layout.generator_at(g)
+    return machine[at:at + layout.GENERATOR_WORDS]
+
+
+def below_t(machine, holds):
+    """How many generators below T have what is asked of their words."""
+    return sum(holds(generator_words(machine, g)) for g in range(machine[layout.T]))
+
+
+def pass_refusal(machine, order, items, places, memory, text=OF_1978):
     """The first question that a pass fails, or 0."""
-    number = refusal(machine) or order_refusal(machine, order)
+    number = refusal(machine, text) or order_refusal(machine, order)
     if number:
         return number
-    if len(items) < below_t_in(machine, layout.READ_DATA):
+    if len(items) < below_t(machine, text.reads):
         return 7
-    if len(places) < below_t_in(machine, layout.WRITE_DATA):
+    if len(places) < below_t(machine, text.needs_place):
         return 8
-    return memory_refusal(memory) or units_refusal(machine)
+    return memory_refusal(memory) or text.units_refusal(machine)
 
 
 # The pass
@@ -197,32 +203,32 @@ class Passed(NamedTuple):
     memory: list
 
 
-def take_generator(machine, g, told, items, written, clipped):
+def take_generator(machine, g, told, items, written, clipped, text):
     """One generator's turn in place; items is what is left to read. Gives whether it triggers."""
-    at = layout.generator_at(g)
-    words = machine[at:at + layout.GENERATOR_WORDS]
+    words, at = generator_words(machine, g), layout.generator_at(g)
     f = machine[layout.modulation_place(words[layout.GFM])]
-    mode = acting_mode(words[layout.GMODE], told)
-    after, p, triggers = generator_turn(words, f, told)
+    after, p, triggers, sent = text.generator_turn(words, f, told)
     machine[at:at + layout.GENERATOR_WORDS] = after
-    if mode == layout.WRITE_DATA:
-        written.append(f)
-    if mode == layout.WRITE_DAC:
-        machine[layout.DACS_AT + words[layout.GO] % layout.DACS] = f
+    words = text.acting(words, told)
+    if text.writes(words):
+        written.append(sent)
+    if (dac := text.dac_fed(words)) is not None:
+        machine[layout.DACS_AT + dac] = sent
     word = words[layout.GSUM]
     place = layout.GENERATOR_THIS + word
-    if layout.RUN_MODES[mode].adding:
+    if text.adds(words):
         mark(clipped, word, add_to(machine, place, p), replaced=False)
-    if mode == layout.READ_DATA:
+    if text.reads(words):
         mark(clipped, word, replace_by(machine, place, p, items.pop(0)), replaced=True)
     return triggers
 
 
-def take_generators(machine, order, items):
+def take_generators(machine, order, items, text):
     """All generators in their order, in place; gives the count read, the items written, marks."""
     left, written, triggered, clipped = list(items), [], set(), no_marks()
     for g in order:
-        if take_generator(machine, g, g - 1 in triggered, left, written, clipped):
+        told = text.neighbour(g) in triggered
+        if take_generator(machine, g, told, left, written, clipped, text):
             triggered.add(g)
     return len(items) - len(left), written, clipped
 
@@ -234,22 +240,20 @@ def word_read(machine, address, view):
     return view[place] if quadrant == layout.MODIFIER_THIS else machine[quadrant + place]
 
 
-def take_modifier(machine, m, early, late, memory):
+def take_modifier(machine, m, early, late, memory, text):
     """One modifier's turn in place, with its early and late view of modifier-this."""
     at = layout.modifier_at(m)
     words = machine[at:at + layout.MODIFIER_WORDS]
-    function = layout.function(words[layout.MMODE])
-    a_late = function in layout.LATE_A
-    if faults.delay_a_early and function == layout.INVOKE_DELAY_UNIT:
-        a_late = False
+    mmode = words[layout.MMODE]
+    a_late = text.late_a(mmode) and not (faults.delay_a_early and text.invokes(mmode))
     a = word_read(machine, words[layout.MIN], late if a_late else early)
-    if function == layout.INVOKE_DELAY_UNIT:
+    if text.invokes(mmode):
         # MRM names a delay unit; there is no B.
         unit = layout.delay_unit(words[layout.MRM])
         after, s, sent = delay_turn(words, a, 0, word_given(machine, unit))
         take_word(machine, memory, unit, sent)
     else:
-        after, s = modifier_turn(words, a, word_read(machine, words[layout.MRM], early))
+        after, s = text.modifier_turn(words, a, word_read(machine, words[layout.MRM], early))
     machine[at:at + layout.MODIFIER_WORDS] = after
     place = layout.MODIFIER_THIS + layout.sum_address(words[layout.MSUM])
     if layout.replaces(words[layout.MSUM]):
@@ -258,7 +262,7 @@ def take_modifier(machine, m, early, late, memory):
         add_to(machine, place, s)
 
 
-def take_modifiers(machine, memory):
+def take_modifiers(machine, memory, text):
     """Modifiers 0..(T div 2)-1 by number with their delay units, in place."""
     views = []
     for m in range(machine[layout.T] // 2):
@@ -267,7 +271,7 @@ def take_modifiers(machine, memory):
         early = views[max(m - layout.EARLY_DISTANCE + 1, 0)]
         if faults.early_read_sees_previous:
             early = views[m]
-        take_modifier(machine, m, early, views[m], memory)
+        take_modifier(machine, m, early, views[m], memory, text)
 
 
 def next_number(counter):
@@ -287,15 +291,15 @@ def close(machine):
     machine[layout.COUNTER] = next_number(machine[layout.COUNTER])
 
 
-def run_pass(machine, order, items, places, memory):
+def run_pass(machine, order, items, places, memory, text=OF_1978):
     """A pass over a delay memory; what it was handed stays as it is."""
-    number = pass_refusal(machine, order, items, places, memory)
+    number = pass_refusal(machine, order, items, places, memory, text)
     if number:
         marks = all_marks() if faults.marks_in_refusal else no_marks()
         return Passed(number, 0, 0, marks, list(machine), list(places), list(memory))
     after, memory_after = list(machine), list(memory)
-    read, written, clipped = take_generators(after, order, items)
-    take_modifiers(after, memory_after)
+    read, written, clipped = take_generators(after, order, items, text)
+    take_modifiers(after, memory_after, text)
     close(after)
     places_after = written + list(places)[len(written):]
     return Passed(0, read, len(written), clipped, after, places_after, memory_after)

@@ -25,38 +25,41 @@ def half_shifted(b):
 
 
 def scales(mmode):
-    """AA, of the second multiplication, and BB, of the first."""
-    aa, bb = mmode >> 2 & 0b11, mmode & 0b11
+    """The scales of the second multiplication, AA, and of the first, BB."""
+    aa, bb = layout.left_scale(mmode), layout.right_scale(mmode)
     return (bb, aa) if faults.scales_exchanged else (aa, bb)
 
 
 class Turn:
     """A modifier's registers during its turn, with A, B and DM as 20-bit words."""
 
+    scales = staticmethod(scales)
+    integer_product = staticmethod(integer_product)
+
     def __init__(self, words, a, b, dm):
         self.m0, self.m1, self.l0, self.l1 = words[:4]
         self.a, self.b, self.dm = a, b, dm
-        self.aa, self.bb = scales(words[layout.MMODE])
+        self.second_scale, self.first_scale = self.scales(words[layout.MMODE])
 
     def by_m0(self, x):
         """x*M0, a second multiplication."""
-        return product(self.aa, x, self.m0 >> 10)
+        return product(self.second_scale, x, self.m0 >> 10)
 
     def by_m1(self, x):
         """x*M1, a first multiplication."""
-        return product(self.bb, x, self.m1 >> 10)
+        return product(self.first_scale, x, self.m1 >> 10)
 
     def integer_by_m0(self, x):
         """x*M0 as an integer product."""
-        return integer_product(self.aa, x, self.m0 >> 10)
+        return self.integer_product(self.second_scale, x, self.m0 >> 10)
 
     def integer_by_m1(self, x):
         """x*M1 as an integer product."""
-        return integer_product(self.bb, x, self.m1 >> 10)
+        return self.integer_product(self.first_scale, x, self.m1 >> 10)
 
     def second(self, x, y):
         """x*y, a second multiplication without M0."""
-        return product(self.aa, x, y)
+        return product(self.second_scale, x, y)
 
     def compared(self):
         """A*M0 and B*M1 as signed numbers."""
@@ -223,11 +226,22 @@ FORMULAS = {
 }
 
 
+def function_built(mmode):
+    """Whether the function of an MMODE is built."""
+    return layout.function(mmode) in FORMULAS
+
+
+def turned(t, formula, words):
+    """A modifier's eight words after its formula, and S, a 20-bit word."""
+    s = formula(t)
+    return [t.m0, t.m1, t.l0, t.l1, *words[4:]], s
+
+
 def delay_turn(words, a, b, dm):
     """A modifier's eight words after its turn with A, B and DM; S; and DM afterwards."""
     t = Turn(words, a, b, dm)
-    s = FORMULAS[layout.function(words[layout.MMODE])](t)
-    return [t.m0, t.m1, t.l0, t.l1, *words[4:]], s, t.dm
+    after, s = turned(t, FORMULAS[layout.function(words[layout.MMODE])], words)
+    return after, s, t.dm
 
 
 def modifier_turn(words, a, b):

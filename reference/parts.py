@@ -8,9 +8,9 @@ from typing import NamedTuple
 
 from reference import layout
 from reference.faults import faults
-from reference.machine import below_t_in, fresh_machine, put_update_ticks
-from reference.orders import POINTS, in_mode, mode_of, orders_refusal
-from reference.tables import exponential
+from reference.machine import below_t, fresh_machine, generator_words, put_update_ticks
+from reference.orders import POINTS, orders_refusal
+from reference.text import OF_1978
 
 
 class Parts(NamedTuple):
@@ -32,9 +32,9 @@ def differing(one, other):
     return [key for key in keys if one[key] != other[key]]
 
 
-def failing(machine, first, second):
+def failing(machine, first, second, text=OF_1978):
     """For each point that two orders fail, by its number, the places at which they do."""
-    places = {number: differing(point(machine, first), point(machine, second))
+    places = {number: differing(point(machine, first, text), point(machine, second, text))
               for number, point in enumerate(POINTS, 1)}
     return {number: found for number, found in places.items() if found}
 
@@ -56,108 +56,103 @@ def named(failed):
 # those of a fresh machine, save that every generator's V is 0, so that none sounds unless it is
 # made to. Modifiers are inactive, so that no delay memory refuses a pass by 11 or 12.
 
-def silent(machine):
+def silent(machine, text=OF_1978):
     """A fresh machine with the same settings, in which no generator sounds."""
     bare = fresh_machine()
     bare[layout.T] = machine[layout.T]
     put_update_ticks(bare)
     for g in range(machine[layout.T] if faults.settings_below_t_alone else layout.GENERATORS):
         at = layout.generator_at(g)
-        for place in (layout.GMODE, layout.GSUM, layout.GFM):
-            bare[at + place] = machine[at + place]
-        if mode_of(machine, g) == layout.WRITE_DAC:
-            bare[at + layout.GO] = machine[at + layout.GO] % layout.DACS
-        bare[at + layout.GL] = asymptote(machine[at + layout.GMODE], 0)
+        for register, value in text.settings(generator_words(machine, g)).items():
+            bare[at + register] = value
+        bare[at + layout.GL] = asymptote(machine[at + layout.GMODE], 0, text)
     return bare
 
 
-def asymptote(gmode, v):
+def asymptote(gmode, v, text=OF_1978):
     """The GL that gives V at GQ 0."""
-    mode = layout.envelope_mode(gmode)
-    q = exponential(0) if mode in (layout.L_MINUS_EXPONENTIAL, layout.L_PLUS_EXPONENTIAL) else 0
-    minus = mode in (layout.L_MINUS_Q, layout.L_MINUS_EXPONENTIAL)
-    return (v + q if minus else v - q) % 4096
+    return (v - text.envelope(gmode, 0, 0)) % 4096
 
 
-def sound(machine, g):
+def sound(machine, g, text):
     """Makes generator g sound: W and V not 0, whatever its modes, in place.
 
-    In 0100 s is 1, since GN is 0, and d is 4,095: W is 1."""
+    In 1978's 0100 s is 1, since GN is 0, and d is 4,095: W is 1."""
     if faults.silent_contents:
         return
     at = layout.generator_at(g)
     gmode = machine[at + layout.GMODE]
-    machine[at + layout.GL] = asymptote(gmode, 4095)
-    machine[at + layout.GK] = 262144
-    if layout.oscillator_mode(gmode) == layout.SINE_OF_J:
-        machine[at + layout.GJ] = 262144 << 8
-    if layout.oscillator_mode(gmode) == layout.PULSE_TRAIN:
+    machine[at + layout.GL] = asymptote(gmode, 4095, text)
+    machine[at + layout.GK] = text.sounding_gk
+    if text.takes_j(gmode):
+        machine[at + layout.GJ] = text.sounding_gk << 8
+    if text.is_pulse_train(gmode):
         # Step 1 leaves its range: 524,287 + 1.
         machine[at + layout.GJ] = 524287 << 8
         machine[layout.modulation_place(machine[at + layout.GFM])] = 1
 
 
-def part_trigger(bare, g, one, other):
-    """The lower neighbour of the generator on different sides triggers."""
-    at = layout.generator_at(g - 1)
+def part_trigger(bare, g, one, other, text):
+    """The neighbour below of the generator on different sides triggers."""
+    at = layout.generator_at(text.side_of(g))
     bare[at + layout.GQ], bare[at + layout.GP] = (1 << 24) - 1, 1
 
 
-def part_source(bare, place, gfm, other_gfm):
-    """Only the word at the first order's GFM is not 0."""
-    bare[layout.modulation_place(gfm)] = 1
+def part_source(bare, place, source, other_source, text):
+    """Only what is sent by the first order's source is not 0."""
+    text.put_source(bare, source)
 
 
-def part_replaced(bare, word, one, other):
+def part_replaced(bare, word, one, other, text):
     """The last 0111, its item, or an adding one after it alone sounds; gives the item's place."""
     (last, at, adding), (other_last, other_at, other_adding) = one, other
     if last != other_last:
-        sound(bare, last)
+        sound(bare, last, text)
         return None
     if at != other_at:
         return at
-    sound(bare, min(adding ^ other_adding))
+    sound(bare, min(adding ^ other_adding), text)
     return None
 
 
 PARTING = (part_trigger, part_source, part_source, part_replaced)
 
 
-def parting(machine, first, second):
+def parting(machine, first, second, text=OF_1978):
     """Contents and read items that part two orders that disagree, else None."""
     for point, part in zip(POINTS, PARTING):
-        one, other = point(machine, first), point(machine, second)
+        one, other = point(machine, first, text), point(machine, second, text)
         if places := differing(one, other):
-            bare, place = silent(machine), places[0]
-            sounding_item = part(bare, place, one[place], other[place])
-            readers = len(in_mode(machine, first, layout.READ_DATA))
+            bare, place = silent(machine, text), places[0]
+            sounding_item = part(bare, place, one[place], other[place], text)
+            readers = below_t(machine, text.reads)
             return bare, [int(at == sounding_item) for at in range(readers)]
     return None
 
 
 # The call
 
-def parts_refusal(machine, first, second, contents, items):
+def parts_refusal(machine, first, second, contents, items, text=OF_1978):
     """The questions of compare, then 1 of the lent run and 7 of the lent list, by their lengths."""
-    number = orders_refusal(machine, first, second)
+    number = orders_refusal(machine, first, second, text)
     if number:
         return number
-    if faults.lent_asked_if_unequal and not failing(machine, first, second):
+    if faults.lent_asked_if_unequal and not failing(machine, first, second, text):
         return 0
     if len(contents) != layout.MACHINE_WORDS:
         return 1
-    short = len(items) < below_t_in(machine, layout.READ_DATA)
+    short = len(items) < below_t(machine, text.reads)
     return 7 if short and not faults.short_list_taken else 0
 
 
-def parts(machine, first, second, contents, items):
+def parts(machine, first, second, contents, items, text=OF_1978):
     """The call, with a run and a read list lent for contents."""
-    number = parts_refusal(machine, first, second, contents, items)
+    number = parts_refusal(machine, first, second, contents, items, text)
     if number:
         return Parts(number, 0, 0, list(contents), list(items))
-    point, place = named(failing(machine, first, second))
+    point, place = named(failing(machine, first, second, text))
     if not point:
-        left = silent(machine) if faults.equal_orders_lend else list(contents)
+        left = silent(machine, text) if faults.equal_orders_lend else list(contents)
         return Parts(0, 0, 0, left, list(items))
-    lent, read = parting(machine, first, second)
+    lent, read = parting(machine, first, second, text)
     return Parts(0, point, place, lent, read + list(items)[len(read):])

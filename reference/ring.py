@@ -4,10 +4,13 @@ Run as: python3 -m reference.ring < file
 """
 
 import sys
+from typing import NamedTuple
 
 from reference import layout
 from reference.faults import faults
 from reference.machine import fresh_machine, put_update_ticks, run_pass, zero_memory
+from reference.old import OLD, TEXTS
+from reference.text import OF_1978
 from reference.update import run_update
 from reference.words import low, signed
 
@@ -16,6 +19,21 @@ PASSES_MOST = 65535
 VALUE_MOST = (1 << 32) - 1
 DIGITS_MOST = 10
 HEXADECIMAL = frozenset(b"0123456789ABCDEF")
+TEXT = b"text="
+
+
+class Bench(NamedTuple):
+    """A bench file: its passes, initial words, commands, and the value of its text= line."""
+
+    passes: int
+    words: list
+    commands: list
+    named: bytes
+
+    @property
+    def text(self):
+        """The text that the file follows, else None."""
+        return TEXTS.get(self.named, OF_1978 if faults.unknown_text_rung else None)
 
 
 def number(text, most):
@@ -55,17 +73,39 @@ def part_of(lines, name, read):
     return found, lines
 
 
+def text_line(lines):
+    """The value of a text= line that stands first, 1978 where there is none, and the lines left."""
+    if not lines[0].startswith(TEXT):
+        return OF_1978.name, lines
+    return lines[0][len(TEXT):], lines[1:]
+
+
 def bench_file(file):
-    """The passes, initial words and commands of a bench file, else None."""
+    """What a bench file holds, else None."""
     lines = lines_of(file)
-    if lines is None or not lines[0].startswith(b"passes="):
+    if lines is None:
+        return None
+    named, lines = text_line(lines)
+    if not lines or not lines[0].startswith(b"passes="):
         return None
     passes = number(lines[0][len(b"passes="):], PASSES_MOST)
     words, left = part_of(lines[1:], b"word=", initial_word)
     commands, left = part_of(left, b"command=", command_word)
     if passes is None or None in words or None in commands or left:
         return None
-    return passes, words, commands
+    if commands and named == OLD.name and not faults.old_commands_taken:
+        return None
+    return Bench(passes, words, commands, named)
+
+
+def file_refusal(file):
+    """Question 9 of a file, then 13 of its text= line: 0, 9 or 13."""
+    read, lines = bench_file(file), lines_of(file)
+    if faults.text_13_before_9 and lines and text_line(lines)[0] not in TEXTS:
+        return 13
+    if read is None:
+        return 9
+    return 13 if read.text is None else 0
 
 
 def first_machine(words):
@@ -87,17 +127,24 @@ def pass_line(machine):
     return f"pass={number} left={left} right={right}\n"
 
 
-def pass_lines(machine, passes, commands, seen):
+def updated(machine, commands, text):
+    """What follows a pass: an update, but none by the older text. Its number, count and machine."""
+    if text is OLD and not faults.old_update_after_pass:
+        return 0, 0, machine
+    return run_update(machine, commands)
+
+
+def pass_lines(machine, passes, commands, seen, text):
     """The lines of the passes, each by number and with an update after it."""
     memory = zero_memory()
     for _ in range(passes):
         # The order is a range and not a list: T may be beyond its range here.
         order = range(machine[layout.T])
-        done = run_pass(machine, order, [], [], memory)
+        done = run_pass(machine, order, [], [], memory, text)
         refused, memory = done.number, done.memory
         if not refused:
             seen(machine, done.machine)
-            refused, taken, machine = run_update(done.machine, commands)
+            refused, taken, machine = updated(done.machine, commands, text)
             commands = commands[taken:]
         if refused:
             yield f"refused={refused}\n"
@@ -109,11 +156,11 @@ def ring(file, seen=lambda before, after: None):
     """What the bench program prints for a file, bytes for bytes.
 
     For each pass that is done, seen gets the machine before and after it."""
+    if refused := file_refusal(file):
+        return b"refused=%d\n" % refused
     read = bench_file(file)
-    if read is None:
-        return b"refused=9\n"
-    passes, words, commands = read
-    return "".join(pass_lines(first_machine(words), passes, commands, seen)).encode()
+    lines = pass_lines(first_machine(read.words), read.passes, read.commands, seen, read.text)
+    return "".join(lines).encode()
 
 
 if __name__ == "__main__":

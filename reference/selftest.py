@@ -6,12 +6,14 @@ Run from the repository root as: python3 -m reference.selftest
 import sys
 from time import process_time
 
-from reference.cases import (any_orders, benches, clipped, commands, comparisons, delays,
-                             examples, generators, modifiers, parts, passes, questions, sortings)
+from reference.cases import (any_orders, benches, chains, clipped, commands, comparisons, delays,
+                             examples, generators, joins, keeps, modifiers, old_files, old_orders,
+                             old_passes, old_turns, parts, passes, questions, sortings)
 from reference.faults import NAMES, switched_on
 
 MODULES = (examples, generators, modifiers, passes, clipped, questions, commands, comparisons,
-           any_orders, parts, delays, benches, sortings)
+           any_orders, parts, delays, benches, sortings, old_turns, old_passes, old_orders,
+           old_files, chains, joins, keeps)
 GROUPS = [group for module in MODULES for group in module.GROUPS]
 # How long each group took.
 SECONDS = {}
@@ -71,7 +73,8 @@ def report_faults():
 
 def main():
     """Runs everything; gives the exit status."""
-    total, bad = report(GROUPS + list(comparisons.TRIALS + any_orders.TRIALS + parts.TRIALS))
+    total, bad = report(GROUPS + list(comparisons.TRIALS + any_orders.TRIALS + parts.TRIALS
+                                      + old_orders.TRIALS + chains.TRIALS + joins.TRIALS))
     faults, missed = report_faults()
     print(f"reference: {total + faults} checks, {bad + missed} failed")
     return 1 if bad or missed else 0

@@ -6,7 +6,6 @@ if these generators counted. Each request comes with the reference's answer; whe
 most 4 it also asks for every pair of orders.
 """
 
-import random
 from math import factorial
 from typing import NamedTuple
 
@@ -15,6 +14,7 @@ from pass_requests import LENGTHS, damaged_machine, whole_machine
 from reference import layout
 from reference.any_order import CLAUSES, any_order
 from reference.machine import put_update_ticks
+from texts import Chance
 
 # Every pair of orders is tried with T at most FEW. From T on, NEXT generators have drawn settings.
 FEW, NEXT = 4, 8
@@ -297,7 +297,7 @@ def refused(machine, number):
 
 def all_requests(count, seed):
     """So many machines or a few more, those of one T after the other."""
-    chance = random.Random(seed)
+    chance = Chance(seed)
     pool = [whole_machine(chance) for _ in range(6)]
     made, number = 0, 0
     while made < count:

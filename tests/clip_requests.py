@@ -2,33 +2,29 @@
 
 from leaf_requests import close, edge, fits
 from reference import layout
-from reference.generator import envelope, generator_turn
-from reference.orders import mode_of
+from reference.machine import generator_words
 from reference.words import low, signed
 
-# Oscillator modes that are loud by GK alone, each with a K at which it is.
-LOUD = {layout.SINE_OF_K: 2048, layout.SAWTOOTH: 4094, layout.SQUARE: 2048,
-        layout.SUM_OF_COSINES: 1}
 # Generators of one machine share so few sum words.
 WORDS = (1, 2, 4)
 
 
-def is_heard(gmode):
+def is_heard(text, words):
     """Whether P of a generator goes to a sum word."""
-    return layout.RUN_MODES[layout.run_mode(gmode)].envelope
+    return text.reference.switches(words).envelope
 
 
 def put_loud_generator(chance, machine, g, shared):
     """A generator that is heard brings a large P, above or below 0, on one of few words."""
-    at = layout.generator_at(g)
-    oscillator = chance.choice(tuple(LOUD))
-    gmode = machine[at + layout.GMODE] & 0b1111110000 | oscillator
-    k = chance.choice((1, -1)) * LOUD[oscillator] + close(chance)
+    at, text = layout.generator_at(g), chance.text
+    oscillator = chance.choice(tuple(text.loud))
+    gmode = text.with_oscillator(machine[at + layout.GMODE], oscillator)
+    k = chance.choice(text.loud[oscillator]) + close(chance)
     v = chance.randint(3800, 4095)
     machine[at + layout.GMODE], machine[at + layout.GM] = gmode, 0
-    machine[at + layout.GK] = low(128 * k, 20)
+    machine[at + layout.GK] = low(text.angle_unit * k, 20)
     machine[at + layout.GP] = low(chance.randint(-70, 70), 20)
-    level = envelope(layout.envelope_mode(gmode), 0, machine[at + layout.GQ])
+    level = text.reference.envelope(gmode, 0, machine[at + layout.GQ])
     machine[at + layout.GL] = low(v - level, 12)
     machine[at + layout.GSUM] %= shared
 
@@ -37,32 +33,31 @@ def put_loud(chance, machine, t):
     """Most generators below T that are heard bring a large P."""
     shared = chance.choice(WORDS)
     for g in range(t):
-        gmode = machine[layout.generator_at(g) + layout.GMODE]
-        if is_heard(gmode) and chance.randrange(8):
+        if is_heard(chance.text, generator_words(machine, g)) and chance.randrange(8):
             put_loud_generator(chance, machine, g, shared)
 
 
-def brought(machine, g):
+def brought(text, machine, g):
     """P of a generator, as a signed number."""
-    words = machine[layout.generator_at(g):layout.generator_at(g + 1)]
+    words = generator_words(machine, g)
     f = machine[layout.modulation_place(words[layout.GFM])]
-    return signed(generator_turn(words, f, False)[1], 20)
+    return signed(text.reference.generator_turn(words, f, False)[1], 20)
 
 
 def at_edges(chance, machine, order, items):
     """The machine and the items with some sums close to an end of their range.
 
     Words of generator-this, which sums start from, and items are set."""
-    machine, items = list(machine), list(items)
+    machine, items, text = list(machine), list(items), chance.text
     totals, settled, read = {}, set(), 0
     for g in order:
-        at = layout.generator_at(g)
-        gmode, word = machine[at + layout.GMODE], machine[at + layout.GSUM]
-        if not is_heard(gmode):
+        words = generator_words(machine, g)
+        word = words[layout.GSUM]
+        if not is_heard(text, words):
             continue
-        p = brought(machine, g)
+        p = brought(text, machine, g)
         totals[word] = totals.get(word, 0) + p
-        if layout.run_mode(gmode) == layout.READ_DATA:
+        if text.reference.reads(words):
             needed = edge(chance, 20) - p
             if fits(needed, 20) and chance.randrange(2):
                 items[read] = chance.getrandbits(12) << 20 | low(needed, 20)
@@ -76,26 +71,26 @@ def at_edges(chance, machine, order, items):
     return machine, items
 
 
-def sums_of(machine, order, partials):
+def sums_of(text, machine, order, partials):
     """For each word the sums of the partials added to it, from 0 on, up to its first 0111."""
     sums, replaced = {}, set()
     for g in order:
-        at = layout.generator_at(g)
-        word = machine[at + layout.GSUM]
-        if layout.run_mode(machine[at + layout.GMODE]) == layout.READ_DATA:
+        words = generator_words(machine, g)
+        word = words[layout.GSUM]
+        if text.reference.reads(words):
             replaced.add(word)
         elif g in partials and word not in replaced:
             sums.setdefault(word, [0]).append(sums.get(word, [0])[-1] + partials[g])
     return sums
 
 
-def between(machine, first, second):
+def between(text, machine, first, second):
     """The machine with generator-this words from which the highest sum by one order is just 524,287
     and by the other above it, where two orders have other highest sums."""
     other, half = list(machine), 1 << 19
-    partials = {g: brought(machine, g) for g in first
-                if layout.RUN_MODES[mode_of(machine, g)].adding}
-    one, two = (sums_of(machine, order, partials) for order in (first, second))
+    partials = {g: brought(text, machine, g) for g in first
+                if text.reference.adds(generator_words(machine, g))}
+    one, two = (sums_of(text, machine, order, partials) for order in (first, second))
     for word in one.keys() & two.keys():
         lower = min(one[word], two[word], key=max)
         start = half - 1 - max(lower)

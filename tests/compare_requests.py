@@ -7,7 +7,6 @@ where it is no, passes by the two orders from contents that part them follow. Fr
 on these contents have delay lines at work, which must leave the same delay memory.
 """
 
-import random
 from array import array
 from typing import NamedTuple
 from zlib import crc32
@@ -21,6 +20,7 @@ from reference.delay import units_in_time
 from reference.machine import put_update_ticks, run_pass
 from reference.orders import compare
 from reference.parts import parting
+from texts import NEW_TEXT, Chance, Text
 
 COMPARE, PASSES = range(2)
 CONTENTS = 12
@@ -37,6 +37,7 @@ class Request(NamedTuple):
     second: list
     items: list
     name: str
+    text: Text = NEW_TEXT
 
 
 class Answer(NamedTuple):
@@ -88,12 +89,14 @@ def put_settings(chance, machine, t):
     machine[layout.T] = t
     put_update_ticks(machine)
     for g in range(t):
-        at = layout.generator_at(g)
-        mode = chance.choice(modes) << 6 | chance.randrange(4) << 4
-        machine[at + layout.GMODE] = mode | chance.choice(layout.OSCILLATOR_MODES)
+        at, text = layout.generator_at(g), chance.text
+        mode, envelope = chance.choice(modes), chance.randrange(4)
+        machine[at + layout.GMODE] = text.modes(envelope, chance.choice(text.oscillator_modes))
         machine[at + layout.GSUM] = chance.choice(words)
         machine[at + layout.GFM] = chance.choice(quadrants) | chance.choice(sources)
-        machine[at + layout.GO] = biased(chance, 20) >> 4 << 4 | chance.choice(dacs)
+        machine[at + layout.GO] = biased(chance, 20)
+        text.put_dac(machine, at, chance.choice(dacs))
+        text.put_mode(chance, machine, at, mode)
     return kind
 
 
@@ -137,17 +140,18 @@ def drawn_by(first, second):
     return crc32(array("I", [*first, *second]).tobytes())
 
 
-def units_act(machine):
-    """Whether delay unit 0 acts if it is a line."""
-    return int(units_in_time(machine[layout.T]) > 0)
+def units_act(machine, text):
+    """Whether delay unit 0 acts if it is a line: never by the older text."""
+    return int(text is NEW_TEXT and units_in_time(machine[layout.T]) > 0)
 
 
-def compared(machine, first, second, name):
+def compared(text, machine, first, second, name):
     """A compare with the reference's answer; contents are tried where it says yes."""
-    number, equal = compare(machine, first, second)
+    number, equal = compare(machine, first, second, text.reference)
     contents = CONTENTS if equal else 0
-    request = Request(COMPARE, contents, drawn_by(first, second), machine, first, second, [], name)
-    changed = units_act(machine) if contents else 0
+    request = Request(COMPARE, contents, drawn_by(first, second), machine, first, second, [], name,
+                      text)
+    changed = units_act(machine, text) if contents else 0
     return request, Answer(number, int(equal), contents, contents, changed)
 
 
@@ -174,19 +178,21 @@ def put_delays(chance, contents, drawn):
 
 def parted(chance, machine, first, second, name):
     """Passes by two unequal orders from contents that part them: no refusal, not alike."""
-    contents, items = parting(machine, first, second)
+    text = chance.text
+    contents, items = parting(machine, first, second, text.reference)
     drawn = drawn_by(first, second)
-    if units_act(contents):
+    if units_act(contents, text):
         put_delays(chance, contents, drawn)
-    request = Request(PASSES, 0, drawn, contents, first, second, items, "parted, " + name)
-    return request, Answer(0, 0, 0, 1, units_act(contents))
+    request = Request(PASSES, 0, drawn, contents, first, second, items, "parted, " + name, text)
+    return request, Answer(0, 0, 0, 1, units_act(contents, text))
 
 
 def tried(request):
     """The reference's answer to passes that part two orders."""
     words = memory_words(Memory(layout.MEMORY_WORDS, request.drawn | 1, {}))
     places = [0] * layout.GENERATORS
-    one, other = (run_pass(request.machine, order, request.items, places, words)
+    one, other = (run_pass(request.machine, order, request.items, places, words,
+                           request.text.reference)
                   for order in (request.first, request.second))
     alike = one._replace(clipped=[]) == other._replace(clipped=[])
     same = one.memory == other.memory
@@ -198,21 +204,21 @@ def of_machine(chance, machine, number):
     """The requests of one machine: pairs of good orders, refused pairs, and a damaged machine."""
     kind = put_settings(chance, machine, ticks(chance, number))
     for first, second, name in pairs(chance, machine):
-        request, answer = compared(machine, first, second, f"{kind}, {name}")
+        request, answer = compared(chance.text, machine, first, second, f"{kind}, {name}")
         yield request, answer
         if not answer.equal:
             yield parted(chance, machine, first, second, request.name)
     for first, second, name in refused_pairs(chance, machine):
-        yield compared(machine, first, second, name)
-    other, name = damaged_machine(machine, number)
+        yield compared(chance.text, machine, first, second, name)
+    other, name = damaged_machine(machine, number, chance.text)
     order = good_order(chance, machine[layout.T])
     second = chance.choice((order, order[:-1], [0, 0]))
-    yield compared(other, order, second, name)
+    yield compared(chance.text, other, order, second, name)
 
 
-def all_requests(count, seed):
+def all_requests(count, seed, text=NEW_TEXT):
     """So many compares, and the passes that go with them, one machine after the other."""
-    chance = random.Random(seed)
+    chance = Chance(seed, text)
     pool = [whole_machine(chance) for _ in range(6)]
     made, number = 0, 0
     while made < count:

@@ -11,17 +11,16 @@
  * words that clipped over may differ. Delay memory is made from the number to draw by, for each request anew; passes
  * from contents at random go on with it.
  */
-#include "karvelorn.h"
 #include "runs.h"
+#include "text.h"
 
 enum { COMPARE, PASSES };
 enum { MACHINE, FIRST, SECOND, ITEMS, RUNS };
-enum { GENERATORS = 256, GO = 0, GP = 5, GQ = 6, GSUM = 8, GFM = 9, GMODE = 10, GENERATOR_WORDS = 11 };
 enum { MODIFIERS = 128, MODIFIERS_AT = 2816, MODIFIER_WORDS = 8, MIN = 4, MRM = 5, MMODE = 7 };
-enum { SUM_WORDS = 64, SUMS_AT = 3840, DX = 4112, T, N, COUNTER, LINGERING, LINGER_PASS, OVERRUN };
+enum { SUM_WORDS = 64, SUMS_AT = 3840, N = T + 1, COUNTER, LINGERING, LINGER_PASS, OVERRUN };
 enum { UNITS = 32, UNITS_AT = 4119, X = 0, Y, Z, P, UNIT_WORDS = 7 };
 enum { UPDATE_TICKS = 4343, OVERHEAD_TICKS = 8 };
-enum { WRITE_DAC = 2, INVOKE_DELAY_UNIT = 7, DELAY_LINE = 8 };
+enum { INVOKE_DELAY_UNIT = 7, DELAY_LINE = 8 };
 
 /* What a request tries and what came of it. */
 typedef struct {
@@ -43,21 +42,8 @@ static uint32_t draw(uint32_t width) {
 
 /* Contents at random. */
 
-/* A generator with the same settings. GQ is at an end of its range where edge is 1 or 2, so that many overflow. */
-static void draw_generator(uint32_t *g, const uint32_t *settings, uint32_t edge) {
-    static const uint32_t widths[GENERATOR_WORDS] = {20, 28, 20, 11, 4, 20, 24, 12, 6, 7, 10};
-    for (int j = 0; j < GENERATOR_WORDS; j++) g[j] = draw(widths[j]);
-    g[GSUM] = settings[GSUM];
-    g[GFM] = settings[GFM];
-    g[GMODE] = settings[GMODE];
-    if (g[GMODE] >> 6 == WRITE_DAC) g[GO] = (g[GO] & ~15u) | (settings[GO] & 15);
-    if (edge == 1) g[GQ] = 16777215;
-    if (edge == 2) g[GQ] = 0;
-}
-
 static void draw_modifier(uint32_t *u) {
     static const uint32_t widths[MODIFIER_WORDS] = {30, 30, 20, 20, 7, 7, 7, 4};
-    static const uint32_t functions[16] = {0, 2, 3, 4, 6, 8, 9, 11, 12, 13, 16, 17, 20, 22, 24, 28};
     for (int j = 0; j < MODIFIER_WORDS; j++) u[j] = draw(widths[j]);
     if (draw(1)) u[MIN] = 128 | draw(6);
     if (draw(1)) u[MRM] = 128 | draw(6);
@@ -75,7 +61,7 @@ static void draw_unit(uint32_t *u) {
 }
 
 /* Some modifiers become 00111s, each on a unit of its own: unit 0, a line, is named by one that runs where T is 2 or
- * more. */
+ * more. By the older text they name none. */
 static void draw_naming(uint32_t *m, uint32_t t) {
     uint32_t unit = 0, step = draw(5) | 1, first = t < 2 ? 0 : draw(8) % (t / 2);
     m[UNITS_AT + P] = DELAY_LINE;
@@ -91,7 +77,8 @@ static void draw_naming(uint32_t *m, uint32_t t) {
 
 static void draw_contents(uint32_t *m, const uint32_t *settings) {
     uint32_t edge = draw(2);
-    for (int g = 0; g < GENERATORS; g++) draw_generator(m + GENERATOR_WORDS * g, settings + GENERATOR_WORDS * g, edge);
+    for (int g = 0; g < GENERATORS; g++)
+        draw_generator(m + GENERATOR_WORDS * g, generator(settings, g), edge, draw);
     for (int k = 0; k < MODIFIERS; k++) draw_modifier(m + MODIFIERS_AT + MODIFIER_WORDS * k);
     for (int i = SUMS_AT; i <= OVERRUN; i++) m[i] = draw(i == COUNTER ? 32 : 20);
     for (int u = 0; u < UNITS; u++) draw_unit(m + UNITS_AT + UNIT_WORDS * u);
@@ -114,9 +101,9 @@ static void try_both(const uint32_t *m, const run *r, const uint32_t *items, siz
         const run *order = &r[FIRST + k];
         memcpy(machines[k], m, sizeof machines[k]);
         memset(places[k], 0, sizeof places[k]);
-        uint32_t number = karvelorn_pass(machines[k], KARVELORN_WORDS, order->words, order->length, items, items_len,
-                                         places[k], GENERATORS, memories[k], KARVELORN_MEMORY_WORDS, &read[k],
-                                         &written[k], clipped);
+        uint32_t number = TEXT_CALL(pass)(machines[k], KARVELORN_WORDS, order->words, order->length, items, items_len,
+                                          places[k], GENERATORS, memories[k], KARVELORN_MEMORY_WORDS, &read[k],
+                                          &written[k], clipped);
         if (number > came->refused) came->refused = number;
     }
     int same_memory = !memcmp(memories[0], memories[1], sizeof memories[0]);
@@ -151,8 +138,8 @@ static void answer(uint32_t operation, uint32_t contents, uint32_t number, const
     for (int k = 0; k < 2; k++) fill_memory(memories[k], KARVELORN_MEMORY_WORDS, fill);
     if (operation == COMPARE) {
         given[1] = UINT32_MAX;
-        given[0] = karvelorn_compare(r[MACHINE].words, r[MACHINE].length, r[FIRST].words, r[FIRST].length,
-                                     r[SECOND].words, r[SECOND].length, &given[1]);
+        given[0] = TEXT_CALL(compare)(r[MACHINE].words, r[MACHINE].length, r[FIRST].words, r[FIRST].length,
+                                      r[SECOND].words, r[SECOND].length, &given[1]);
         try_contents(contents, r, &came);
     } else {
         try_both(r[MACHINE].words, r, r[ITEMS].words, r[ITEMS].length, &came);

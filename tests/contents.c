@@ -7,8 +7,8 @@
  *
  * An answer is the number, point and place of karvelorn_parts, then the words of the contents and of the read list.
  */
-#include "karvelorn.h"
 #include "runs.h"
+#include "text.h"
 
 enum { MACHINE, FIRST, SECOND, READ_RUNS, CONTENTS = READ_RUNS, ITEMS, RUNS };
 
@@ -20,9 +20,9 @@ static run zeros(uint32_t length) {
 
 static void answer(const run *r) {
     uint32_t given[3] = {0, UINT32_MAX, UINT32_MAX};
-    given[0] = karvelorn_parts(r[MACHINE].words, r[MACHINE].length, r[FIRST].words, r[FIRST].length, r[SECOND].words,
-                               r[SECOND].length, r[CONTENTS].words, r[CONTENTS].length, r[ITEMS].words,
-                               r[ITEMS].length, &given[1], &given[2]);
+    given[0] = TEXT_CALL(parts)(r[MACHINE].words, r[MACHINE].length, r[FIRST].words, r[FIRST].length, r[SECOND].words,
+                                r[SECOND].length, r[CONTENTS].words, r[CONTENTS].length, r[ITEMS].words,
+                                r[ITEMS].length, &given[1], &given[2]);
     for (int i = 0; i < RUNS; i++) check_beside(&r[i]);
     for (int i = 0; i < READ_RUNS; i++) check_kept(&r[i]);
     put(given, sizeof given[0], 3);

@@ -3,13 +3,13 @@
 Each request is a tuple of an operation and its words, all within their widths.
 """
 
-import random
 from itertools import product as pairs_of
 
 from reference import layout
 from reference.generator import envelope, modulated
-from reference.modifier import FORMULAS, product
+from reference.modifier import product
 from reference.words import leaves_range, low, signed
+from texts import NEW_TEXT, Chance
 
 SINE, EXPONENTIAL, PRODUCTS, GENERATOR, MODIFIER, BUILT, SUMS = range(7)
 
@@ -89,7 +89,7 @@ def near_decay(chance, x):
 
 def near_asymptote(chance, x):
     """GL puts V close to 0."""
-    v = envelope(layout.envelope_mode(x["GMODE"]), 0, x["GQ"])
+    v = chance.text.reference.envelope(x["GMODE"], 0, x["GQ"])
     x["GL"] = low(close(chance) - v, 12)
 
 
@@ -107,9 +107,9 @@ def near_quarter_by_j(chance, x):
 
 def near_rounding(chance, x):
     """K and V are small, so that W times V is close to the middle between two P."""
-    v = envelope(layout.envelope_mode(x["GMODE"]), 0, x["GQ"])
+    v = chance.text.reference.envelope(x["GMODE"], 0, x["GQ"])
     k = chance.choice((1, 2, 3, 4, 8, 16, 32))
-    x["GK"] = low(128 * chance.choice((k, -k)), 20)
+    x["GK"] = low(chance.text.angle_unit * chance.choice((k, -k)), 20)
     x["GL"] = low((32 + 64 * chance.randrange(3)) // k + close(chance) - v, 12)
 
 
@@ -117,8 +117,7 @@ GENERATOR_SHAPES = (near_step_1, near_step_4, near_sweep, near_decay, near_asymp
                     near_quarter, near_quarter_by_j, near_rounding)
 # Run modes in which P goes to a sum word.
 HEARD = [mode for mode, switches in layout.RUN_MODES.items() if switches.envelope]
-GMODES = [run << 6 | env << 4 | osc for run, env, osc in
-          pairs_of(layout.RUN_MODES, range(4), layout.OSCILLATOR_MODES)]
+GMODES = NEW_TEXT.gmodes
 
 
 def drawn_registers(chance):
@@ -129,8 +128,8 @@ def drawn_registers(chance):
 
 def generator_request(chance, number):
     """A generator's turn; the modes and told go round with the number."""
-    x = drawn_registers(chance)
-    x["GMODE"] = GMODES[number // 2 % len(GMODES)]
+    x, gmodes = drawn_registers(chance), chance.text.gmodes
+    x["GMODE"] = gmodes[number // 2 % len(gmodes)]
     x["F"] = biased(chance, 20)
     if chance.randrange(2):
         x["GM"] = 0
@@ -165,11 +164,6 @@ def cosines_requests(chance):
 
 # Shapes of a modifier
 
-def parts(x):
-    """AA, BB and the high bits of M0 and M1."""
-    return x["MMODE"] >> 2 & 3, x["MMODE"] & 3, x["M0"] >> 10, x["M1"] >> 10
-
-
 def alike(chance, x):
     """A*M0 and B*M1 are equal or close, where the scales are the same."""
     x["M1"] = x["M0"]
@@ -185,15 +179,13 @@ def unit(chance, x):
 
 def near_threshold(chance, x):
     """L0 puts A*M0 + L0 close to 0 or to the edge of its range."""
-    aa, _, m0, _ = parts(x)
-    x["L0"] = low(chance.choice((0, 1 << 19)) + close(chance) - product(aa, x["A"], m0), 20)
+    by_m0 = product(layout.left_scale(x["MMODE"]), x["A"], x["M0"] >> 10)
+    x["L0"] = low(chance.choice((0, 1 << 19)) + close(chance) - by_m0, 20)
 
 
 def near_sum(chance, x):
-    """A puts L1*M1 + L0*M0 + A at the edge of its range."""
-    aa, bb, m0, m1 = parts(x)
-    s = product(bb, x["L1"], m1) + product(aa, x["L0"], m0)
-    x["A"] = low(edge(chance, 20) - s, 20)
+    """A puts L1*M1 + L0*M0 + A, or what the text has there, at the edge of its range."""
+    x["A"] = low(edge(chance, 20) - chance.text.filtered(x), 20)
 
 
 def near_coefficient(chance, x):
@@ -211,16 +203,13 @@ def powers(chance, x):
 
 
 MODIFIER_SHAPES = (alike, unit, near_threshold, near_sum, near_coefficient, powers)
-# A turn of 00111 needs its delay unit's word too: whole passes try it.
-FUNCTIONS = [code for code in FORMULAS if code != layout.INVOKE_DELAY_UNIT]
-MMODES = [code << 4 | scales for code, scales in pairs_of(FUNCTIONS, range(16))]
 
 
 def modifier_request(chance, number):
     """A modifier's turn; functions and scales go round with the number."""
     x = {name: biased(chance, width) for name, width in zip(EIGHT, layout.MODIFIER_WIDTHS)
          if name != "MMODE"}
-    x["MMODE"] = MMODES[number % len(MMODES)]
+    x["MMODE"] = chance.text.mmodes[number % len(chance.text.mmodes)]
     x["MIN"], x["MRM"] = chance.randrange(192), chance.randrange(192)
     x["A"], x["B"] = biased(chance, 20), biased(chance, 20)
     for shape in chance.choices(MODIFIER_SHAPES, k=chance.randrange(3)):
@@ -255,7 +244,7 @@ def word_requests(chance, count):
 
 def all_requests(count, seed):
     """All requests, as a list of words each."""
-    chance = random.Random(seed)
+    chance = Chance(seed)
     requests = list(table_requests(chance))
     requests += word_requests(chance, count // 4)
     requests += cosines_requests(chance)

@@ -17,6 +17,7 @@ sys.path.insert(0, ROOT)
 
 from reference import layout  # noqa: E402
 from reference.faults import NAMES, switched_on  # noqa: E402
+from texts import NEW_TEXT, OLD_TEXT, TEXTS, Text  # noqa: E402
 
 BATCH, SHOWN, WORDS_SHOWN = 500, 5, 8
 LIBRARY = os.path.join(ROOT, "target", "staticlib", "libkarvelorn.a")
@@ -29,11 +30,21 @@ class Test(NamedTuple):
     request_bytes: Callable
     answer_bytes: Callable
     show: Callable
+    text: Text = NEW_TEXT
+
+    @property
+    def title(self):
+        """The name of the test with its text, if that is the older one."""
+        return f"old_{self.name}" if self.text is OLD_TEXT else self.name
 
     @property
     def program(self):
         """The path of the C program."""
-        return os.path.join(ROOT, "target", self.name)
+        return os.path.join(ROOT, "target", self.title)
+
+    def by(self, options):
+        """The test of the text that the options name."""
+        return self._replace(text=options.text)
 
 
 # Building
@@ -50,7 +61,8 @@ def build(test):
     if not library_is_new():
         subprocess.run(["rt", "staticlib", "karvelorn"], cwd=ROOT, check=True, stdout=subprocess.DEVNULL)
     source = os.path.join(ROOT, "tests", test.name + ".c")
-    subprocess.run(["gcc", "-std=c99", "-Wall", "-Wextra", "-pedantic", "-Werror", "-O1",
+    defined = ["-DOLD_TEXT"] if test.text is OLD_TEXT else []
+    subprocess.run(["gcc", "-std=c99", "-Wall", "-Wextra", "-pedantic", "-Werror", "-O1", *defined,
                     "-I", os.path.join(ROOT, "include"), source, LIBRARY, "-o", test.program],
                    check=True)
 
@@ -118,32 +130,40 @@ def compared(test, pairs, count, dry=False):
         for request, answer in batch:
             count(request, answer)
     if dry:
-        print(f"{test.name}: {asked} made and not asked, {size} bytes")
+        print(f"{test.title}: {asked} made and not asked, {size} bytes")
     else:
-        print(f"{test.name}: {asked} compared, {differ} differ")
+        print(f"{test.title}: {asked} compared, {differ} differ")
     return 1 if differ else 0
 
 
 class Options(NamedTuple):
-    """What a test is told: whether its run is dry, a fault of the reference, count and seed."""
+    """What a test is told: whether its run is dry, a fault of the reference, a text, count, seed."""
 
     dry: bool
     fault: str
+    text: Text
     count: int
     seed: int
 
 
+def taken_out(arguments, option, known, default=None):
+    """The value of an option, which must be known, and the arguments without both."""
+    if option not in arguments:
+        return default, arguments
+    at = arguments.index(option)
+    value = (arguments[at + 1:] + [""])[0]
+    if value not in known:
+        sys.exit(f"{option}: " + ", ".join(known))
+    return value, arguments[:at] + arguments[at + 2:]
+
+
 def read_arguments(arguments, count, seed):
-    """The options [--dry] [--fault NAME] [COUNT] [SEED]; the numbers have defaults."""
-    dry, fault = "--dry" in arguments, None
-    numbers = [text for text in arguments if text != "--dry"]
-    if "--fault" in numbers:
-        at = numbers.index("--fault")
-        fault, numbers[at:at + 2] = (numbers[at + 1:] + [""])[0], []
-        if fault not in NAMES:
-            sys.exit("Faults: " + ", ".join(NAMES))
-    numbers = [int(text) for text in numbers[:2]]
-    return Options(dry, fault, *numbers, *[count, seed][len(numbers):])
+    """The options [--dry] [--fault NAME] [--text old] [COUNT] [SEED]; the numbers have defaults."""
+    dry, numbers = "--dry" in arguments, [text for text in arguments if text != "--dry"]
+    fault, numbers = taken_out(numbers, "--fault", NAMES)
+    text, numbers = taken_out(numbers, "--text", TEXTS, NEW_TEXT.name)
+    numbers = [int(number) for number in numbers[:2]]
+    return Options(dry, fault, TEXTS[text], *numbers, *[count, seed][len(numbers):])
 
 
 def run(test, options, asked, pairs, answered):

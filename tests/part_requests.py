@@ -5,18 +5,19 @@ reference's answer: the point and the place. The lent contents are not compared,
 request leaves them open; what they must satisfy is the same for all.
 """
 
-import random
 from typing import NamedTuple
 
 from compare_requests import drawn_by, put_settings, refused_pairs
 from delay_requests import Memory, memory_words
-from pass_requests import LENGTHS, damaged_machine, good_order, swapped, walked, whole_machine
+from pass_requests import (LENGTHS, damaged_machine, good_order, needed_lists, swapped, walked,
+                           whole_machine)
 from reference import layout
 from reference.any_order import failing as not_all_equal
-from reference.cases.parts import settings
-from reference.machine import below_t_in, run_pass
+from reference.cases.old_orders import settings
+from reference.machine import run_pass
 from reference.orders import compare
 from reference.parts import failing, named, parts, parts_refusal
+from texts import NEW_TEXT, Chance, Text
 
 # Delay memories of zeros, of ones and at random.
 MEMORIES = 3
@@ -32,6 +33,7 @@ class Request(NamedTuple):
     contents_len: int
     items_len: int
     name: str
+    text: Text = NEW_TEXT
 
 
 class Answer(NamedTuple):
@@ -62,11 +64,10 @@ def answer_of(number, point, place, compared):
 
 def answered(request):
     """The answer by the reference's questions and points."""
-    machine, first, second = request[1:4]
-    number = parts_refusal(machine, first, second, range(request.contents_len),
-                           range(request.items_len))
-    point, place = (0, 0) if number else named(failing(machine, first, second))
-    return answer_of(number, point, place, compare(machine, first, second))
+    orders, text = request[1:4], request.text.reference
+    number = parts_refusal(*orders, range(request.contents_len), range(request.items_len), text)
+    point, place = (0, 0) if number else named(failing(*orders, text))
+    return answer_of(number, point, place, compare(*orders, text))
 
 
 def lent_words(drawn, length):
@@ -85,26 +86,25 @@ def memories(drawn):
 def tried_contents(request, answer, items):
     """What the reference's own contents satisfy."""
     machine, first, second = request[1:4]
-    readers = below_t_in(machine, layout.READ_DATA)
-    places = [0] * below_t_in(machine, layout.WRITE_DATA)
-    refused, parted = 0, 0
+    (readers, writers), text = needed_lists(request.text, machine), request.text.reference
+    places, refused, parted = [0] * writers, 0, 0
     for words in memories(request.drawn):
-        one, other = (run_pass(answer.contents, order, answer.items, places, words)
+        one, other = (run_pass(answer.contents, order, answer.items, places, words, text)
                       for order in (first, second))
         refused = max(refused, one.number, other.number)
         parted += (one.written, one.machine, one.places) != (
             other.written, other.machine, other.places)
-    return (int(settings(answer.contents) == settings(machine)),
+    return (int(settings(answer.contents, text) == settings(machine, text)),
             int(answer.items[readers:] == items[readers:]), refused, parted)
 
 
 def tried(request):
     """The reference's own answer, its contents tried as the library's are."""
-    machine, first, second = request[1:4]
+    orders, text = request[1:4], request.text.reference
     contents, items = (lent_words(request.drawn, length)
                        for length in (request.contents_len, request.items_len))
-    answer = parts(machine, first, second, contents, items)
-    number, equal = compare(machine, first, second)
+    answer = parts(*orders, contents, items, text)
+    number, equal = compare(*orders, text)
     kept = (answer.contents, answer.items) == (contents, items)
     found = tried_contents(request, answer, items) if answer.point else (0, 0, 0, 0)
     return Answer(*answer[:3], number, int(equal), int(kept), *found)
@@ -123,7 +123,7 @@ def ticks(chance, number):
 
 def items_for(chance, machine):
     """A length of the lent list: just enough items, one more, or many more."""
-    return below_t_in(machine, layout.READ_DATA) + chance.choice((0, 0, 1, 9))
+    return needed_lists(chance.text, machine)[0] + chance.choice((0, 0, 1, 9))
 
 
 def pairs(chance, machine):
@@ -143,12 +143,12 @@ def pairs(chance, machine):
 def good_request(chance, machine, first, second, name):
     """A request on which every question is answered yes."""
     return Request(drawn_by(first, second), machine, first, second, layout.MACHINE_WORDS,
-                   items_for(chance, machine), name)
+                   items_for(chance, machine), name, chance.text)
 
 
 def short_list(chance, machine):
     """A length of a lent list that is too short, or just enough where there is no 0111."""
-    readers = below_t_in(machine, layout.READ_DATA)
+    readers = needed_lists(chance.text, machine)[0]
     return chance.choice((max(readers - 1, 0), 0))
 
 
@@ -162,9 +162,9 @@ def refused_requests(chance, machine, number):
     yield request._replace(items_len=short_list(chance, machine), name="short list")
     bad = chance.choice(tuple(refused_pairs(chance, machine)))
     lent = chance.choice((layout.MACHINE_WORDS, other_length)), short_list(chance, machine)
-    yield Request(request.drawn, machine, bad[0], bad[1], *lent, bad[2])
-    other, name = damaged_machine(machine, number)
-    yield Request(request.drawn, other, first, first[:-1], *lent, name)
+    yield Request(request.drawn, machine, bad[0], bad[1], *lent, bad[2], chance.text)
+    other, name = damaged_machine(machine, number, chance.text)
+    yield Request(request.drawn, other, first, first[:-1], *lent, name, chance.text)
 
 
 # Run modes for all points at once.
@@ -176,16 +176,23 @@ def put_mixed(chance, machine, t):
     """T and new settings, on which several points may fail."""
     put_settings(chance, machine, t)
     for g in range(t):
-        place = layout.generator_at(g) + layout.GMODE
-        machine[place] = layout.with_run_mode(machine[place], chance.choice(MIXED))
+        chance.text.put_mode(chance, machine, layout.generator_at(g), chance.choice(MIXED))
     return "mixed"
+
+
+def may_part(machine, text):
+    """Whether two orders of a machine are not equal: by Q-2's rule, or by number and backwards."""
+    if text is NEW_TEXT:
+        return bool(not_all_equal(machine))
+    order = list(range(machine[layout.T]))
+    return bool(failing(machine, order, order[::-1], text.reference))
 
 
 def put_parting_settings(chance, machine, t):
     """T and new settings, mostly such that not all orders are equal. Gives their kind."""
     tries, draw = chance.choice((1, 8, 8, 8, 8, 8)), chance.choice((put_settings, put_mixed))
     kinds = (draw(chance, machine, t) for _ in range(tries))
-    return next((kind for kind in kinds if not_all_equal(machine)), "any")
+    return next((kind for kind in kinds if may_part(machine, chance.text)), "any")
 
 
 def of_machine(chance, machine, number):
@@ -194,15 +201,15 @@ def of_machine(chance, machine, number):
     for first, second, name in pairs(chance, machine):
         request = good_request(chance, machine, first, second, f"{kind}, {name}")
         # No question refuses it, so none is asked here.
-        point, place = named(failing(machine, first, second))
+        point, place = named(failing(machine, first, second, chance.text.reference))
         yield request, answer_of(0, point, place, (0, point == 0))
     for request in refused_requests(chance, machine, number):
         yield request, answered(request)
 
 
-def all_requests(count, seed):
+def all_requests(count, seed, text=NEW_TEXT):
     """So many requests or a few more, one machine after the other."""
-    chance = random.Random(seed)
+    chance = Chance(seed, text)
     pool = [whole_machine(chance) for _ in range(6)]
     made, number = 0, 0
     while made < count:

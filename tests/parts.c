@@ -13,12 +13,11 @@
  *   just enough places, over delay memories of zeros, of ones and at random; and over how many of these they leave
  *   another machine or other written data.
  */
-#include "karvelorn.h"
 #include "runs.h"
+#include "text.h"
 
 enum { MACHINE, FIRST, SECOND, READ_RUNS, CONTENTS = READ_RUNS, ITEMS, RUNS };
-enum { GENERATORS = 256, GO = 0, GSUM = 8, GFM = 9, GMODE = 10, GENERATOR_WORDS = 11, T = 4113 };
-enum { WRITE_DAC = 2, WRITE_DATA = 3, READ_DATA = 7, SUM_WORDS = 64 };
+enum { SUM_WORDS = 64 };
 enum { ZEROS, ONES, RANDOM, MEMORIES };
 
 typedef uint32_t memory[KARVELORN_MEMORY_WORDS];
@@ -37,20 +36,12 @@ static run lent(uint32_t length, uint32_t number) {
 
 static uint32_t is_kept(const run *r) { return !r->length || !memcmp(r->words, r->copy, r->length * sizeof *r->words); }
 
-static const uint32_t *generator(const uint32_t *m, uint32_t g) { return m + GENERATOR_WORDS * g; }
-
-static uint32_t below_t_in(const uint32_t *m, uint32_t mode) {
-    uint32_t count = 0;
-    for (uint32_t g = 0; g < m[T]; g++) count += generator(m, g)[GMODE] >> 6 == mode;
-    return count;
-}
-
 static uint32_t same_settings(const uint32_t *m, const uint32_t *n) {
     uint32_t same = m[T] == n[T];
     for (uint32_t i = 0; i < GENERATORS; i++) {
         const uint32_t *g = generator(m, i), *h = generator(n, i);
-        uint32_t feeds = g[GMODE] >> 6 == WRITE_DAC;
-        same &= g[GMODE] == h[GMODE] && g[GSUM] == h[GSUM] && g[GFM] == h[GFM] && (!feeds || g[GO] % 16 == h[GO] % 16);
+        same &= g[GMODE] == h[GMODE] && g[GSUM] == h[GSUM] && g[GFM] == h[GFM] &&
+                !((g[SENT_BY] ^ h[SENT_BY]) & sent_bits(g));
     }
     return same;
 }
@@ -75,9 +66,9 @@ static uint32_t try_both(int kind, const run *r, uint32_t places_len, uint32_t *
     for (int k = 0; k < 2; k++) {
         const run *order = &r[FIRST + k];
         memcpy(machines[k], r[CONTENTS].words, sizeof machines[k]);
-        number[k] = karvelorn_pass(machines[k], KARVELORN_WORDS, order->words, order->length, r[ITEMS].words,
-                                   r[ITEMS].length, places[k], places_len, handed[kind][k], KARVELORN_MEMORY_WORDS,
-                                   &read[k], &written[k], clipped);
+        number[k] = TEXT_CALL(pass)(machines[k], KARVELORN_WORDS, order->words, order->length, r[ITEMS].words,
+                                    r[ITEMS].length, places[k], places_len, handed[kind][k], KARVELORN_MEMORY_WORDS,
+                                    &read[k], &written[k], clipped);
     }
     *parted = written[0] != written[1] || memcmp(machines[0], machines[1], sizeof machines[0]) ||
               memcmp(places[0], places[1], written[0] * sizeof places[0][0]);
@@ -88,20 +79,20 @@ static uint32_t try_both(int kind, const run *r, uint32_t places_len, uint32_t *
 static int can_try(const run *r) {
     const uint32_t *m = r[MACHINE].words;
     if (r[MACHINE].length != KARVELORN_WORDS || r[CONTENTS].length != KARVELORN_WORDS || m[T] > GENERATORS) return 0;
-    return r[ITEMS].length >= below_t_in(m, READ_DATA);
+    return r[ITEMS].length >= below_t(m, reads);
 }
 
 /* The four numbers of an answer where a point is named. */
 static void try_contents(uint32_t number, const run *r, uint32_t *given) {
     const uint32_t *m = r[MACHINE].words;
-    uint32_t readers = below_t_in(m, READ_DATA), parted;
+    uint32_t readers = below_t(m, reads), parted;
     const run *items = &r[ITEMS];
     given[0] = same_settings(m, r[CONTENTS].words);
     given[1] = items->length == readers ||
                !memcmp(items->words + readers, items->copy + readers, (items->length - readers) * sizeof *items->words);
     for (int kind = 0; kind < MEMORIES; kind++) {
         make_memories(kind, number);
-        uint32_t refused = try_both(kind, r, below_t_in(m, WRITE_DATA), &parted);
+        uint32_t refused = try_both(kind, r, below_t(m, writes), &parted);
         if (refused > given[2]) given[2] = refused;
         given[3] += parted;
     }
@@ -109,11 +100,11 @@ static void try_contents(uint32_t number, const run *r, uint32_t *given) {
 
 static void answer(uint32_t number, const run *r) {
     uint32_t given[10] = {0, UINT32_MAX, UINT32_MAX, 0, UINT32_MAX, 0, 0, 0, 0, 0};
-    given[0] = karvelorn_parts(r[MACHINE].words, r[MACHINE].length, r[FIRST].words, r[FIRST].length, r[SECOND].words,
-                               r[SECOND].length, r[CONTENTS].words, r[CONTENTS].length, r[ITEMS].words,
-                               r[ITEMS].length, &given[1], &given[2]);
-    given[3] = karvelorn_compare(r[MACHINE].words, r[MACHINE].length, r[FIRST].words, r[FIRST].length,
-                                 r[SECOND].words, r[SECOND].length, &given[4]);
+    given[0] = TEXT_CALL(parts)(r[MACHINE].words, r[MACHINE].length, r[FIRST].words, r[FIRST].length, r[SECOND].words,
+                                r[SECOND].length, r[CONTENTS].words, r[CONTENTS].length, r[ITEMS].words,
+                                r[ITEMS].length, &given[1], &given[2]);
+    given[3] = TEXT_CALL(compare)(r[MACHINE].words, r[MACHINE].length, r[FIRST].words, r[FIRST].length,
+                                  r[SECOND].words, r[SECOND].length, &given[4]);
     for (int i = 0; i < RUNS; i++) check_beside(&r[i]);
     for (int i = 0; i < READ_RUNS; i++) check_kept(&r[i]);
     given[5] = is_kept(&r[CONTENTS]) && is_kept(&r[ITEMS]);

@@ -1,8 +1,8 @@
 """Compares what karvelorn_parts says, called from C, with the reference, and tries what it lends.
 
-    python3 tests/parts.py [--dry] [--fault NAME] [COUNT] [SEED]
+    python3 tests/parts.py [--text old] [--dry] [--fault NAME] [COUNT] [SEED]
 
-Run from the repository root. Builds tests/parts.c with include/karvelorn.h and
+Run from the repository root. With --text old the machines are those of the older text. Builds tests/parts.c with include/karvelorn.h and
 target/staticlib/libkarvelorn.a (which it has rt make where it is missing or older than the
 code). Each number, point and place must be the reference's, and compare must say no exactly
 where a point is named. From the contents that are lent, passes of the library by the two
@@ -23,27 +23,27 @@ from library import Test, compared, counts, met_seldom, packed, read_arguments, 
 
 from count_requests import OTHER_COUNT
 from part_requests import Answer, all_requests, tried
+from pass_requests import needed_lists
 from reference import layout
-from reference.machine import below_t_in
-from reference.orders import mode_of, register, replaced_words
+from reference.orders import register, replaced_words
 from reference.parts import failing
 
 COUNT, SEED = 26000, 1978
 HEAD, NUMBERS = struct.Struct("<6I"), struct.Struct("<10I")
 TRIED = 50
 
-# How often each kind is met at least, in COUNT requests.
-PROMISED = {
+# How often each kind is met at least, in COUNT requests: by every text, and by the oscillator modes
+# of one.
+SHARED = {
     "pairs of good orders": 20000, "equal": 6000, "parted": 9000, "values of T": 150,
     "T 256, parted": 200,
     **{f"point {point}": 800 for point in (1, 2, 3, 4)},
     **{f"point {point}, and a later one fails": 200 for point in (1, 2, 3)},
     **{f"point {point}, and at a higher place too": 200 for point in (1, 2, 3, 4)},
-    **{f"point {point}, above place 0": 400 for point in (1, 2, 3, 4)},
+    **{f"point {point}, above place 0": 400 for point in (1, 2, 4)},
+    "point 3, above place 0": 250,
     # What point 4 fails by, at its lowest word.
     "another last 0111": 300, "another place of the last 0111": 300, "others add after it": 300,
-    **{f"another last 0111, in {mode:04b}": 30 for mode in layout.OSCILLATOR_MODES},
-    **{f"others add after it, the lowest in {mode:04b}": 30 for mode in layout.OSCILLATOR_MODES},
     "more items than 0111s, parted": 1000,
     # Refusals.
     **{f"refused by {number}": least for number, least in
@@ -54,6 +54,13 @@ PROMISED = {
     "7, equal orders": 100, "7, unequal orders": 100,
     "short list that is just enough": 200,
 }
+
+
+def promised(text):
+    """What is promised of a text."""
+    modes = text.oscillator_modes
+    return {**SHARED, **{f"another last 0111, in {mode:04b}": 30 for mode in modes},
+            **{f"others add after it, the lowest in {mode:04b}": 30 for mode in modes}}
 
 
 def request_bytes(request):
@@ -87,28 +94,28 @@ PARTS = Test("parts", request_bytes, answer_bytes, show)
 
 # What the requests met
 
-def oscillator(machine, g):
+def oscillator(request, g):
     """The oscillator mode of a generator, as bits."""
-    return f"{layout.oscillator_mode(register(machine, g, layout.GMODE)):04b}"
+    return f"{request.text.oscillator_mode(register(request.machine, g, layout.GMODE)):04b}"
 
 
 def replaced_events(request, word):
     """What point 4 fails by at a word."""
-    machine = request.machine
-    one, other = (replaced_words(machine, order)[word] for order in (request.first, request.second))
+    one, other = (replaced_words(request.machine, order, request.text.reference)[word]
+                  for order in (request.first, request.second))
     if one[0] != other[0]:
         yield "another last 0111"
-        yield f"another last 0111, in {oscillator(machine, one[0])}"
+        yield f"another last 0111, in {oscillator(request, one[0])}"
     elif one[1] != other[1]:
         yield "another place of the last 0111"
     else:
         yield "others add after it"
-        yield f"others add after it, the lowest in {oscillator(machine, min(one[2] ^ other[2]))}"
+        yield f"others add after it, the lowest in {oscillator(request, min(one[2] ^ other[2]))}"
 
 
 def parted_events(request, answer):
     """What is counted of unequal orders."""
-    point, failed = answer.point, failing(request.machine, request.first, request.second)
+    point, failed = answer.point, failing(*request[1:4], request.text.reference)
     yield "parted"
     yield f"point {point}"
     if len(failed) > 1:
@@ -119,7 +126,7 @@ def parted_events(request, answer):
         yield f"point {point}, above place 0"
     if point == 4:
         yield from replaced_events(request, answer.place)
-    if request.items_len > below_t_in(request.machine, layout.READ_DATA):
+    if request.items_len > needed_lists(request.text, request.machine)[0]:
         yield "more items than 0111s, parted"
     if request.machine[layout.T] == layout.T_MOST:
         yield "T 256, parted"
@@ -176,16 +183,16 @@ class Met:
 def main(arguments):
     """Reads the arguments; see the head of this file."""
     options = read_arguments(arguments, COUNT, SEED)
-    pairs = all_requests(options.count, options.seed)
+    test, pairs = PARTS.by(options), all_requests(options.count, options.seed, options.text)
 
     def ask_all():
         met = Met(options.dry)
-        status = compared(PARTS, pairs, met.count, options.dry) or met.bad
+        status = compared(test, pairs, met.count, options.dry) or met.bad
         met.kinds["values of T"] = len(met.ticks)
         print(f"met: {counts(met.kinds)}\nT from {min(met.ticks)} to {max(met.ticks)}")
-        return met_seldom(met.kinds, PROMISED, options.count, COUNT) or status
+        return met_seldom(met.kinds, promised(options.text), options.count, COUNT) or status
 
-    return run(PARTS, options, ask_all, pairs, tried)
+    return run(test, options, ask_all, pairs, tried)
 
 
 if __name__ == "__main__":

@@ -8,7 +8,8 @@ their passes are asked again by an order that is equal.
 """
 
 import random
-from itertools import chain
+from functools import lru_cache
+from itertools import chain, permutations
 from typing import NamedTuple
 
 from clip_requests import at_edges, between, put_loud
@@ -16,13 +17,13 @@ from count_requests import with_other_count
 from delay_requests import (Memory, bad_memory, changed_words, drawn_memory, memory_words,
                             put_invoking, put_stray, put_units, unit_damages, with_bad_line,
                             with_unit_twice, with_words)
-from leaf_requests import GMODES, biased, generator_request, modifier_request
+from leaf_requests import biased, generator_request, modifier_request
 from reference import layout
-from reference.machine import below_t_in, fresh, put_update_ticks, run_pass
-from reference.modifier import FORMULAS
+from reference.machine import below_t, fresh, put_update_ticks, run_pass, word_ranges
 from reference.orders import agree
 from reference.sums import no_marks
 from reference.words import low
+from texts import NEW_TEXT, OLD_TEXT, Chance, Text
 
 PASS, FRESH = range(2)
 WORD = (1 << 32) - 1
@@ -38,6 +39,7 @@ class Request(NamedTuple):
     places: list
     memory: Memory
     name: str
+    text: Text = NEW_TEXT
 
 
 class Answer(NamedTuple):
@@ -68,13 +70,12 @@ def near_overflow(chance, words):
 
 def generator(chance, run_modes, shared):
     """Eleven words and the word at GFM that they were shaped for; GSUM and GFM below shared."""
-    request = generator_request(chance, chance.randrange(2 * len(GMODES)))
+    request = generator_request(chance, chance.randrange(2 * len(chance.text.gmodes)))
     words, f = list(request[1:12]), request[12]
     words[layout.GSUM] %= shared
     words[layout.GFM] = words[layout.GFM] & 64 | words[layout.GFM] % shared
     if run_modes:
-        mode = chance.choice(run_modes)
-        words[layout.GMODE] = layout.with_run_mode(words[layout.GMODE], mode)
+        chance.text.put_mode(chance, words, 0, chance.choice(run_modes))
         if run_modes is TRIGGERING and chance.randrange(4):
             near_overflow(chance, words)
     return words, f
@@ -199,7 +200,7 @@ def walked(chance, machine, order):
     other = order
     for _ in range(2 * len(order) if len(order) < 16 else 8):
         tried = swapped(chance, other)
-        if agree(machine, order, tried):
+        if agree(machine, order, tried, chance.text.reference):
             other = tried
     return other
 
@@ -211,15 +212,20 @@ def drawn(chance, count):
 
 def good_lists(chance, machine):
     """Read items and written places: just enough, one more, or many more."""
-    needed = [below_t_in(machine, mode) for mode in (layout.READ_DATA, layout.WRITE_DATA)]
+    needed = needed_lists(chance.text, machine)
     return [drawn(chance, count + chance.choice((0, 0, 1, 9))) for count in needed]
+
+
+def needed_lists(text, machine):
+    """How many read items and written places a machine needs."""
+    return [below_t(machine, holds) for holds in (text.reference.reads, text.reference.writes)]
 
 
 def good_request(chance, machine, memory, name="good"):
     """A pass that no question refuses, if the machine and the memory are good."""
     items, places = good_lists(chance, machine)
     order = good_order(chance, machine[layout.T])
-    return Request(PASS, machine, order, items, places, memory, name)
+    return Request(PASS, machine, order, items, places, memory, name, chance.text)
 
 
 LOUD, EQUAL = "large partials", "large partials, by an equal order"
@@ -230,7 +236,7 @@ def loud_requests(chance, machine, memory):
     request = good_request(chance, machine, memory, LOUD)
     if not chance.randrange(6):
         other = walked(chance, machine, request.order)
-        request = request._replace(machine=between(machine, request.order, other))
+        request = request._replace(machine=between(chance.text, machine, request.order, other))
         yield request._replace(order=other, name=EQUAL)
     elif chance.randrange(2):
         machine, items = at_edges(chance, machine, request.order, request.items)
@@ -240,11 +246,11 @@ def loud_requests(chance, machine, memory):
 
 # Damage to a machine: a place, the bits of the word that stay, and those that are set
 
-def register_damages():
+def register_damages(text):
     """Each register of some generators and modifiers too wide: its next bit, or the highest."""
     for at, step, count, names, widths in (
             (0, layout.GENERATOR_WORDS, layout.GENERATORS,
-             layout.GENERATOR_NAMES, layout.GENERATOR_WIDTHS),
+             layout.GENERATOR_NAMES, text.reference.generator_widths),
             (layout.MODIFIERS_AT, layout.MODIFIER_WORDS, layout.MODIFIERS,
              layout.MODIFIER_NAMES, layout.MODIFIER_WIDTHS)):
         for unit in (0, 1, count // 2, count - 1):
@@ -254,18 +260,14 @@ def register_damages():
                     yield f"{name} of {unit}, bit {bit}", place, WORD, 1 << bit
 
 
-def mode_damages():
+def mode_damages(text):
     """Run modes, oscillator modes, functions and address bits that are not built."""
     for g in (0, 3, layout.GENERATORS - 1):
-        place = layout.generator_at(g) + layout.GMODE
-        for mode in sorted(set(range(16)) - set(layout.RUN_MODES)):
-            yield f"run mode {mode:04b} of {g}", place, 0b111111, mode << 6
-        for mode in sorted(set(range(16)) - set(layout.OSCILLATOR_MODES)):
-            yield f"oscillator mode {mode:04b} of {g}", place, 0b1111110000, mode
-            yield f"oscillator mode {mode:04b} of idle {g}", place, 0b110000, mode
+        for name, keep, put in text.bad_gmodes():
+            yield f"{name} of {g}", layout.generator_at(g) + layout.GMODE, keep, put
     for m in (0, 2, layout.MODIFIERS - 1):
         at = layout.modifier_at(m)
-        for function in sorted(set(range(32)) - set(FORMULAS)):
+        for function in sorted(set(range(32)) - set(text.functions)):
             yield f"function {function:05b} of {m}", at + layout.MMODE, 0b1111, function << 4
         for register in (layout.MIN, layout.MRM):
             name = layout.MODIFIER_NAMES[register]
@@ -287,30 +289,35 @@ def other_damages():
             yield f"word {place} = {value}", place, 0, value
 
 
-DAMAGES = list(chain(register_damages(), mode_damages(), other_damages(), unit_damages()))
-# Mixed, so that few requests meet all kinds.
-random.Random(1978).shuffle(DAMAGES)
+@lru_cache(maxsize=None)
+def damages(text):
+    """All of them, mixed, so that few requests meet all kinds."""
+    made = list(chain(register_damages(text), mode_damages(text), other_damages(), unit_damages()))
+    random.Random(1978).shuffle(made)
+    return made
+
+
 LENGTHS = (0, 1, 4112, 4113, 4114, 4118, 4119, 4120, 4342, 4343, 4345, 8688)
 
 
-def with_damage(machine, number):
+def with_damage(machine, number, text):
     """A copy of a machine with the next damage, and its name."""
-    name, place, keep, put = DAMAGES[number % len(DAMAGES)]
+    name, place, keep, put = damages(text)[number % len(damages(text))]
     other = list(machine)
     other[place] = other[place] & keep | put
     return other, name
 
 
-def with_length(machine, number):
+def with_length(machine, number, text=NEW_TEXT):
     """A machine of another length, and its name."""
     length = LENGTHS[number % len(LENGTHS)]
     return (machine + machine)[:length], f"{length} words"
 
 
-def damaged_machine(machine, number):
+def damaged_machine(machine, number, text=NEW_TEXT):
     """A machine that question 1 or 2 refuses, and what was done to it."""
     change = {0: with_length, 3: with_other_count}.get(number % 6)
-    return change(machine, number // 6) if change else with_damage(machine, number)
+    return change(machine, number // 6) if change else with_damage(machine, number, text)
 
 
 # Each kind of fault changes a good request, which it gets with a number, into one that a question
@@ -318,7 +325,7 @@ def damaged_machine(machine, number):
 
 def damaged(chance, request, number):
     """The next damage to a copy of the machine."""
-    other, name = with_damage(request.machine, number)
+    other, name = with_damage(request.machine, number, request.text)
     return request._replace(machine=other, name=name)
 
 
@@ -383,13 +390,11 @@ def bad_order(chance, request, number):
 
 def bad_lists(chance, request, number):
     """Read items or written places that may be too few: one less than needed, or none."""
-    changes = {}
+    changes, (reading, writing) = {}, needed_lists(request.text, request.machine)
     if number % 3 != 1:
-        left = below_t_in(request.machine, layout.READ_DATA) - 1
-        changes["items"] = request.items[:max(chance.choice((left, left, 0)), 0)]
+        changes["items"] = request.items[:max(chance.choice((reading - 1, reading - 1, 0)), 0)]
     if number % 3 != 0:
-        left = below_t_in(request.machine, layout.WRITE_DATA) - 1
-        changes["places"] = request.places[:max(chance.choice((left, left, 0)), 0)]
+        changes["places"] = request.places[:max(chance.choice((writing - 1, writing - 1, 0)), 0)]
     return request._replace(name="short " + " and ".join(changes), **changes)
 
 
@@ -443,7 +448,7 @@ def answered(request):
         number, machine = fresh(request.machine)
         return Answer(number, 0, 0, no_marks(), machine, [], [])
     words = memory_words(request.memory)
-    done = run_pass(*request[1:5], words)
+    done = run_pass(*request[1:5], words, request.text.reference)
     return Answer(*done[:-1], changed_words(words, done.memory))
 
 
@@ -506,11 +511,75 @@ def chain_of(chance, pool, number):
     return chained(chance, machine, chance.choice((1, 3, 5, 8)), refusals, number // 2)
 
 
-def all_requests(count, seed):
+# Each word damaged once, and all orders of few generators: for the older text
+
+def too_wide(place, text):
+    """A value that no machine has at a place, whatever its other words hold."""
+    return word_ranges(text.reference)[place][1] + 1 if place != layout.UPDATE_TICKS else WORD
+
+
+def every_word(chance, pool):
+    """A pass with each word in turn beyond its range, but for the counter, which has none."""
+    memory = Memory(layout.MEMORY_WORDS, 0, {})
+    for place in range(layout.MACHINE_WORDS):
+        if place != layout.COUNTER:
+            machine = list(pool[place % len(pool)])
+            machine[place] = too_wide(place, chance.text)
+            yield Request(PASS, machine, [0], [0], [0], memory, f"{EVERY} {place}", chance.text)
+
+
+def every_mode(chance, pool):
+    """A pass with each GMODE of its width and each function that is not built."""
+    memory, reference = Memory(layout.MEMORY_WORDS, 0, {}), chance.text.reference
+    width = reference.generator_widths[layout.GMODE]
+    bad = [(layout.generator_at(gmode % 256) + layout.GMODE, gmode) for gmode in range(1 << width)
+           if not reference.gmode_built(gmode)]
+    bad += [(layout.modifier_at(code % 4) + layout.MMODE, code << 4 | code % 16) for code in range(32)
+            if not reference.function_built(code << 4)]
+    for number, (place, value) in enumerate(bad):
+        machine = list(pool[number % len(pool)])
+        machine[place] = value
+        yield Request(PASS, machine, [0], [0], [0], memory, f"mode {value} at {place}", chance.text)
+
+
+def put_struck(chance, machine, t):
+    """All generators below T trigger or wait, and every envelope that can overflows."""
+    for g in range(t):
+        at = layout.generator_at(g)
+        chance.text.put_mode(chance, machine, at, chance.choice(TRIGGERING))
+        machine[at + layout.GQ], machine[at + layout.GP] = (1 << 24) - 1, 1
+
+
+def every_order(chance, pool, machines=12):
+    """All orders of up to four generators, on some machines each: any, loud ones, struck ones."""
+    for number in range(machines):
+        for t in (1, 2, 3, 4):
+            machine = machine_for(chance, pool, t)
+            if number % 3:
+                (put_loud if number % 3 == 1 else put_struck)(chance, machine, t)
+            request = good_request(chance, machine, drawn_memory(chance), f"all orders of {t}")
+            for order in permutations(range(t)):
+                yield request._replace(order=list(order))
+
+
+EVERY = "damaged word"
+
+
+def swept_requests(chance, pool):
+    """What the older text's requests begin with."""
+    for request in chain(every_word(chance, pool), every_mode(chance, pool), every_order(chance, pool)):
+        yield request, answered(request)
+
+
+def all_requests(count, seed, text=NEW_TEXT):
     """So many requests, each with the reference's answer, one machine after the other."""
-    chance = random.Random(seed)
+    chance = Chance(seed, text)
     pool = [whole_machine(chance) for _ in range(12)]
     made, number = 0, 0
+    if text is OLD_TEXT:
+        for pair in swept_requests(chance, pool):
+            yield pair
+            made += 1
     while made < count:
         for pair in chain_of(chance, pool, number):
             if made < count:

@@ -1,4 +1,5 @@
 /* Calls the library for tests/passes.py: requests on standard input, answers on standard output, until the input ends.
+ * Passes are those of the text that the program is built for.
  *
  * A request is eight 32-bit numbers (0 for a pass or 1 for a fresh machine; the lengths of machine, order, items and
  * places; the length of the delay memory, the number that it is made from and how many of its words are others), then
@@ -9,8 +10,8 @@
  * memory are not as they were (32 bits), and the first CHANGED of these by slot, each as its slot and the word; pairs
  * that are not needed are 0. Every word of the delay memory is looked at.
  */
-#include "karvelorn.h"
 #include "runs.h"
+#include "text.h"
 
 enum { PASS, FRESH };
 enum { MACHINE, ORDER, ITEMS, PLACES, READ_RUNS, MEMORY = READ_RUNS, RUNS };
@@ -52,9 +53,9 @@ static void answer(uint32_t operation, run *r) {
         read = written = 0;
         memset(clipped.of, 0, sizeof clipped.of);
     } else {
-        number = karvelorn_pass(r[MACHINE].words, r[MACHINE].length, r[ORDER].words, r[ORDER].length, r[ITEMS].words,
-                                r[ITEMS].length, r[PLACES].words, r[PLACES].length, r[MEMORY].words, r[MEMORY].length,
-                                &read, &written, clipped.of);
+        number = TEXT_CALL(pass)(r[MACHINE].words, r[MACHINE].length, r[ORDER].words, r[ORDER].length, r[ITEMS].words,
+                                 r[ITEMS].length, r[PLACES].words, r[PLACES].length, r[MEMORY].words, r[MEMORY].length,
+                                 &read, &written, clipped.of);
     }
     check_marks(&clipped);
     check_kept(&r[ORDER]);

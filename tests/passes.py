@@ -1,8 +1,8 @@
 """Compares whole passes, called from C, with the reference.
 
-    python3 tests/passes.py [--dry] [--fault NAME] [COUNT] [SEED]
+    python3 tests/passes.py [--text old] [--dry] [--fault NAME] [COUNT] [SEED]
 
-Run from the repository root. Builds tests/passes.c with include/karvelorn.h and
+Run from the repository root. With --text old the passes are those of the older text. Builds tests/passes.c with include/karvelorn.h and
 target/staticlib/libkarvelorn.a (which it has rt make where it is missing or older than the
 code) and compares each answer, the marks of sum words that clipped over, each word of the
 machine, each written place and each word of delay memory. Fails too where the requests met
@@ -20,19 +20,41 @@ from library import (Test, compared, counts, machine_differences, met_seldom, pa
 
 from count_requests import OTHER_COUNT
 from delay_requests import Echoes, delay_events, question_events
-from pass_requests import EQUAL, LOUD, PASS, Answer, all_requests, answered
+from pass_requests import EQUAL, EVERY, LOUD, PASS, Answer, all_requests, answered
 from reference import layout
-from reference.machine import generator_column
-from reference.orders import in_mode, register
+from reference import old_layout as old
+from reference.machine import generator_column, generator_words, modifier_column
+from texts import NEW_TEXT, OLD_TEXT
 
 COUNT, SEED = 21000, 1978
 HEAD, COUNTS = struct.Struct("<8I"), struct.Struct("<IQQ")
 # So many changed words of delay memory are in an answer: there are 32 units.
 CHANGED = layout.DELAY_UNITS
 
-# How often each kind is met at least, in COUNT requests.
+# How often each kind is met at least, in COUNT requests, by every text.
+SHARED = {
+    "passes": 20000,
+    # Sum words that clipped over.
+    "several words marked": 600, "equal orders, other marks": 150,
+    "10 by too few words": 100, "10 by too many words": 75, "10 by a word too wide": 200,
+}
+PROMISED_OLD = {
+    **SHARED, "passes done": 9000, "values of T": 180,
+    "counter above 20 bits": 2000, "counter leaves 20 bits": 50, "counter from 2^32-1 to 0": 50,
+    "large partials": 4000, "large partials, marked": 1500, "passes marked": 2500,
+    "a word with a 0111 marked": 500, "equal orders": 500,
+    # Every GMODE and MMODE that is built, in a turn; every word damaged; all orders.
+    "GMODEs taken": 164, "MMODEs taken": 240, "words damaged": 4343,
+    "orders of 1": 1, "orders of 2": 2, "orders of 3": 6, "orders of 4": 24,
+    "triggered from two below": 300, "101 that stopped": 1000, "DACs fed": 5000,
+    "items written": 5000, "items read": 5000,
+    **{f"refused by {number}": least for number, least in
+       ((1, 250), (2, 4800), (5, 100), (6, 100), (7, 100), (8, 60), (10, 500))},
+    "refused by 2 for a delay unit": 80, "refused by 2 for the count": 100,
+    "done, though 1978 would ask 11": 300, "done, though 1978 would ask 12": 600,
+}
 PROMISED = {
-    "passes": 20000, "passes done": 12000, "values of T": 200, "delay memory changed": 5000,
+    **SHARED, "passes done": 12000, "values of T": 200, "delay memory changed": 5000,
     "turns in 0100 that are heard": 20000,
     "counter above 20 bits": 4000, "counter leaves 20 bits": 100, "counter from 2^32-1 to 0": 100,
     # Sum words that clipped over: in a third of the passes with large partials.
@@ -179,10 +201,30 @@ def clip_events(request, answer):
     if marked > 1:
         yield "several words marked"
     machine = request.machine
-    read = {register(machine, g, layout.GSUM)
-            for g in in_mode(machine, range(machine[layout.T]), layout.READ_DATA)}
+    generators = (generator_words(machine, g) for g in range(machine[layout.T]))
+    read = {words[layout.GSUM] for words in generators if request.text.reference.reads(words)}
     if any(answer.clipped[word] for word in read):
         yield "a word with a 0111 marked"
+
+
+def changed_modes(before, after):
+    """What is counted of each generator in 100 or 101 whose run mode changed."""
+    for one, other in zip(before, after):
+        if one != other:
+            told = old.run_mode(one) == old.WAIT
+            yield "triggered from two below" if told else "101 that stopped"
+
+
+def old_events(request, answer):
+    """What is counted of a pass by the older text that was done, each with how often."""
+    machine, t, text = request.machine, request.machine[layout.T], request.text.reference
+    before, after = (generator_column(run, layout.GMODE)[:t] for run in (machine, answer.machine))
+    yield from Counter(changed_modes(before, after)).items()
+    yield "DACs fed", sum(text.dac_fed(generator_words(machine, g)) is not None for g in range(t))
+    yield "items written", answer.written
+    yield "items read", answer.read
+    for number in delay_questions(request):
+        yield f"done, though 1978 would ask {number}", 1
 
 
 class Met:
@@ -191,6 +233,8 @@ class Met:
     def __init__(self):
         self.kinds, self.ticks = Counter(), Counter()
         self.units, self.echoes, self.equal = [], Echoes(), None
+        # What is counted once, by its kind.
+        self.once = {"GMODEs taken": set(), "MMODEs taken": set(), "words damaged": set()}
 
     def count(self, request, answer):
         """Counts a request with its answer."""
@@ -201,18 +245,36 @@ class Met:
         if answer.number:
             self.count_refused(request, answer.number)
             return
-        machine, after = request.machine, answer.machine
+        machine = request.machine
         self.kinds["passes done"] += 1
-        self.kinds["delay memory changed"] += bool(answer.changed)
-        self.kinds["turns in 0100 that are heard"] += cosines_heard(machine)
         self.kinds.update(counter_events(machine[layout.COUNTER]))
         self.ticks[machine[layout.T]] += 1
-        self.kinds.update(delay_events(machine, after))
         self.kinds.update(clip_events(request, answer))
         if self.equal:
             self.kinds["equal orders"] += 1
             self.kinds["equal orders, other marks"] += answer.clipped != self.equal.clipped
         self.equal = answer if request.name == EQUAL else None
+        if request.text is OLD_TEXT:
+            self.count_old(request, answer)
+        else:
+            self.count_delays(request, answer)
+
+    def count_old(self, request, answer):
+        """Counts what a pass by the older text met."""
+        machine, t = request.machine, request.machine[layout.T]
+        for event, times in old_events(request, answer):
+            self.kinds[event] += times
+        self.once["GMODEs taken"].update(generator_column(machine, layout.GMODE)[:t])
+        self.once["MMODEs taken"].update(modifier_column(machine, layout.MMODE)[:t // 2])
+        if request.name.startswith("all orders"):
+            self.once.setdefault(f"orders of {t}", set()).add(tuple(request.order))
+
+    def count_delays(self, request, answer):
+        """Counts what delay units and sums of cosines met."""
+        machine, after = request.machine, answer.machine
+        self.kinds["delay memory changed"] += bool(answer.changed)
+        self.kinds["turns in 0100 that are heard"] += cosines_heard(machine)
+        self.kinds.update(delay_events(machine, after))
         if request.name != EQUAL:
             self.count_echoes(machine, after)
 
@@ -226,6 +288,8 @@ class Met:
     def count_refused(self, request, number):
         """Counts a refused pass: by which question, and which of 10, 11, 12 it fails as well."""
         self.kinds[f"refused by {number}"] += 1
+        if request.name.startswith(EVERY):
+            self.once["words damaged"].add(request.name)
         self.kinds["refused by 2 for a delay unit"] += number == 2 and "delay unit" in request.name
         self.kinds["refused by 2 for the count"] += request.name.startswith(OTHER_COUNT)
         if number == 10:
@@ -243,16 +307,18 @@ class Met:
 def main(arguments):
     """Reads the arguments; see the head of this file."""
     options = read_arguments(arguments, COUNT, SEED)
-    pairs = all_requests(options.count, options.seed)
+    test, pairs = PASSES.by(options), all_requests(options.count, options.seed, options.text)
+    promised = PROMISED if options.text is NEW_TEXT else PROMISED_OLD
 
     def asked():
         met = Met()
-        status = compared(PASSES, pairs, met.count, options.dry)
+        status = compared(test, pairs, met.count, options.dry)
         met.kinds["values of T"] = len(met.ticks)
+        met.kinds.update({kind: len(found) for kind, found in met.once.items()})
         print(f"met: {counts(met.kinds)}\nT from {min(met.ticks)} to {max(met.ticks)}")
-        return met_seldom(met.kinds, PROMISED, options.count, COUNT) or status
+        return met_seldom(met.kinds, promised, options.count, COUNT) or status
 
-    return run(PASSES, options, asked, pairs, answered)
+    return run(test, options, asked, pairs, answered)
 
 
 if __name__ == "__main__":

@@ -6,7 +6,6 @@ would take the reference too long has it worked out here.
 """
 
 import os
-import random
 from collections import Counter
 from typing import NamedTuple
 
@@ -16,12 +15,13 @@ from library import ROOT
 from delay_requests import (Echoes, delay_events, put_invoking, put_stray, put_units,
                             with_bad_line, with_unit_twice)
 from leaf_requests import biased
-from pass_requests import DAMAGES, put_controls, put_generators, put_modifiers
+from pass_requests import damages, put_controls, put_generators, put_modifiers
 from reference import layout
 from reference.cases.benches import NOT_FITTING, TONE
 from reference.delay import units_named
-from reference.machine import fresh_machine
-from reference.ring import FILE_MOST, PASSES_MOST, ring
+from reference.machine import fresh_machine, generator_words
+from reference.ring import FILE_MOST, PASSES_MOST, bench_file, ring
+from texts import NEW_TEXT, Chance
 from update_requests import REFUSED, commands_of, put_lingering, put_stopped, put_ticks
 
 
@@ -35,13 +35,14 @@ class File(NamedTuple):
     at_random: bool = False
 
 
-def file(name, text, at_random=False):
-    """A file that prints what the reference says."""
+def file(name, text, at_random=False, delays=True):
+    """A file that prints what the reference says; what delay units met is counted if asked."""
     met, echoes = Counter(), Echoes()
 
     def seen(before, after):
-        met.update(delay_events(before, after))
-        met["line, a word came back"] += echoes.came_back(before, after)
+        if delays:
+            met.update(delay_events(before, after))
+            met["line, a word came back"] += echoes.came_back(before, after)
 
     return File(name, text, ring(text, seen), met, at_random)
 
@@ -73,15 +74,22 @@ EXAMPLE = bench(2, ((7, 4095), (10, 962), (21, 128), (4113, 2)))
 EXAMPLE_PRINTED = b"pass=1 left=0 right=0\npass=2 left=131040 right=0\n"
 
 
+def examples(text=NEW_TEXT):
+    """The bench files of examples/ that follow a text, by name."""
+    folder, made = os.path.join(ROOT, "examples"), {}
+    for name in sorted(name for name in os.listdir(folder) if name.endswith(".txt")):
+        with open(os.path.join(folder, name), "rb") as example:
+            made[name] = example.read()
+    return {name: words for name, words in made.items() if bench_file(words).text is text.reference}
+
+
 def shown():
     """The example of the scope, printed as it stands there, and every file of examples/ but the long bell."""
     yield known("the example of the scope", EXAMPLE, EXAMPLE_PRINTED)
-    folder = os.path.join(ROOT, "examples")
-    names = sorted(name for name in os.listdir(folder) if name.endswith(".txt") and name != "bell.txt")
-    assert {"short_bell.txt", "belfry.txt"} <= set(names), "an example is missing"
-    for name in names:
-        with open(os.path.join(folder, name), "rb") as example:
-            made = file(f"examples/{name}", example.read())
+    texts = examples()
+    assert {"short_bell.txt", "belfry.txt", "bell.txt"} <= set(texts), "an example is missing"
+    for name in sorted(set(texts) - {"bell.txt"}):
+        made = file(f"examples/{name}", texts[name])
         assert name != "belfry.txt" or echo_lines(made.printed) > 200, "the belfry has no echo"
         yield made
 
@@ -360,23 +368,33 @@ def by_hand():
 
 def put_feeders(chance, machine, t):
     """Some generators below T feed DAC 0 or 1, mostly from words that others add into."""
-    modes = [layout.run_mode(machine[layout.generator_at(g) + layout.GMODE]) for g in range(t)]
-    adding = [g for g in range(t) if layout.RUN_MODES[modes[g]].adding]
+    text = chance.text
+    adding = [g for g in range(t) if text.reference.adds(generator_words(machine, g))]
     sums = [machine[layout.generator_at(g) + layout.GSUM] for g in adding or range(t)]
     for g in chance.sample(range(t), (t + 2) // 4):
         at = layout.generator_at(g)
-        machine[at + layout.GO] = machine[at + layout.GO] & ~15 | chance.randrange(2)
+        text.put_dac(machine, at, chance.randrange(2))
         machine[at + layout.GFM] = chance.choice(sums) | chance.choice((0, 0, 0, 64))
-        machine[at + layout.GMODE] = layout.with_run_mode(machine[at + layout.GMODE],
-                                                          layout.WRITE_DAC)
+        text.put_mode(chance, machine, at, layout.WRITE_DAC)
+        if chance.randrange(4):
+            text.put_heard(machine, at)
 
 
-def without_data(machine):
-    """Generators that read or write data run instead."""
+def run_instead(chance, machine, *roles):
+    """Generators that have one of these roles run instead."""
     for g in range(layout.GENERATORS):
-        place = layout.generator_at(g) + layout.GMODE
-        if layout.run_mode(machine[place]) in (layout.READ_DATA, layout.WRITE_DATA):
-            machine[place] = layout.with_run_mode(machine[place], layout.RUNNING_A)
+        words = generator_words(machine, g)
+        if any(holds(words) for holds in roles):
+            chance.text.put_mode(chance, machine, layout.generator_at(g), layout.RUNNING_A)
+
+
+def without_data(chance, machine):
+    """Mostly no generator reads or writes data; now and then some do, or only write."""
+    text, kind = chance.text.reference, chance.randrange(20)
+    if kind > 2:
+        run_instead(chance, machine, text.reads, text.writes)
+    if kind in (1, 2):
+        run_instead(chance, machine, text.reads)
 
 
 def put_heard(chance, machine, t):
@@ -385,9 +403,10 @@ def put_heard(chance, machine, t):
              if layout.function(machine[layout.modifier_at(m) + layout.MMODE])
              == layout.INVOKE_DELAY_UNIT]
     for g in range(t if named else 0):
-        at = layout.generator_at(g)
-        if layout.run_mode(machine[at + layout.GMODE]) == layout.WRITE_DAC and chance.randrange(2):
-            machine[at + layout.GFM] = 64 | machine[chance.choice(named) + layout.MSUM] & 63
+        feeds = chance.text.reference.dac_fed(generator_words(machine, g)) is not None
+        if feeds and chance.randrange(2):
+            place = layout.generator_at(g) + layout.GFM
+            machine[place] = 64 | machine[chance.choice(named) + layout.MSUM] & 63
 
 
 def put_delay_units(chance, machine, t):
@@ -426,8 +445,7 @@ def drawn_machine(chance):
     if chance.randrange(3):
         put_lingering(chance, machine)
         machine[layout.LINGER_PASS] = (machine[layout.COUNTER] + chance.randrange(4)) % (1 << 20)
-    if chance.randrange(10):
-        without_data(machine)
+    without_data(chance, machine)
     if chance.randrange(4):
         machine = put_delay_units(chance, machine, t)
     return machine
@@ -468,12 +486,12 @@ def drawn_commands(chance, machine):
     return commands
 
 
-def drawn_bench(chance):
+def drawn_bench(chance, with_commands=True):
     """A bench file that fits; one of ten has a word beyond its width or range."""
     machine = drawn_machine(chance)
-    commands = drawn_commands(chance, machine)
+    commands = drawn_commands(chance, machine) if with_commands else []
     if not chance.randrange(10):
-        _, place, keep, set_bits = chance.choice(DAMAGES)
+        _, place, keep, set_bits = chance.choice(damages(chance.text))
         machine[place] = machine[place] & keep | set_bits
     passes = chance.choice((0, 1, 2, 3, 5, 8, 13, 13, 21, 21))
     return bench(passes, drawn_words(chance, machine), commands)
@@ -526,7 +544,7 @@ DAMAGE = (damaged_byte, damaged_byte, damaged_lines, damaged_line, cut)
 
 def at_random(count, seed):
     """So many files, a third of them damaged."""
-    chance = random.Random(seed)
+    chance = Chance(seed)
     for number in range(count):
         text, name = drawn_bench(chance), "drawn"
         if number % 3 == 2:

@@ -93,7 +93,7 @@ def met_by(files):
     return met
 
 
-def compared(title, program, files, options, environment=None):
+def compared(title, program, files, options, environment=None, promised=None):
     """Compares a program with the reference on files; prints the outcome, gives the exit status.
 
     A dry run makes the files and what they print, and runs nothing."""
@@ -116,4 +116,5 @@ def compared(title, program, files, options, environment=None):
     print(f"{title}: {len(runs)} files and {lines} lines {did}, {differ} differ")
     print(f"met: {counts(met_by(tried))}")
     at_random = [one for one in tried if one.at_random]
-    return met_seldom(met_by(at_random), PROMISED, len(at_random), PROMISED_OF) or int(differ > 0)
+    promised = PROMISED if promised is None else promised
+    return met_seldom(met_by(at_random), promised, len(at_random), PROMISED_OF) or int(differ > 0)

@@ -1,14 +1,14 @@
 """Compares the program sorted with the reference.
 
-    python3 tests/sorted.py [--dry] [--fault NAME] [COUNT] [SEED]
+    python3 tests/sorted.py [--text old] [--dry] [--fault NAME] [COUNT] [SEED]
 
-target/bin/sorted must be built. Within a stack of 512 kB it sorts the bench files of tests/files and examples, those by hand in
+target/bin/sorted must be built. With --text old most bells follow the older text. Within a stack of 512 kB it sorts the bench files of tests/files and examples, those by hand in
 tests/ring_files.py and those of COUNT bells at random, by pitch and by order files, good and bad. All
 lines must be the reference's. Where a point fails, the word or the written item must be the first at
 which passes of the reference by the two orders differ, from the contents that karvelorn_parts gives:
 tests/contents.c is built for that with target/staticlib/libkarvelorn.a (which it has rt make where it
-is missing or older than the code). Some orders that the program printed are handed back to it. Last
-come files and streams that cannot be read or written, or come in pieces. Fails too where an outcome
+is missing or older than the code). Some orders that the program printed are handed back to it. Last,
+but for the older text, come files and streams that cannot be read or written, or come in pieces. Fails too where an outcome
 was met too seldom. With --fault the reference has one fault of reference/faults.py on: the comparison
 must fail. With --dry nothing is built or run: it says what the inputs met, with the reference's own
 contents; with --fault it says for how many inputs the fault shows.
@@ -31,14 +31,15 @@ from typing import NamedTuple
 from library import ROOT, Test, build, counts, met_seldom, packed, read_arguments, unpacked
 
 from reference import layout
-from reference.cases.parts import settings
+from reference.cases.old_orders import settings
 from reference.faults import switched_on
-from reference.machine import below_t_in
+from reference.machine import below_t
 from reference.parts import parting
 from reference.sorted import by_pitch, shown, sorted_text
 from ring_files import EXAMPLE
 from ringing import small_stack
 from sorted_requests import all_inputs
+from texts import NEW_TEXT, OLD_TEXT
 
 COUNT, SEED = 500, 1978
 PROGRAM = os.path.join(ROOT, "target", "bin", "sorted")
@@ -60,6 +61,12 @@ PROMISED = {
     # Which words show a difference.
     "a generator's word": 20, "a sum word": 20, "a DAC's word": 20, "written, 1 digits": 20, "written, 2 digits": 10,
     "written, 3 digits": 10,
+}
+# With COUNT bells of the older text or more.
+PROMISED_OLD = {
+    **{outcome: 30 for outcome in (*OUTCOMES, "refused=13")},
+    "inputs": 2000, "by pitch": 300, "by an order file": 300, "values of T": 140, "T 256": 20, "handed back": 80,
+    "equal, not by number": 100, "a generator's word": 20, "a sum word": 20, "a DAC's word": 20, "written, 1 digits": 20,
 }
 PITCH_FAULTS = ("pitch_unsigned", "pitch_not_by_magnitude", "pitch_of_28_bits", "higher_number_first")
 
@@ -112,19 +119,20 @@ CONTENTS = Test("contents", None, None, None)
 def contents_request(verdict):
     """What is asked of tests/contents.c for unequal orders."""
     runs = verdict.machine, verdict.first, verdict.second
-    readers = below_t_in(verdict.machine, layout.READ_DATA)
+    readers = below_t(verdict.machine, verdict.text.reads)
     return HEAD.pack(*map(len, runs), readers) + b"".join(map(packed, runs))
 
 
 def contents_answers(batch):
-    """For each verdict that names a point: contents and items of the library, by its number and point."""
-    done = subprocess.run([CONTENTS.program], input=b"".join(map(contents_request, batch)), stdout=subprocess.PIPE,
-                          check=True)
+    """For each verdict of one text that names a point: the library's contents and items, by its number and point."""
+    text = next(text for text in (NEW_TEXT, OLD_TEXT) if text.reference is batch[0].text)
+    done = subprocess.run([CONTENTS._replace(text=text).program], input=b"".join(map(contents_request, batch)),
+                          stdout=subprocess.PIPE, check=True)
     at = 0
     for verdict in batch:
         number, point, place = NUMBERS.unpack_from(done.stdout, at)
         at += NUMBERS.size
-        words = layout.MACHINE_WORDS + below_t_in(verdict.machine, layout.READ_DATA)
+        words = layout.MACHINE_WORDS + below_t(verdict.machine, verdict.text.reads)
         run_words = unpacked(done.stdout[at:at + 4 * words])
         at += 4 * words
         said = b"point=%d place=%d " % (point, place)
@@ -133,16 +141,22 @@ def contents_answers(batch):
     assert at == len(done.stdout)
 
 
+def batches(verdicts):
+    """The verdicts, some at a time, each time of one text."""
+    for text in (NEW_TEXT, OLD_TEXT):
+        its = [verdict for verdict in verdicts if verdict.text is text.reference]
+        yield from (its[at:at + BATCH] for at in range(0, len(its), BATCH))
+
+
 def wanted(verdicts, dry):
     """What must be printed for each verdict."""
-    parted = [verdict for verdict in verdicts if verdict.point]
     ends = {}
-    for at in range(0, len(parted), BATCH):
-        batch = parted[at:at + BATCH]
+    for batch in batches([verdict for verdict in verdicts if verdict.point]):
         found = [parting(*verdict[2:]) for verdict in batch] if dry else contents_answers(batch)
         for verdict, (contents, items) in zip(batch, found):
-            assert settings(contents) == settings(verdict.machine), "contents have other settings"
-            ends[id(verdict)] = shown(contents, items, verdict.first, verdict.second)
+            same = settings(contents, verdict.text) == settings(verdict.machine, verdict.text)
+            assert same, "contents have other settings"
+            ends[id(verdict)] = shown(contents, items, *verdict[3:])
     return [verdict.printed + ends.get(id(verdict), b"") for verdict in verdicts]
 
 
@@ -356,22 +370,26 @@ def outside_differing():
 def main(arguments):
     """Reads the arguments; see the head of this file."""
     options = read_arguments(arguments, COUNT, SEED)
-    inputs = list(all_inputs(options.count, options.seed))
+    inputs = list(all_inputs(options.count, options.seed, options.text))
     if options.dry:
         differ, met = 0, dry_run(inputs, options.fault)
         if met is None:
             return 0
         met["handed back"] = sum(tried.again for tried in inputs)
     else:
-        build(CONTENTS)
+        # Files of 1978 stand among those of the older text.
+        for text in {NEW_TEXT, options.text}:
+            build(CONTENTS._replace(text=text))
         differ, met = compared(inputs, options.fault)
-        differ += outside_differing()
+        if options.text is NEW_TEXT:
+            differ += outside_differing()
     report(met)
     rare = [outcome for outcome in OUTCOMES if met[outcome] < OUTCOME_LEAST]
     for outcome in rare:
         print(f"FAIL: {outcome} met {met[outcome]} times, promised {OUTCOME_LEAST}")
     # Those by hand are as many for any count.
-    seldom = met_seldom(met, PROMISED, min(options.count, COUNT), COUNT)
+    promised = PROMISED if options.text is NEW_TEXT else PROMISED_OLD
+    seldom = met_seldom(met, promised, min(options.count, COUNT), COUNT)
     print(f"{met['inputs']} inputs, {differ} differ")
     return 1 if differ or rare or seldom else 0
 

@@ -7,7 +7,6 @@ that are no bench file or no order file stand between them.
 """
 
 import os
-import random
 from typing import NamedTuple
 
 # First, since it makes the reference known.
@@ -16,7 +15,7 @@ from library import ROOT
 from compare_requests import put_settings
 from leaf_requests import biased
 from part_requests import put_parting_settings
-from pass_requests import (BAD_ORDERS, DAMAGES, good_order, put_controls, put_modifiers, swapped,
+from pass_requests import (BAD_ORDERS, damages, good_order, put_controls, put_modifiers, swapped,
                            walked)
 from reference import layout
 from reference.cases.sortings import NOT_TAKEN
@@ -24,8 +23,10 @@ from reference.machine import fresh_machine, put_update_ticks, refusal
 from reference.ring import FILE_MOST, PASSES_MOST, bench_file, first_machine
 from reference.sorted import by_pitch, order_lines
 from reference.words import low
-from ring_files import (DAMAGE, bench, delay_files, drawn_bench, drawn_commands, drawn_words, not_fitting,
+from ring_files import (DAMAGE, bench, delay_files, drawn_bench, drawn_commands, drawn_words, examples, not_fitting,
                         numbers, ringing, sizes)
+from text_files import NEW_LINE, OLD_LINE, OTHER_TEXTS, drawn, made_by_hand
+from texts import NEW_TEXT, OLD_TEXT, Chance
 
 
 class Input(NamedTuple):
@@ -148,25 +149,33 @@ def bell(chance, number):
     if chance.randrange(3) == 0:
         put_other_words(chance, machine, t)
     put_update_ticks(machine)
-    assert refusal(machine) == 0
+    assert refusal(machine, chance.text.reference) == 0
     return machine, f"bell {number}, T {t}, {kind}, {pitches.__name__}"
 
 
 def commands(chance, machine):
-    """Commands, mostly none; some that would change T, a mode or a pitch."""
-    if chance.randrange(4):
+    """Commands, mostly none, and hardly any in an old file; some that would change T, a mode or a pitch."""
+    if chance.randrange(4 if chance.text is NEW_TEXT else 24):
         return []
     # TICKS: T 1, 2 or 256; GMODE of generator 0 to write data; GJ of generator 0, left-adjusted.
     some = [chance.choice((0x00000180, 0x00001180, 0x000FF180, 0x06000A00, 0x7FFFF500)) for _ in range(3)]
     return drawn_commands(chance, machine) + some
 
 
+def text_line(chance):
+    """The first line of a file: none by 1978; in an old one, now and then, another."""
+    if chance.text is NEW_TEXT:
+        return b""
+    other = b"text=" + chance.choice(OTHER_TEXTS) + b"\n"
+    return chance.choice((OLD_LINE,) * 16 + (other, other, NEW_LINE, b""))
+
+
 def text_of(chance, machine):
     """A bench file of a machine: its words in any sequence, any number of passes, commands."""
     words = drawn_words(chance, machine) if machine != fresh_machine() else []
-    passes = chance.choice((0, 1, 2, PASSES_MOST))
-    made = bench(passes, words, commands(chance, machine))
-    return made if len(made) <= FILE_MOST else bench(passes, words)
+    passes, line = chance.choice((0, 1, 2, PASSES_MOST)), text_line(chance)
+    made = line + bench(passes, words, commands(chance, machine))
+    return made if len(made) <= FILE_MOST else line + bench(passes, words)
 
 
 # Orders
@@ -225,7 +234,7 @@ def bad_order(chance, machine, number):
 
 def damaged_machine(chance, machine):
     """A copy with a word beyond its width or range, or a mode that is not built, and what was done."""
-    name, place, keep, put = chance.choice(DAMAGES)
+    name, place, keep, put = chance.choice(damages(chance.text))
     other = list(machine)
     other[place] = other[place] & keep | put
     return other, name
@@ -275,26 +284,29 @@ def of_bell(chance, number):
 
 # Files that stand in the repository, and those that tests/ring_files.py makes by hand
 
-def files():
-    """The bench files of tests/files and examples: by pitch, by number, backwards, and one entry short."""
-    for folder, ending in (("tests/files", ".bench"), ("examples", ".txt")):
-        for name in sorted(os.listdir(os.path.join(ROOT, folder))):
-            if not name.endswith(ending):
-                continue
+def written_out():
+    """The bench files of tests/files."""
+    folder = os.path.join("tests", "files")
+    for name in sorted(os.listdir(os.path.join(ROOT, folder))):
+        if name.endswith(".bench"):
             with open(os.path.join(ROOT, folder, name), "rb") as file:
-                text = file.read()
-            yield Input(f"{folder}/{name}", text, None, True)
-            read = bench_file(text)
-            t = first_machine(read[1])[layout.T] if read else 1
-            order = list(range(min(t, 256)))
-            yield Input(f"{folder}/{name}, by number", text, order_lines(order))
-            yield Input(f"{folder}/{name}, backwards", text, order_lines(order[::-1]), True)
-            yield Input(f"{folder}/{name}, one short", text, order_lines(order[1:]))
+                yield f"{folder}/{name}", file.read()
 
 
-def of_ring():
+def files(named):
+    """Bench files by name: by pitch, by number, backwards, and one entry short."""
+    for name, text in named:
+        yield Input(name, text, None, True)
+        read = bench_file(text)
+        t = first_machine(read.words)[layout.T] if read else 1
+        order = list(range(min(t, 256)))
+        yield Input(f"{name}, by number", text, order_lines(order))
+        yield Input(f"{name}, backwards", text, order_lines(order[::-1]), True)
+        yield Input(f"{name}, one short", text, order_lines(order[1:]))
+
+
+def of_ring(groups):
     """Files at the limits, and texts that are none; some with an order file."""
-    groups = (ringing, delay_files, numbers, sizes, not_fitting)
     for number, (name, text) in enumerate(made for group in groups for made in group()):
         yield Input(name, text)
         if number % 10 == 0:
@@ -400,14 +412,24 @@ def at_the_end():
 
 # The whole of the inputs
 
-def all_inputs(count, seed):
-    """Those by hand, then those of so many bells, then some of the bench files of tests/ring.py."""
-    chance = random.Random(seed)
-    yield from files()
+def by_hand(text):
+    """All that are made by hand."""
+    yield from files((f"examples/{name}", words) for name, words in examples(text).items())
+    if text is OLD_TEXT:
+        yield from of_ring((made_by_hand,))
+        return
+    yield from files(written_out())
     yield from order_files()
     yield from at_the_end()
-    yield from of_ring()
+    yield from of_ring((ringing, delay_files, numbers, sizes, not_fitting))
+
+
+def all_inputs(count, seed, text=NEW_TEXT):
+    """Those by hand, then those of so many bells, then some of the bench files of tests/ring.py."""
+    chance = Chance(seed, text)
+    yield from by_hand(text)
     for number in range(count):
         yield from of_bell(chance, number)
         if number % 5 == 0:
-            yield Input(f"drawn as for ring, {number}", drawn_bench(chance), chance.choice((None, None, b"order=0\n")))
+            made = drawn(chance) if text is OLD_TEXT else drawn_bench(chance)
+            yield Input(f"drawn as for ring, {number}", made, chance.choice((None, None, b"order=0\n")))

@@ -5,7 +5,6 @@ the reference's answer; the machine that it leaves goes into the next request of
 chain. Bits of a command are numbered as in the 1978 text: 4 to 35 from the left.
 """
 
-import random
 from typing import NamedTuple
 
 from leaf_requests import biased
@@ -15,6 +14,7 @@ from reference.machine import put_update_ticks
 from reference.modifier import FORMULAS
 from reference.update import limit, run_update
 from reference.words import low
+from texts import Chance
 
 
 class Request(NamedTuple):
@@ -357,9 +357,9 @@ def put_lingering(chance, machine):
 def put_stopped(chance, machine):
     """Some generators in 0001 and 1001, for MISC; the first and the last are often among them."""
     for g in (0, 1, 254, 255, chance.randrange(256), chance.randrange(256)):
-        place = layout.generator_at(g) + layout.GMODE
-        mode = chance.choice((layout.PAUSE, layout.WAIT, layout.run_mode(machine[place])))
-        machine[place] = layout.with_run_mode(machine[place], mode)
+        mode = chance.choice((layout.PAUSE, layout.WAIT, None))
+        if mode is not None:
+            chance.text.put_mode(chance, machine, layout.generator_at(g), mode)
 
 
 # The whole of the requests
@@ -387,7 +387,7 @@ def chained(chance, machine, number):
 
 def all_requests(count, seed):
     """So many requests, each with the reference's answer, one machine after the other."""
-    chance = random.Random(seed)
+    chance = Chance(seed)
     pool = [whole_machine(chance) for _ in range(8)]
     made, number = 0, 0
     while made < count:

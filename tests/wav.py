@@ -1,9 +1,10 @@
 """Compares the program wav with what ring prints: each frame is the line's two numbers times 16, the rate is that of N, and
 where ring prints a refusal nothing is heard. Python's `wave`, sox and soxi read the files.
 
-    python3 tests/wav.py [COUNT] [SEED]
+    python3 tests/wav.py [--text old] [COUNT] [SEED]
 
-target/bin/ring and target/bin/wav must be built; wav runs in a stack of 1 MB.
+target/bin/ring and target/bin/wav must be built; wav runs in a stack of 1 MB. With --text old the files are those of
+tests/text_files.py, with text= lines.
 """
 
 import io
@@ -18,14 +19,18 @@ from collections import Counter
 from fractions import Fraction
 
 import ring_files
-from library import ROOT
+import text_files
+from library import ROOT, read_arguments
+from texts import NEW_TEXT
 
 COUNT, SEED = 300, 24
 RING, WAV = (os.path.join(ROOT, "target", "bin", name) for name in ("ring", "wav"))
 STACK = 1 << 20
 N_AT = 4114
-# Which refusals the files must have met.
-REFUSALS = {2, 3, 4, 7, 8, 9, 11, 12}
+# Which refusals the files must have met, and how many must be heard; by 1978 and with text= lines.
+REFUSALS, REFUSALS_OLD = {2, 3, 4, 7, 8, 9, 11, 12}, {2, 7, 8, 9, 13}
+HEARD, HEARD_OLD = 1100, 300
+NO_PASSES = re.compile(rb"(text=(old|1978)\n)?passes=0\n")
 
 
 def small_stack():
@@ -88,6 +93,22 @@ def texts(count, seed):
     yield ring_files.bench(65535, ((0, 0), (7, 4095), (10, 962), (21, 128), (4113, 2)))
 
 
+def old_texts(count, seed):
+    """Those with a text= line: the example, those by hand and random ones."""
+    yield from ring_files.examples(text_files.OLD_TEXT).values()
+    yield from (text for _, text in text_files.made_by_hand())
+    yield from (text for _, text in text_files.drawn_texts(count, seed))
+
+
+def no_passes_old():
+    """An old file of no passes: question 2 by the older text is asked before the rate."""
+    for line, word, refused in ((b"text=old\n", (10, 0b01000001), b""), (b"text=old\n", (10, 962), b"refused=2\n"),
+                                (b"text=old\n", (10, 0b01000000), b"refused=2\n"), (b"text=1978\n", (10, 962), b""),
+                                (b"text=new\n", (10, 962), b"refused=13\n")):
+        done = run(WAV, line + ring_files.bench(0, (word,)))
+        assert (done.stdout, done.stderr) == (b"" if refused else file_of([], 265), refused), (line, word)
+
+
 def no_passes():
     """A file of no passes: question 2 is asked before the rate."""
     assert run(WAV, b"passes=0\n").stdout == file_of([], 265)
@@ -123,27 +144,37 @@ def players(text, made, printed):
         assert raw.stdout == made[44:] and not raw.stderr, raw.stderr
 
 
-def main(arguments):
-    count, seed = (int(word) for word in (arguments + [COUNT, SEED])[:2]) if len(arguments) != 1 else (int(arguments[0]), SEED)
-    ring_files.ring = lambda text, seen: b""  # what is printed is asked of ring, which tests/ring.py compares with the reference
+def compared(files):
+    """What wav makes of files beside what ring prints: what they met, and how many differ."""
     met, differ = Counter(), 0
-    for text in texts(count, seed):
+    for text in files:
         printed = run(RING, text).stdout
         done = run(WAV, text)
-        wanted = expected(text, printed) if not text.startswith(b"passes=0\n") else (done.stdout, done.stderr)
+        nothing = not printed and NO_PASSES.match(text)
+        wanted = (done.stdout, done.stderr) if nothing else expected(text, printed)
         if (done.stdout, done.stderr) != wanted:
             differ += 1
             print(f"wav differs from ring: {text[:200]!r}: {done.stdout[:60]!r} {done.stderr[:60]!r}")
         met["files"] += 1
         met["frames"] += max(0, len(done.stdout) - 44) // 6
         met[done.stderr.decode().strip() or "heard"] += 1
-    no_passes()
-    outside()
-    for name in ("bell", "short_bell"):
-        with open(os.path.join(ROOT, "examples", name + ".txt"), "rb") as file:
-            text = file.read()
+    return met, differ
+
+
+def main(arguments):
+    options = read_arguments(arguments, COUNT, SEED)
+    new = options.text is NEW_TEXT
+    ring_files.ring = lambda text, seen: b""  # what is printed is asked of ring, which tests/ring.py compares with the reference
+    met, differ = compared((texts if new else old_texts)(options.count, options.seed))
+    (no_passes if new else no_passes_old)()
+    if new:
+        outside()
+    played = ("bell", "short_bell") if new else ("old_bell",)
+    for name in played:
+        text = ring_files.examples(options.text)[name + ".txt"]
         players(text, run(WAV, text).stdout, run(RING, text).stdout)
-    seldom = [f"refused={n}" for n in REFUSALS if not met[f"refused={n}"]] + (["heard"] if met["heard"] < 1100 else [])
+    refusals, heard = (REFUSALS, HEARD) if new else (REFUSALS_OLD, HEARD_OLD)
+    seldom = [f"refused={n}" for n in refusals if not met[f"refused={n}"]] + (["heard"] if met["heard"] < heard else [])
     print(f"{met['files']} files, {met['frames']} frames: {differ} differ; " + ", ".join(f"{name} {met[name]}" for name in sorted(met) if name.startswith(("refused", "heard"))))
     if seldom:
         print(f"met too seldom: {', '.join(seldom)}")
