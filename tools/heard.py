@@ -1,0 +1,166 @@
+#!/usr/bin/env python3
+"""Makes a bench file heard and seen: its sound (.wav) and its picture (.png) beside it, and the table of its partials.
+
+    karvelorn hear [FILE]
+
+FILE is a bench file, or a recording, of which only the picture is made. What stood there before is set aside first, so that after
+a refusal, a failure or an interruption no older sound or picture is taken for this file's. A sound needs the proved program wav
+alone; a picture needs numpy, scipy and matplotlib, and is made by tools/picture.py.
+"""
+
+import importlib.util
+import os
+import re
+import subprocess
+import sys
+import tempfile
+from typing import NamedTuple
+
+import questions
+import sounds
+from building import built
+from command_line import HOME, IN_REPOSITORY, Ending, Parser, Status, read_file, say, start, tell
+from outputs import destination, made_here, set_aside, write_whole
+from rung import file_of, said_by
+
+EXAMPLE = HOME / "examples" / "bell.txt"
+REFUSED = re.compile(r"refused=(\d+)")
+WAVE_HEADER, FRAME = 44, 6
+LIBRARIES = ("numpy", "scipy", "matplotlib")
+
+
+class Files(NamedTuple):
+    """The files of a call: what is heard, its table if there is one, and the results (no sound where a recording is seen)."""
+    file: str
+    table: str
+    sound: str
+    picture: str
+
+
+def parser():
+    """What may be asked."""
+    asked = Parser("hear", "Makes a bench file heard and seen: NAME.wav and NAME.png beside NAME.txt, and the table of its partials. Of a recording (WAVE or FLAC)\n"
+                   "the picture and the table are made. An older NAME.wav or NAME.png is set aside (NAME.older.wav) unless a new one takes its place.",
+                   "karvelorn hear bell.txt\nkarvelorn hear --no-picture bell.txt\nkarvelorn hear recording.flac --table bell.csv")
+    asked.add_argument("file", metavar="FILE", nargs="?", help="a bench file or a recording" + (" (examples/bell.txt where none is named)" if IN_REPOSITORY else ""))
+    asked.add_argument("-o", dest="output", metavar="SOUND", help="the sound (NAME.wav where this isn't asked); the picture goes beside it")
+    asked.add_argument("--table", metavar="CSV", help="a table of partials that gives them their names (NAME.csv beside FILE, where there is one)")
+    asked.add_argument("--no-picture", action="store_true", help="only the sound, for which no library is needed")
+    return asked
+
+
+def files_of(asked):
+    """The files of a call, judged before anything is touched."""
+    file = file_of(asked.file, EXAMPLE)
+    if file == "-":
+        raise Ending("name a file: the results are written beside it", Status.MISUSED)
+    recording = sounds.is_sound(read_file(file, 4))
+    if recording and (asked.no_picture or asked.output):
+        raise Ending(f"{file} is a sound already: only its picture is made", Status.MISUSED)
+    beside = os.path.splitext(file)[0] + ".csv"
+    table = asked.table or (beside if os.path.isfile(beside) else None)
+    base = os.path.splitext(asked.output or file)[0]
+    files = Files(file, table, None if recording else asked.output or base + ".wav", base + ".png")
+    for output in filter(None, (files.sound, files.picture)):
+        destination(output, [given for given in (file, table) if given])
+    return files
+
+
+# Sound
+
+def sound_of(file):
+    """The sound of a bench file: the bytes of a WAVE file, whole."""
+    text = read_file(file, questions.FILE_MOST + 1)
+    program, = built("hear", "wav")
+    tell("hear", f"ringing {file}")
+    try:
+        done = subprocess.run([program], input=text, stdout=subprocess.PIPE, stderr=subprocess.PIPE)
+    except OSError as error:
+        raise Ending(f"cannot run {program}: {error.strerror}", Status.MISSING) from None
+    told = done.stderr.decode(errors="replace").strip()
+    refused = REFUSED.fullmatch(told)
+    if refused:
+        raise Ending("\n".join([f"{file} makes no sound: {told}", *questions.refusal(file, int(refused[1]), text)]))
+    bench, _ = questions.read(text)
+    if done.returncode or told or bench is None or len(done.stdout) != WAVE_HEADER + FRAME * bench.passes:
+        raise said_by("wav", told)
+    return done.stdout
+
+
+# Picture
+
+def need_libraries():
+    """A picture needs libraries; what isn't there is named with the command that installs it."""
+    missing = [name for name in LIBRARIES if importlib.util.find_spec(name) is None]
+    if missing:
+        raise Ending(f"no picture was made: {', '.join(missing)} {'is' if len(missing) == 1 else 'are'} needed for it: apt install {' '.join(f'python3-{name}' for name in missing)}", Status.MISSING)
+
+
+def readable(path, folder):
+    """A sound as tools/picture.py reads it: a recording of another kind than 24 bits is written so in a folder."""
+    copy = os.path.join(folder, os.path.splitext(os.path.basename(path))[0] + ".wav")
+    with open(copy, "wb") as file:
+        file.write(sounds.as_24_bits(*sounds.read(path)))
+    return copy
+
+
+def seen(files):
+    """Measures and draws a sound; prints the table of partials and writes the picture."""
+    need_libraries()
+    tell("hear", "measuring and drawing")
+    with tempfile.TemporaryDirectory(prefix="karvelorn-") as folder:
+        sound, picture = files.sound or readable(files.file, folder), os.path.join(folder, "picture.png")
+        table = ["--table", files.table] if files.table else []
+        done = subprocess.run([sys.executable, str(HOME / "tools" / "picture.py"), sound, "-o", picture, *table], stdin=subprocess.DEVNULL, stdout=subprocess.PIPE, stderr=subprocess.PIPE,
+                              env={**os.environ, "PYTHONIOENCODING": "utf-8", "PYTHONDONTWRITEBYTECODE": "1"})
+        told = done.stderr.decode(errors="replace").strip()
+        drawn = read_file(picture) if os.path.isfile(picture) else b""
+    if drawn:
+        write_whole({files.picture: drawn}, [files.file])
+        tell("hear", f"wrote {files.picture}")
+    if done.stdout:
+        say(done.stdout.decode(errors="replace"), end="")
+    if done.returncode or not drawn:
+        known = done.returncode in (Status.REFUSED, Status.UNREAD, Status.UNWRITTEN, Status.MISSING)
+        sentence = told if "Traceback" not in told else told.splitlines()[-1]
+        raise Ending(sentence.removeprefix("picture: ") or "the picture can't be made", Status(done.returncode) if known else Status.UNLIKE)
+    if told:
+        tell("hear", told)
+
+
+# Older files
+
+def kept(asides):
+    """What hear had made before goes where a new one has taken its place; all else stays under its other name, and is told."""
+    for path, aside in asides.items():
+        if not os.path.exists(path):
+            tell("hear", f"{path} was there from before and is not of this ringing: it is now {os.path.basename(aside)}")
+        elif made_here(aside):
+            os.unlink(aside)
+        else:
+            tell("hear", f"what was {path} was not made by hear: it is kept as {os.path.basename(aside)}")
+
+
+def set_older_aside(files):
+    """Sets aside what stands where the results go; answers the other names."""
+    outputs = filter(None, (files.sound, files.picture))
+    return {path: aside for path in outputs if (aside := set_aside(path))}
+
+
+def main(arguments):
+    asked = parser().parse_args(arguments)
+    files = files_of(asked)
+    asides = set_older_aside(files)
+    try:
+        if files.sound:
+            write_whole({files.sound: sound_of(files.file)}, [files.file])
+            tell("hear", f"wrote {files.sound}")
+        if not asked.no_picture:
+            seen(files)
+    finally:
+        kept(asides)
+    return Status.DONE
+
+
+if __name__ == "__main__":
+    start("hear", main)
