@@ -115,9 +115,25 @@ def two_at_once(home, bell):
     return 1
 
 
+def cut_off(home, bell):
+    """Programs that end before their end, killed or not, or say that they can't read or write: no status 0, and no short sound."""
+    (home / "bin" / "rt").unlink()
+    for script, status in (("exit 0", Status.FAULT), ("{real} | head -c 100", Status.FAULT), ("{real}; kill -9 $$", Status.FAULT), ("echo {name}: cannot read >&2", Status.UNREAD), ("{real} | head -c 60; echo {name}: cannot write >&2", Status.UNWRITTEN)):
+        for command, name in (("hear", "wav"), ("run", "ring")):
+            program = home / "target" / "bin" / name
+            program.parent.mkdir(exist_ok=True, parents=True)
+            program.unlink(missing_ok=True)
+            program.write_text("#!/bin/sh\n" + script.format(real=ROOT / "target" / "bin" / name, name=name) + "\n")
+            program.chmod(0o755)
+            changed(program)
+            ends(run(home / "karvelorn", command, *(["--no-picture"] if command == "hear" else []), bell), status, f"{command}: ")
+            assert "bell.wav" not in names(bell.parent), (script, names(bell.parent))
+    return 10
+
+
 def building(folder):
     """All of them."""
     home, bell = repository(folder), Path(folder, "bells", "bell.txt")
     bell.parent.mkdir()
     shutil.copy(ROOT / "examples" / "short_bell.txt", bell)
-    return built_when_stale(home, bell) + not_built(home, bell) + two_at_once(home, bell)
+    return built_when_stale(home, bell) + not_built(home, bell) + two_at_once(home, bell) + cut_off(home, bell)

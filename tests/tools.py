@@ -181,7 +181,12 @@ def through_links(at, table):
     shutil.copy(SHORT, at / "held.txt")
     refused(call("hear", heard, at / "held.txt"), MISUSED, "is a folder")
     refused(call("hear", heard, at / "held.txt", "-o", table, "--table", table), MISUSED, "is an input")
-    return 6
+    refused(call("hear", heard, at / "held.txt", "-o", at / "other.png"), MISUSED, "the picture goes there")
+    (at / "kept.txt").write_text("write-protected")
+    (at / "kept.txt").chmod(0o444)
+    refused(call("partials", partials, table, "-o", at / "kept.txt"), UNWRITTEN, "write-protected")
+    assert (at / "kept.txt").read_text() == "write-protected" and "kept.report" not in names(at)
+    return 8
 
 
 def limited():
@@ -207,8 +212,14 @@ def older(folder):
     assert (at / "bell.older-2.wav").read_bytes().endswith(b"again") and (at / "bell.wav").read_bytes() == sound
     ends(run(ROOT / "hear", "--no-picture", file, preexec_fn=limited), UNWRITTEN, "cannot write", "bell.wav: File too large", "it is now bell.older-3.wav")
     assert names(folder) == ["bell.older-2.wav", "bell.older-3.wav", "bell.older.png", "bell.older.wav", "bell.txt"], names(folder)
+    (at / "none.wav").write_text("beside a file that isn't there")
     refused(call("hear", heard, at / "none.txt"), UNREAD, "cannot read")
-    return 6 + older_reports(at)
+    assert "none.wav" in names(folder)
+    (at / "broken.txt").symlink_to("/proc/self/mem")  # a file whose reading fails
+    (at / "broken.wav").write_text("older")
+    refused(call("hear", heard, at / "broken.txt"), UNREAD, "cannot read", "it is now broken.older.wav")
+    assert "broken.wav" not in names(folder)
+    return 7 + older_reports(at)
 
 
 def older_reports(at):
@@ -218,6 +229,8 @@ def older_reports(at):
     assert made(at, ONE, file="bell.txt").status == 0
     ends(call("hear", heard, "--no-picture", at / "bell.txt"), 0)
     assert made(at, ONE, file="bell.txt").status == 0 and "bell.wav" in names(at), "the same bench file again: its sound is still its own"
+    refused(call("partials", partials, at / "none.csv", "-o", at / "bell.txt"), UNREAD, "cannot read")
+    assert names(at) == ["bell.report", "bell.txt", "bell.wav", "table.csv"], "a table that isn't there: nothing was tried"
     refused(made(at, HEADS, file="bell.txt"), REFUSED, "bell.report is not of this table: it is now bell.older.report", "bell.wav is not of this table")
     assert names(at) == ["bell.older.report", "bell.older.wav", "bell.txt", "table.csv"], names(at)
     ends(call("hear", heard, "--no-picture", at / "bell.txt"), 0)
@@ -225,7 +238,7 @@ def older_reports(at):
     (at / "bell.wav").write_bytes(b"RIFF, a recording from which the table was made")
     ends(made(at, ONE, file="bell.txt"), 0)
     assert (at / "bell.wav").exists(), "a recording that hear hasn't made stays"
-    return 5
+    return 6
 
 
 # Heard and seen
@@ -310,7 +323,11 @@ def bells(folder):
     refused(call("hear", heard, at / "bad.txt"), UNLIKE, "too little sound")
     assert "bad.wav" in names(folder) and "bad.png" not in names(folder), names(folder)
     assert run("./hear", "-o", at / "other.wav", "--no-picture", file).status == 0 and (at / "other.wav").read_bytes() == (at / "bell.wav").read_bytes()
-    return 6
+    (at / "bell.csv").write_text(HEADS + "hum,low,0,1\n")
+    refused(call("hear", heard, file), REFUSED, "wrote", "no picture was made", "bell.csv: line 2, column 2 (hz): the frequency is not a number", "it is now bell.older.png")
+    assert "bell.wav" in names(folder) and "bell.png" not in names(folder)
+    refused(call("hear", heard, file, "--table", at / "none.csv"), UNREAD, "none.csv")
+    return 8
 
 
 def without_libraries(folder):
@@ -403,6 +420,8 @@ def places(folder):
     for caller in (("./my run",), ("./again",), ("./my karvelorn", "run"), (ROOT / "run",)):
         done = run(*caller, "examples/short_bell.txt", cwd=folder)
         assert (done.status, done.out, done.err) == (0, two, ""), done
+    streams = run("bash", "-c", "'./my compare' <(cat '%s') <(printf 'order=%%s\\n' {0..19})" % BELL, cwd=folder)
+    assert streams.status == 0 and "the same as by number" in streams.out, streams
     assert run("./my run", cwd=folder).out.count("\n") == 40 and run("./my run", "-", cwd=folder, input=b"passes=2\n").out == two
     bell = "Große Glocke d'5"
     shutil.copy(SHORT, at / bell)
@@ -417,7 +436,7 @@ def places(folder):
     assert subprocess.run([str(ROOT / "hear"), "--no-picture", strange], stderr=subprocess.PIPE).returncode == 0 and os.path.exists(strange[:-4] + b".wav")
     (at / "table ü.csv").write_text(ONE)
     assert run("./my karvelorn", "partials", "table ü.csv", "-o", "Glocke eins", cwd=folder).status == 0 and (at / "Glocke eins.report").exists()
-    return 12 + at_once(at)
+    return 13 + at_once(at)
 
 
 def at_once(at):
@@ -468,7 +487,15 @@ def interrupted(folder):
         told = process.communicate(timeout=20)[1]
         os.close(reader)
         assert (process.returncode, told) == (128 + number, "run: interrupted\n"), (process.returncode, told)
-    return 2
+    process = subprocess.Popen([str(ROOT / "hear"), str(file)], stdout=subprocess.PIPE, stderr=subprocess.PIPE, text=True, env={**os.environ, "TMPDIR": folder}, start_new_session=True)
+    while "measuring" not in process.stderr.readline():
+        pass
+    time.sleep(0.3)
+    os.killpg(process.pid, signal.SIGINT)  # as a terminal does: to all of them
+    out, told = process.communicate(timeout=20)
+    assert (process.returncode, out, told) == (Status.INTERRUPTED, "", "hear: interrupted\n"), (process.returncode, told)
+    assert names(folder) == ["bell.txt", "bell.wav"], names(folder)
+    return 3
 
 
 GROUPS = (tables, channels_and_clipping, example, outputs, older, recordings, bells, without_libraries, question_words, helps, completion, places, no_tracebacks, interrupted, building)

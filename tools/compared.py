@@ -8,6 +8,7 @@ words of FILE are looked at only to say what stands behind its findings. Generat
 tools/partials.py beside FILE (NAME.report), if the pitches there are those of FILE.
 """
 
+import os
 import re
 import subprocess
 
@@ -210,7 +211,7 @@ def found(program, text, order_file):
     """The lines that the program prints."""
     command = [program] + ([order_file] if order_file else [])
     try:
-        done = subprocess.run(command, input=text, stdout=subprocess.PIPE, stderr=subprocess.PIPE)
+        done = subprocess.run(command, input=text, stdout=subprocess.PIPE, stderr=subprocess.PIPE, close_fds=False)  # an order file may be a descriptor
     except OSError as error:
         raise Ending(f"cannot run {program}: {error.strerror}", Status.MISSING) from None
     if done.returncode or done.stderr:
@@ -280,10 +281,15 @@ def parser():
     return asked
 
 
+def is_stream(path):
+    """Whether a file can be read once only: a pipe, a device."""
+    return os.path.exists(path) and not os.path.isfile(path) and not os.path.isdir(path)
+
+
 def main(arguments):
     asked = parser().parse_args(arguments)
     for path in (asked.file, asked.order):
-        if path not in (None, "-"):
+        if path not in (None, "-") and not is_stream(path):
             read_file(path, 1)
     program, = built("compare", "sorted")
     return answer(program, asked.file, asked.order)

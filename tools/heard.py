@@ -14,14 +14,16 @@ import re
 import subprocess
 import sys
 import tempfile
+from contextlib import suppress
 from typing import NamedTuple
 
 import questions
 import sounds
 from building import built
 from command_line import HOME, IN_REPOSITORY, Ending, Parser, Status, read_file, say, start, tell
-from outputs import destination, made_here, set_aside, write_whole
+from outputs import destination, made_here, same_file, set_aside, write_whole
 from rung import file_of, said_by
+from table_reader import read_table
 
 EXAMPLE = HOME / "examples" / "bell.txt"
 REFUSED = re.compile(r"refused=(\d+)")
@@ -49,18 +51,32 @@ def parser():
     return asked
 
 
+def head_of(file, base):
+    """The first bytes of a file. Where it is there and can't be read, older results are set aside too."""
+    try:
+        return read_file(file, 4)
+    except Ending:
+        if os.path.isfile(file):
+            kept(set_older_aside(path for path in (base + ".wav", base + ".png") if not same_file(path, file)))
+        raise
+
+
 def files_of(asked):
     """The files of a call, judged before anything is touched."""
     file = file_of(asked.file, EXAMPLE)
     if file == "-":
         raise Ending("name a file: the results are written beside it", Status.MISUSED)
-    recording = sounds.is_sound(read_file(file, 4))
+    base = os.path.splitext(asked.output or file)[0]
+    recording = sounds.is_sound(head_of(file, base))
     if recording and (asked.no_picture or asked.output):
         raise Ending(f"{file} is a sound already: only its picture is made", Status.MISUSED)
     beside = os.path.splitext(file)[0] + ".csv"
     table = asked.table or (beside if os.path.isfile(beside) else None)
-    base = os.path.splitext(asked.output or file)[0]
+    if asked.table:
+        read_file(asked.table, 1)
     files = Files(file, table, None if recording else asked.output or base + ".wav", base + ".png")
+    if files.sound and same_file(files.sound, files.picture):
+        raise Ending(f"{files.sound} can't be the sound: the picture goes there", Status.MISUSED)
     for output in filter(None, (files.sound, files.picture)):
         destination(output, [given for given in (file, table) if given])
     return files
@@ -104,9 +120,19 @@ def readable(path, folder):
     return copy
 
 
+def need_table(table):
+    """A table that gives names must be one."""
+    try:
+        read_table(table)
+    except Ending as ending:
+        raise Ending(f"no picture was made: {table}: {ending}", ending.status) from None
+
+
 def seen(files):
     """Measures and draws a sound; prints the table of partials and writes the picture."""
     need_libraries()
+    if files.table:
+        need_table(files.table)
     tell("hear", "measuring and drawing")
     with tempfile.TemporaryDirectory(prefix="karvelorn-") as folder:
         sound, picture = files.sound or readable(files.file, folder), os.path.join(folder, "picture.png")
@@ -136,21 +162,21 @@ def kept(asides):
         if not os.path.exists(path):
             tell("hear", f"{path} was there from before and is not of this ringing: it is now {os.path.basename(aside)}")
         elif made_here(aside):
-            os.unlink(aside)
-        else:
+            with suppress(FileNotFoundError):
+                os.unlink(aside)
+        elif os.path.exists(aside):
             tell("hear", f"what was {path} was not made by hear: it is kept as {os.path.basename(aside)}")
 
 
-def set_older_aside(files):
+def set_older_aside(outputs):
     """Sets aside what stands where the results go; answers the other names."""
-    outputs = filter(None, (files.sound, files.picture))
     return {path: aside for path in outputs if (aside := set_aside(path))}
 
 
 def main(arguments):
     asked = parser().parse_args(arguments)
     files = files_of(asked)
-    asides = set_older_aside(files)
+    asides = set_older_aside(filter(None, (files.sound, files.picture)))
     try:
         if files.sound:
             write_whole({files.sound: sound_of(files.file)}, [files.file])

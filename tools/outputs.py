@@ -10,7 +10,7 @@ import tempfile
 
 from command_line import Ending, Status
 
-MODE = 0o666
+MODE, WRITABLE = 0o666, 0o222
 
 
 def same_file(one, other):
@@ -35,6 +35,8 @@ def destination(path, inputs=()):
         raise Ending(f"cannot write {path}: {error.strerror}", Status.UNWRITTEN) from None
     if not stat.S_ISREG(kind):
         raise Ending(f"{path} is {'a folder' if stat.S_ISDIR(kind) else 'no regular file'}: nothing is written there", Status.MISUSED)
+    if not kind & WRITABLE or not os.access(behind, os.W_OK):
+        raise Ending(f"cannot write {path}: it is write-protected", Status.UNWRITTEN)
     return behind
 
 
@@ -79,11 +81,25 @@ def write_whole(contents, inputs=()):
 
 # Older files
 
-def older_name(path):
-    """A name that is free for an older file: NAME.older.EXT, then NAME.older-2.EXT and so on."""
+def older_names(path):
+    """Names for an older file: NAME.older.EXT, then NAME.older-2.EXT and so on."""
     base, extension = os.path.splitext(path)
-    names = (f"{base}.older{'' if i == 1 else f'-{i}'}{extension}" for i in range(1, 10000))
-    return next(name for name in names if not os.path.lexists(name))
+    return (f"{base}.older{'' if i == 1 else f'-{i}'}{extension}" for i in range(1, 10000))
+
+
+def renamed(path, name):
+    """Gives a file another name, unless that is taken; answers whether it has it now."""
+    try:
+        os.link(path, name)  # fails where the name is taken, also by somebody at the same time
+    except FileExistsError:
+        return False
+    except OSError:  # a disk without hard links
+        if os.path.lexists(name):
+            return False
+        os.rename(path, name)
+    else:
+        os.unlink(path)
+    return True
 
 
 def set_aside(path):
@@ -91,12 +107,12 @@ def set_aside(path):
     behind = os.path.realpath(path)
     if not os.path.isfile(behind):
         return None
-    name = older_name(behind)
     try:
-        os.rename(behind, name)
+        return next(name for name in older_names(behind) if renamed(behind, name))
+    except FileNotFoundError:
+        return None  # another run has set it aside
     except OSError as error:
         raise Ending(f"{path} is older and can't be set aside ({error.strerror}): don't take it for this file's", Status.UNWRITTEN) from None
-    return name
 
 
 def made_here(path):

@@ -17,7 +17,7 @@ the bench file: NAME.report for NAME.txt. An error says what is wrong and where,
 import math
 import os
 
-from command_line import Ending, Parser, Status, say, start, tell
+from command_line import Ending, Parser, Status, read_file, say, start, tell
 from outputs import destination, made_here, same_file, set_aside, write_whole
 from reference import layout
 from table_reader import QUIET, read_table
@@ -301,6 +301,8 @@ def main(arguments):
         raise Ending(f"{report_at} can't be the table or the bench file: the report goes there", Status.MISUSED)
     for path in (asked.file, report_at):
         destination(path, [asked.table])
+    if not os.path.lexists(asked.table):
+        read_file(asked.table)
     try:
         try:
             text, lines, _, _, _ = make(asked.table, asked.passes, asked.rate, asked.seconds, asked.gain)
