@@ -7,7 +7,7 @@ import subprocess
 import time
 from pathlib import Path
 
-from calls import ROOT, Status, ends, names, run
+from calls import ROOT, Status, ends, heeding, names, run
 
 CRATES = "# a remark\nwords:\nlists: words\nwav: words lists\nring: words\n"
 # Prints as rt does, and puts the programs that were built before.
@@ -90,7 +90,7 @@ def not_built(home, bell):
         (tools / name).symlink_to(shutil.which(name))
     ends(run(home / "run", bell, env={"PATH": str(tools)}), Status.MISSING, "the Rattle toolchain (rt) is needed to build ring")
     slow = toolchain(home, "sleep 60 & echo $! >child; wait")
-    process = subprocess.Popen([home / "run", bell], env=slow, stdout=subprocess.PIPE, stderr=subprocess.PIPE, text=True)
+    process = subprocess.Popen([home / "run", bell], env=slow, stdout=subprocess.PIPE, stderr=subprocess.PIPE, text=True, preexec_fn=heeding)
     while not (home / "child").exists() or not (home / "child").read_text().strip():
         time.sleep(0.02)
     process.send_signal(signal.SIGINT)

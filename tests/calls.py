@@ -2,6 +2,7 @@
 
 import io
 import os
+import signal
 import subprocess
 import sys
 from pathlib import Path
@@ -46,6 +47,11 @@ def flushed(*streams):
     for stream in streams:
         stream.flush()
     return streams
+
+
+def heeding():
+    """Before a process that is to be interrupted: a test that runs beside others has the signal ignored, and would hand that on."""
+    signal.signal(signal.SIGINT, signal.SIG_DFL)
 
 
 def ends(done, status, *sentences):

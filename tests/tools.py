@@ -16,7 +16,7 @@ import tempfile
 import time
 from pathlib import Path
 
-from calls import ROOT, Status, call, ends, names, refused, run
+from calls import ROOT, Status, call, ends, heeding, names, refused, run
 import heard
 import partials
 import questions
@@ -61,6 +61,8 @@ BAD_TABLES = [
     ("name;hz;db;t60\nhum;1.234,5;0;1\n", (), "line 2, column 2 (hz)"),
     ("name;hz;db;t60\nhum;1,234,5;0;1\n", (), "line 2, column 2 (hz): the frequency is not a number"),
     (HEADS + '"hum,100,0,1\n', (), "line 2"),
+    (HEADS + '"hu\nm",100,0,1\n', (), "line 2, column 1 (name): a name with a character that can't be printed"),
+    (HEADS + '"# a remark\nof two lines",,,\nhum,low,0,1\n', (), "line 4, column 2 (hz): the frequency is not a number"),
     (b"name;hz;db;t60\nhum;100;0;1\ngl\xf6ckchen;200;0;1\n", (), "line 3, column 1: the byte F6 is no UTF-8"),
     (b"\xff\xfen\x00a\x00", (), "line 1, column 1: not a head of a table: 'na'"),
     (b"\xff\xfen", (), "not UTF-16"),
@@ -186,7 +188,11 @@ def through_links(at, table):
     (at / "kept.txt").chmod(0o444)
     refused(call("partials", partials, table, "-o", at / "kept.txt"), UNWRITTEN, "write-protected")
     assert (at / "kept.txt").read_text() == "write-protected" and "kept.report" not in names(at)
-    return 8
+    (at / "half.report").symlink_to("no folder/half.report")  # of two outputs the second can't be written
+    before = names(at)
+    refused(call("partials", partials, table, "-o", at / "half.txt"), UNWRITTEN, "half.report")
+    assert names(at) == before, names(at)
+    return 9
 
 
 def limited():
@@ -430,7 +436,9 @@ def places(folder):
     assert run("./my hear", "--no-picture", bell, cwd=folder).status == 0 and (at / f"{bell}.wav").exists()
     assert run("./my hear", "--no-picture", "dotted.folder/bell", cwd=folder).status == 0 and (at / "dotted.folder" / "bell.wav").exists()
     assert run("./my compare", bell, cwd=folder).out.startswith("The second order, by pitch: ")
-    assert run("./my compare", bell, cwd=folder, env={**os.environ, "LC_ALL": "C", "PYTHONIOENCODING": "ascii"}).status == 0
+    (at / f"{bell}.order").write_text("order=0\n")
+    done = run("./my compare", bell, f"{bell}.order", cwd=folder, env={**os.environ, "LC_ALL": "C", "PYTHONIOENCODING": "ascii"})
+    assert done.status == REFUSED and "Gro\\xdfe Glocke d'5.order doesn't pass question 5" in done.out, done
     strange = os.path.join(os.fsencode(folder), b"d\xf6rfli.txt")  # a name that is no UTF-8
     shutil.copy(SHORT, strange)
     assert subprocess.run([str(ROOT / "hear"), "--no-picture", strange], stderr=subprocess.PIPE).returncode == 0 and os.path.exists(strange[:-4] + b".wav")
@@ -480,14 +488,15 @@ def interrupted(folder):
     shutil.copy(BELL, file)
     for number in (signal.SIGINT, signal.SIGTERM):
         reader, writer = os.pipe()  # nobody reads: it waits with its output
-        process = subprocess.Popen([str(ROOT / "run"), str(file)], stdout=writer, stderr=subprocess.PIPE, text=True)
+        process = subprocess.Popen([str(ROOT / "run"), str(file)], stdout=writer, stderr=subprocess.PIPE, text=True, preexec_fn=heeding)
         os.close(writer)
         os.read(reader, 1)
         process.send_signal(number)
         told = process.communicate(timeout=20)[1]
         os.close(reader)
         assert (process.returncode, told) == (128 + number, "run: interrupted\n"), (process.returncode, told)
-    process = subprocess.Popen([str(ROOT / "hear"), str(file)], stdout=subprocess.PIPE, stderr=subprocess.PIPE, text=True, env={**os.environ, "TMPDIR": folder}, start_new_session=True)
+    process = subprocess.Popen([str(ROOT / "hear"), str(file)], stdout=subprocess.PIPE, stderr=subprocess.PIPE, text=True, env={**os.environ, "TMPDIR": folder}, start_new_session=True,
+                               preexec_fn=heeding)
     while "measuring" not in process.stderr.readline():
         pass
     time.sleep(0.3)

@@ -13,7 +13,7 @@ import signal
 import subprocess
 import time
 
-from command_line import HOME, IN_REPOSITORY, Ending, Status, tell
+from command_line import ENDING_SIGNALS, HOME, IN_REPOSITORY, Ending, Status, tell
 
 TARGET = HOME / "target"
 PROGRAMS = ("ring", "wav", "sorted")
@@ -123,12 +123,15 @@ def cores():
 
 def run_rt(words, progress):
     """Runs rt; what it prints goes to the log. Ended early, it ends with all that it started."""
+    kept = signal.pthread_sigmask(signal.SIG_BLOCK, ENDING_SIGNALS)  # none comes between the start of rt and what sees to its end
     try:
         process = subprocess.Popen(["rt", *words], cwd=HOME, env={**os.environ, "RT_JOBS": str(jobs())}, stdin=subprocess.DEVNULL, stdout=subprocess.PIPE, stderr=subprocess.STDOUT,
-                                   text=True, errors="replace", start_new_session=True)
+                                   text=True, errors="replace", start_new_session=True, preexec_fn=lambda: signal.pthread_sigmask(signal.SIG_SETMASK, kept))
     except OSError as error:
+        signal.pthread_sigmask(signal.SIG_SETMASK, kept)
         raise Ending(f"cannot run rt: {error.strerror}", Status.MISSING) from None
     try:
+        signal.pthread_sigmask(signal.SIG_SETMASK, kept)
         with open(LOG, "a", encoding="utf-8") as log:
             for line in process.stdout:
                 log.write(line)

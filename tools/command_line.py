@@ -62,8 +62,7 @@ def say(text, end="\n"):
 
 
 def unwritten(error):
-    """Standard output failed: what is left unwritten stays so."""
-    silence(1)
+    """Standard output failed."""
     raise Ending(f"cannot write: {error.strerror}", Status.UNWRITTEN) from None
 
 
@@ -96,6 +95,9 @@ def read_file(path, most=-1):
         raise Ending(f"cannot read {path}: {reason}", Status.UNREAD) from None
 
 
+ENDING_SIGNALS = (signal.SIGINT, signal.SIGTERM, signal.SIGHUP)
+
+
 def interrupted(number, _frame):
     """A signal that asks a command to end is an exception, so that what is half done is cleared away."""
     raise KeyboardInterrupt(number)
@@ -121,7 +123,7 @@ def ended(name, command, arguments):
     try:
         if not open_streams():
             raise Ending("cannot write: standard output is closed", Status.UNWRITTEN)
-        for number in (signal.SIGINT, signal.SIGTERM, signal.SIGHUP):
+        for number in ENDING_SIGNALS:
             if signal.getsignal(number) != signal.SIG_IGN:
                 signal.signal(number, interrupted)
         return int(command(arguments))

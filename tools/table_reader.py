@@ -140,6 +140,8 @@ def decimal_commas(separator, rows, heads):
 def row_of(by_head, line, comma, names):
     """A row from its cells by head."""
     name, hz = by_head["name"], by_head["hz"]
+    if not name.text.isprintable():
+        raise name.wrong(f"a name with a character that can't be printed: {name.text!r}")
     if not name.text or name.text in names:
         raise name.wrong(f"a name that is empty or was there before: {name.text!r}")
     channel = by_head[CHANNEL].text.lower() if CHANNEL in by_head else "both"
