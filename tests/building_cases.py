@@ -62,19 +62,25 @@ def changed(path):
 def built_when_stale(home, bell):
     """A program is built where it isn't there or is older than its crates, and told crate by crate."""
     good = toolchain(home)
-    done = ends(run(home / "hear", "--no-picture", bell, env=good), 0, "building wav: 3 crates", "take about", "2 of 3 crates: lists proved (3 s), about", "3 of 3 crates: wav proved (2 s)")
+    done = ends(run(home / "hear", "--no-picture", bell, env=good), 0, "building wav: 3 of 3 crates to be proved, about ", " idle cores", "2 of 3 crates: lists proved (3 s), about", "3 of 3 crates: wav proved (2 s)")
     assert "1 of 3" not in done.err and len(asked(home)) == 1 and asked(home)[0].startswith("check wav jobs="), (done, asked(home))
     jobs, cores = int(asked(home)[0].partition("jobs=")[2]), len(os.sched_getaffinity(0))
     assert 1 <= jobs <= 2 * cores and (jobs >= cores or os.sysconf("SC_AVPHYS_PAGES") * os.sysconf("SC_PAGE_SIZE") < 1.5e9 * cores), jobs
     ends(run(home / "hear", "--no-picture", bell, env=good), 0)
     assert len(asked(home)) == 1, "built again, though nothing had changed"
+    (home / "target" / "stamp").mkdir()
+    for crate in ("words", "lists", "wav"):
+        (home / "target" / "stamp" / crate).touch()
+    (home / "target" / "bin" / "wav").unlink()
+    ends(run(home / "hear", "--no-picture", bell, env=good), 0, "building wav: 0 of 3 crates to be proved")
+    assert len(asked(home)) == 2 and not (home / "target" / "stamp" / "wav").exists(), "a program that isn't there, and rt would know it as proved"
     changed(home / "crates" / "ring" / "src" / "lib.rt")  # wav doesn't stand on it
     ends(run(home / "hear", "--no-picture", bell, env=good), 0)
-    assert len(asked(home)) == 1, "built again for a crate that it doesn't stand on"
+    assert len(asked(home)) == 2, "built again for a crate that it doesn't stand on"
     changed(home / "crates" / "lists" / "src" / "lib.rt")
-    ends(run(home / "hear", "--no-picture", bell, env=good), 0, "building wav")
-    assert len(asked(home)) == 2, "not built again for a crate that it stands on"
-    return 4
+    ends(run(home / "hear", "--no-picture", bell, env=good), 0, "building wav: 2 of 3 crates to be proved")
+    assert len(asked(home)) == 3, "not built again for a crate that it stands on"
+    return 5
 
 
 def not_built(home, bell):

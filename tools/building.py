@@ -48,9 +48,8 @@ def below(name, named):
     return found
 
 
-def changed_at(crates):
-    """When a file of some crates was changed last."""
-    newest = os.path.getmtime(HOME / "crates.txt")
+def changed_at(crates, newest):
+    """When a file of some crates was changed last, or the time that is given, whichever is later."""
     for crate in crates:
         for part in PARTS:
             for folder, _, names in os.walk(HOME / "crates" / crate / part):
@@ -71,7 +70,18 @@ def made(name):
 def is_stale(name, crates):
     """Whether something isn't built or a file of its crates has changed since."""
     known = [os.path.getmtime(path) for path in (made(name), stamp(name)) if path.exists()]
-    return not made(name).exists() or max(known) < changed_at(crates)
+    return not made(name).exists() or max(known) < changed_at(crates, os.path.getmtime(HOME / "crates.txt"))
+
+
+def proved(name):
+    """The file by which rt knows a crate that it has proved."""
+    return TARGET / "stamp" / name
+
+
+def pending(crates, named):
+    """Crates that rt will probably prove: those that it doesn't know or that were changed since, and what stands on them. For the estimate alone."""
+    changed = {name for name in crates if not proved(name).exists() or os.path.getmtime(proved(name)) < changed_at([name], 0)}
+    return {name for name in crates if below(name, named) & changed}
 
 
 def length(seconds):
@@ -86,7 +96,8 @@ class Progress:
     def __init__(self, command, crates, named, cores):
         self.command, self.began, self.count = command, time.monotonic(), len(crates)
         cost = {name: CRATE_COST + len(below(name, named)) for name in named}
-        self.left = {name: cost[name] for name in crates}
+        expected = pending(crates, named)
+        self.left, self.pending = {name: cost[name] if name in expected else 0 for name in crates}, len(expected)
         self.pace = MEASURED_SECONDS * MEASURED_CORES / cores / sum(cost[name] for name in below(MEASURED, named))
         self.all, self.done = sum(self.left.values()), 0
 
@@ -150,8 +161,11 @@ def build(command, names, named):
     """Builds programs and perhaps the library."""
     crates = set().union(*(below(name, named) for name in names))
     progress, began = Progress(command, crates, named, min(cores(), jobs())), time.time()
-    tell(command, f"building {', '.join(names)}: {len(crates)} crates to be proved, those that haven't changed aside; all of them take about {length(progress.expected())} on {cores()} idle cores")
+    tell(command, f"building {', '.join(names)}: {progress.pending} of {len(crates)} crates to be proved, about {length(progress.expected())} on {cores()} idle cores")
     LOG.write_text("")
+    for name in names:
+        if not made(name).exists():
+            proved(name).unlink(missing_ok=True)  # rt builds no program that it knows as proved
     run_rt(["check", *names], progress.take)
     if LIBRARY_CRATE in names:
         tell(command, "making the library for C")
