@@ -4,7 +4,8 @@ it finds something wrong with a text exactly where they answer 9, and with a mac
     /usr/bin/python3 tests/question_words.py [COUNT] [SEED]
 
 target/bin/ring and target/bin/sorted must be built. The files are those of tests/files and examples, those by hand in
-tests/ring_files.py, and COUNT at random, a third of them damaged. Each sentence names a line that the file has.
+tests/ring_files.py, COUNT of its files at random, a third of them damaged, and those of tests/sorted_requests.py. Each sentence names
+a line that the file has.
 """
 
 import os
@@ -16,6 +17,7 @@ from concurrent.futures import ThreadPoolExecutor
 from itertools import chain
 
 import ring_files
+import sorted_requests
 from library import ROOT
 
 sys.path.append(os.path.join(ROOT, "tools"))
@@ -34,6 +36,7 @@ CAUSES = ("CR LF", "ends lines in CR", "byte-order mark", "no LF at its end", "l
 def texts(count, seed):
     """The files. What the reference prints for them isn't asked here."""
     ring_files.ring = lambda text, seen: b""
+    ring_files.known = lambda name, text, printed: ring_files.File(name, text, printed, Counter())
     for folder, ending in (("tests/files", ".bench"), ("examples", ".txt")):
         for name in sorted(os.listdir(os.path.join(ROOT, folder))):
             if name.endswith(ending):
@@ -41,7 +44,8 @@ def texts(count, seed):
                     yield file.read()
     groups = (ring_files.ringing, ring_files.delay_files, ring_files.numbers, ring_files.sizes, ring_files.not_fitting)
     yield from (text for group in groups for _, text in group())
-    yield from (made.text for made in ring_files.at_random(count, seed))
+    yield from (made.text for made in chain(ring_files.echoes(), ring_files.long_ringing(), ring_files.at_random(count, seed)))
+    yield from (made.text for made in sorted_requests.all_inputs(count // 5, seed))
     yield from every_place()
 
 
@@ -87,7 +91,7 @@ def main(arguments):
     count, seed = (int(word) for word in (arguments + [COUNT, SEED][len(arguments):])[:2])
     met, differ, causes = Counter(), 0, set()
     with ThreadPoolExecutor(2) as pool:
-        tried = list(texts(count, seed))
+        tried = list(dict.fromkeys(texts(count, seed)))
         for text, (by_ring, by_sorted, here) in zip(tried, pool.map(judged, tried)):
             wrong = list(faults(text, by_sorted))
             if by_sorted not in (9, 2):
