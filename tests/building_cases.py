@@ -137,9 +137,34 @@ def cut_off(home, bell):
     return 10
 
 
+# A picture.py that draws or doesn't, says something and ends with a status.
+PICTURE = """import sys
+if {draws}:
+    open(sys.argv[sys.argv.index("-o") + 1], "wb").write(b"PNG")
+print("partial")
+{ending}
+"""
+
+
+def measured(home, bell):
+    """What the measurement says is the status of hear; what was drawn is written all the same."""
+    cases = ((True, "sys.exit(0)", Status.DONE, ""), (True, "print('picture: hum is 40 cents low', file=sys.stderr); sys.exit(8)", Status.UNLIKE, "hear: hum is 40 cents low"), (False, "sys.exit('picture: no partial')", Status.UNLIKE, "hear: no partial"),
+             (False, "sys.exit(0)", Status.UNLIKE, "the picture can't be made"), (True, "1 / 0", Status.FAULT, "a fault of this software: ZeroDivisionError"), (False, "print('picture: cannot read it', file=sys.stderr); sys.exit(3)", Status.UNREAD, "cannot read it"))
+    for name in ("wav", "ring"):
+        shutil.copy(ROOT / "target" / "bin" / name, home / "target" / "bin")
+        changed(home / "target" / "bin" / name)
+    for draws, ending, status, sentence in cases:
+        (home / "tools" / "picture.py").write_text(PICTURE.format(draws=draws, ending=ending))
+        (bell.parent / "bell.png").write_text("an older picture")
+        done = ends(run(home / "hear", bell), status, "wrote ", sentence)
+        assert done.out == "partial\n" and "bell.wav" in names(bell.parent) and ("bell.png" in names(bell.parent)) == draws, (done, names(bell.parent))
+        assert not draws or (bell.parent / "bell.png").read_bytes() == b"PNG"
+    return len(cases)
+
+
 def building(folder):
     """All of them."""
     home, bell = repository(folder), Path(folder, "bells", "bell.txt")
     bell.parent.mkdir()
     shutil.copy(ROOT / "examples" / "short_bell.txt", bell)
-    return built_when_stale(home, bell) + not_built(home, bell) + two_at_once(home, bell) + cut_off(home, bell)
+    return built_when_stale(home, bell) + not_built(home, bell) + two_at_once(home, bell) + cut_off(home, bell) + measured(home, bell)

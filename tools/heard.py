@@ -147,11 +147,17 @@ def seen(files):
     if done.stdout:
         say(done.stdout.decode(errors="replace"), end="")
     if done.returncode or not drawn:
-        known = done.returncode in (Status.REFUSED, Status.UNREAD, Status.UNWRITTEN, Status.MISSING)
-        sentence = told if "Traceback" not in told else told.splitlines()[-1]
-        raise Ending(sentence.removeprefix("picture: ") or "the picture can't be made", Status(done.returncode) if known else Status.UNLIKE)
+        raise unlike(done.returncode, told)
     if told:
         tell("hear", told)
+
+
+def unlike(status, told):
+    """Why a sound isn't measured or drawn, or is not what its table says."""
+    if "Traceback" in told:
+        return Ending(f"a fault of this software: {told.splitlines()[-1]}", Status.FAULT)
+    known = status in (Status.REFUSED, Status.UNREAD, Status.UNWRITTEN, Status.MISSING)
+    return Ending(told.removeprefix("picture: ") or "the picture can't be made", Status(status) if known else Status.UNLIKE)
 
 
 # Older files

@@ -9,7 +9,7 @@ from typing import NamedTuple
 import command_line  # noqa: F401  (makes the reference known)
 from machine_words import name_of
 from reference import layout
-from reference.machine import LEAST, MOST, fresh_machine, function_built, oscillator_mode_built, run_mode_built, source_built
+from reference.machine import LEAST, MOST, function_built, oscillator_mode_built, run_mode_built, source_built
 
 FILE_MOST, PASSES_MOST, VALUE_MOST = 65536, 65535, 2 ** 32 - 1
 COMMAND_DIGITS, HEXADECIMAL = 8, b"0123456789ABCDEF"
@@ -197,14 +197,6 @@ def machine_faults(bench):
         wrong = word_fault(place, value)
         if wrong:
             yield Fault(line, f"{name_of(place)} (word {place}) has {wrong}")
-
-
-def first_machine(bench):
-    """The machine that a file's words make, without its update ticks."""
-    machine = fresh_machine()
-    for place, value, _ in bench.words:
-        machine[place] = value
-    return machine
 
 
 # In words
