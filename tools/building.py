@@ -121,10 +121,18 @@ class Progress:
         tell(self.command, f"{self.count - len(self.left)} of {self.count} crates: {found[1]} proved ({found[2]}){left}")
 
 
+def memory():
+    """The bytes of memory that can be had."""
+    try:
+        with open("/proc/meminfo", encoding="ascii") as lines:
+            return next(1024 * int(line.split()[1]) for line in lines if line.startswith("MemAvailable:"))
+    except (OSError, StopIteration):
+        return 0
+
+
 def jobs():
-    """How many crates are proved at a time: rt starts the next ones when all of a batch have ended, so more than one for each processor."""
-    memory = os.sysconf("SC_PAGE_SIZE") * os.sysconf("SC_AVPHYS_PAGES")
-    return max(1, min(2 * cores(), int(memory / CRATE_MEMORY)))
+    """How many crates are proved at a time: one for each processor, and up to two where memory allows, since rt starts the next ones when all of a batch have ended."""
+    return max(cores(), min(2 * cores(), int(memory() / CRATE_MEMORY)))
 
 
 def cores():
@@ -160,7 +168,7 @@ def run_rt(words, progress):
 def build(command, names, named):
     """Builds programs and perhaps the library."""
     crates = set().union(*(below(name, named) for name in names))
-    progress, began = Progress(command, crates, named, min(cores(), jobs())), time.time()
+    progress, began = Progress(command, crates, named, cores()), time.time()
     tell(command, f"building {', '.join(names)}: {progress.pending} of {len(crates)} crates to be proved, about {length(progress.expected())} on {cores()} idle cores")
     LOG.write_text("")
     for name in names:
