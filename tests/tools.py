@@ -178,7 +178,9 @@ def without_libraries(folder):
     assert names(folder) == ["bell.txt", "bell.wav"]
     Path(folder, "bell.flac").write_bytes(b"fLaC")
     refused(run(*bare, "bell.flac", cwd=folder), MISSING, "apt install python3-numpy")
-    return 3
+    installing = [path.name for path in [*(ROOT / "tools").iterdir(), *(ROOT / name for name in ("karvelorn", "hear", "run", "compare", "install"))] if path.is_file() and "apt-get" in path.read_text()]
+    assert installing == ["libraries"], f"something is installed unasked: {installing}"
+    return 4
 
 
 # Words for questions 9 and 2
@@ -315,6 +317,31 @@ def no_tracebacks(folder):
     return len(calls) * 4 + 17
 
 
+NOBODY = ("setpriv", "--reuid=65534", "--regid=65534", "--clear-groups")
+
+
+def without_rights(folder):
+    """Files that may not be read, and folders that may not be written, by a user who is not root."""
+    at = Path(folder)
+    at.chmod(0o755)
+    shutil.copy(BELL, at / "bell.txt")
+    ends(call("hear", heard, "--no-picture", at / "bell.txt"), 0)
+    sound = (at / "bell.wav").read_bytes()
+    shutil.copy(SHORT, at / "secret.txt")
+    (at / "secret.txt").chmod(0o600)
+    before = names(folder)
+    if os.geteuid() != 0 or not shutil.which("setpriv") or run(*NOBODY, ROOT / "karvelorn", "--version", cwd="/").status:
+        print("tools: left out, since this machine does not have it: another user who reaches the repository")
+        return 0
+    for command in (("run",), ("hear",), ("compare",)):
+        refused(run(*NOBODY, ROOT / "karvelorn", *command, at / "secret.txt"), UNREAD, "cannot read", "Permission denied")
+    refused(run(*NOBODY, ROOT / "hear", "--no-picture", at / "bell.txt"), UNWRITTEN, "cannot write", "write-protected")
+    refused(run(*NOBODY, ROOT / "karvelorn", "partials", TABLE_OF_BELL, "-o", at / "new.txt"), UNWRITTEN, "cannot write", "Permission denied")
+    refused(run(*NOBODY, ROOT / "install", at / "prefix"), UNWRITTEN, "cannot write under", "Permission denied")
+    assert names(folder) == before and (at / "bell.wav").read_bytes() == sound, names(folder)
+    return 6
+
+
 def interrupted(folder):
     """Ctrl-C and an end by signal: a word and a status, and nothing half done is left."""
     file = Path(folder, "bell.txt")
@@ -340,7 +367,7 @@ def interrupted(folder):
     return 3
 
 
-GROUPS = (tables, channels_and_clipping, example, outputs, older, recordings, bells, without_libraries, question_words, helps, completion, places, no_tracebacks, interrupted, building)
+GROUPS = (tables, channels_and_clipping, example, outputs, older, recordings, bells, without_libraries, question_words, helps, completion, places, no_tracebacks, without_rights, interrupted, building)
 
 
 def main(arguments):
