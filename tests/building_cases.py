@@ -134,7 +134,9 @@ def cut_off(home, bell):
             changed(program)
             ends(run(home / "karvelorn", command, *(["--no-picture"] if command == "hear" else []), bell), status, f"{command}: ")
             assert "bell.wav" not in names(bell.parent), (script, names(bell.parent))
-    return 10
+            program.chmod(0o644)
+            ends(run(home / "karvelorn", command, bell), Status.MISSING, f"{command}: cannot run ", "Permission denied")
+    return 20
 
 
 # A picture.py that draws or doesn't, says something and ends with a status.

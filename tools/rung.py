@@ -59,7 +59,10 @@ def handed_on(process):
 
 def rung(program, text):
     """Rings a text; answers the number of lines and the last one."""
-    process = subprocess.Popen([program], stdin=subprocess.PIPE, stdout=subprocess.PIPE, stderr=subprocess.PIPE)
+    try:
+        process = subprocess.Popen([program], stdin=subprocess.PIPE, stdout=subprocess.PIPE, stderr=subprocess.PIPE)
+    except OSError as error:
+        raise Ending(f"cannot run {program}: {error.strerror}", Status.MISSING) from None
     try:
         try:
             process.stdin.write(text)
