@@ -21,7 +21,7 @@ SHORTEST_T60 = 0.25  # and lasts so long
 BEAT = 0.75  # two partials are told apart if the sound lasts so much of a beat
 MASKED = 35.0  # nearer than that, one that is so many dB softer is what the louder one's steps leave
 CENTS, HERTZ, LEVEL, DECAY = 1.0, 0.1, 0.5, 0.05  # what is sure: within a cent or 0.1 Hz, 0.5 dB, and so much of the decay,
-SURE = 8.0  # so many standard deviations wide
+SURE, SURE_BESIDE = 3.0, 8.0  # so many standard deviations wide; beside another whose peak overlaps, more
 LASTING = 0.005  # what falls by less than e to this does not decay
 NOISE_PEAK = math.sqrt(3)  # even noise has so many times its root mean square as its peak
 
@@ -113,18 +113,23 @@ def listed(fit, lead):
     return sorted(chosen, key=lambda i: hz[i]), db
 
 
+def overlap(p, other, seconds):
+    """Whether the peaks of two partials overlap in a sound of so many seconds."""
+    return other is not p and abs(p.hz - other.hz) < 3 / seconds + 3 / p.t60 + 3 / other.t60
+
+
 def partials_of(fit, lead):
-    """The partials of a fit, and what its spreads don't let be told of each."""
+    """The partials of a fit, with what can't be told of each."""
     chosen, db = listed(fit, lead)
     off_exponents, off_amplitudes = damped.spreads(fit)
-    found = []
-    for i in chosen:
-        decay, off = -fit.exponents[i].real * fit.rate, SURE * off_exponents[i] * fit.rate
-        lasting = decay * fit.seconds < LASTING
-        p = Partial(fit.exponents[i].imag * fit.rate / (2 * np.pi), float(db[i]), math.inf if lasting else damped.DECAY_TO_T60 / decay)
-        unsure = {"hz": off > 2 * math.pi * within(p.hz), "db": SURE * off_amplitudes[i] > 10 ** (LEVEL / 20) - 1, "t60": off > DECAY * decay and not lasting}
+    decays = np.maximum(-fit.exponents.real * fit.rate, 1e-9)
+    lasting = decays * fit.seconds < LASTING
+    found = [Partial(fit.exponents[i].imag * fit.rate / (2 * np.pi), float(db[i]), math.inf if lasting[i] else damped.DECAY_TO_T60 / decays[i]) for i in chosen]
+    for i, p in zip(chosen, found):
+        sure = SURE_BESIDE if any(overlap(p, other, fit.seconds) for other in found) else SURE
+        off = sure * off_exponents[i] * fit.rate
+        unsure = {"hz": off > 2 * math.pi * within(p.hz), "db": sure * off_amplitudes[i] > 10 ** (LEVEL / 20) - 1, "t60": off > DECAY * decays[i] and not lasting[i]}
         p.unsure = {what for what, is_unsure in unsure.items() if is_unsure}
-        found.append(p)
     mark_near(found, fit.seconds)
     return found
 
@@ -132,10 +137,7 @@ def partials_of(fit, lead):
 def mark_near(found, seconds):
     """Marks the partials that can't be told apart: nearer than a beat of the sound, or unsure with peaks that overlap."""
     for p in found:
-        for other in found:
-            apart, width = abs(p.hz - other.hz), 3 / seconds + 3 * (1 / p.t60 + 1 / other.t60)
-            if other is not p and (apart * seconds < BEAT or (p.unsure and other.unsure and apart < width)):
-                p.near.append(other)
+        p.near = [other for other in found if other is not p and (abs(p.hz - other.hz) * seconds < BEAT or (p.unsure and other.unsure and overlap(p, other, seconds)))]
 
 
 def joined(left, right):

@@ -38,13 +38,14 @@ def lines_of(stroke):
             yield f"{p.name or '-':10} {'?':>9}  {'':14} {'?':>7}  {p.channel:7}  {'?':>8}  can't be told apart from {' and '.join(naming.called(q) for q in p.near)}"
             continue
         hz, db, t60 = ("?" if what in p.unsure else text for what, text in (("hz", f"{p.hz:.3f}"), ("db", f"{p.db:.1f}"), ("t60", f"{p.t60:.2f}" if p.t60 < math.inf else "none")))
-        off = "" if math.isnan(p.cents) else f"{p.cents:+8.1f}"
+        off = "" if math.isnan(p.cents) else f"{round(p.cents, 1) + 0.0:+8.1f}"
         other = naming.beat_of(p, stroke.partials)
         beat = f"  beat of {other.hz - p.hz:.2f} Hz with {naming.called(other)}" if other and not other.near and not ({"hz"} & (p.unsure | other.unsure)) else ""
         yield f"{p.name or '-':10} {hz:>9}  {off:>14} {db:>7}  {p.channel:7}  {t60:>8}{beat}"
     if stroke.noise:
         yield f"{'noise':10} {'':9}  {'':14} {stroke.noise[0]:7.1f}  {'':7}  {stroke.noise[1]:8.2f}  until {stroke.clear - stroke.begin:.3f} s"
-    yield f"unexplained: {stroke.residual:.1f} dB of the sound{f' after {stroke.clear - stroke.begin:.3f} s' if stroke.noise else ''}"
+    after = f" after {stroke.clear - stroke.begin:.3f} s" if stroke.noise else ""
+    yield f"unexplained: {stroke.residual:.1f} dB of the sound{after}; partials less than {analysis.BEAT / (stroke.end - stroke.clear):.2f} Hz apart are not told apart"
 
 
 def report(measured, found):
@@ -62,7 +63,7 @@ def report(measured, found):
 def label_of(p, table):
     """A partial's name and how far it is off its just ratio."""
     lost = " (no row)" if table and not p.row else ""
-    return (p.name or f"{p.hz:.0f} Hz") + ("" if math.isnan(p.cents) else f" {p.cents:+.1f}") + (" ?" if p.near or p.unsure else "") + lost
+    return (p.name or f"{p.hz:.0f} Hz") + ("" if math.isnan(p.cents) else f" {round(p.cents, 1) + 0.0:+.1f}") + (" ?" if p.near or p.unsure else "") + lost
 
 
 def draw_wave(axes, sounds, rate, measured):
