@@ -85,7 +85,7 @@ def heard(folder):
     file = Path(folder, "bell.txt")
     shutil.copy(ROOT / "examples" / "bell.txt", file)
     done = run("./hear", file)
-    assert done.returncode == 0 and "nominal" in done.stdout and done.stdout.count("\n") == 6, done
+    assert done.returncode == 0 and "nominal" in done.stdout and "unexplained: -6" in done.stdout and "!" not in done.stdout, done
     assert Path(folder, "bell.wav").read_bytes()[:4] == b"RIFF" and Path(folder, "bell.png").read_bytes()[1:4] == b"PNG"
     shutil.copy(ROOT / "examples" / "bell.csv", Path(folder, "bell.csv"))
     assert run("./hear", Path(folder, "bell.wav")).stdout.splitlines()[1].startswith("hum")
@@ -99,7 +99,49 @@ def heard(folder):
     assert not [name for name in os.listdir(folder) if "." not in name or name.endswith(".part") or name.startswith("bad.") and name not in ("bad.txt", "bad.wav")], os.listdir(folder)
 
 
+# What is measured is what is in the sound: a table beside examples/bell.txt, and the sentences that ./hear says of it.
+BELL = (ROOT / "examples" / "bell.csv").read_text()
+WRONG_TABLES = [
+    (BELL.replace("526.4", "540"), ["no peak for the row tierce, 540 Hz; the nearest peak is 526.395 Hz, -44.2 cents", "no row for the peak at 526.395 Hz"]),
+    (BELL.replace("526.4", "527.5"), ["no peak for the row tierce, 527.5 Hz", "no row for the peak at 526.395 Hz"]),
+    (BELL.replace("quint,662.5,-18,2.4\n", ""), ["no row for the peak at 662.500 Hz"]),
+    (BELL + "octave,1760,-20,2\n", ["no peak for the row octave, 1760 Hz"]),
+    (BELL + "tierce-b,526.4,-20,2\n", ["tierce and tierce-b have the same frequency in the table, 526.4 Hz", "tierce and tierce-b can't be told apart"]),
+    (BELL + "tierce-b,526.45,-20,2\n", ["tierce and tierce-b can't be told apart in 5.9"]),
+    (BELL.replace("clapper,noise,-10,0.09\n", ""), ["no row for the noise of the stroke"]),
+    ("name,hz,db,t60\na,300,0,3\nb,700,0,3\n", ["no peak for the row a, 300 Hz", "no peak for the row b, 700 Hz", "no row for the peak at 219.203 Hz", "no row for the peak at 879.997 Hz", "no row for the noise"]),
+]
+SIDED = "name,hz,db,t60,channel\nhum,219.2,0,9,left\nprime,440,-6,7,right\ntierce,526.4,-6,5,right\ntierce-b,527.3,-9,4,right\nnominal,880,-9,3,both\n"
+
+
+def measured(folder):
+    """./hear says what doesn't agree with the table, with status 4 and all files; channels, doublets, strokes too short."""
+    file, table, picture = Path(folder, "bell.txt"), Path(folder, "bell.csv"), Path(folder, "bell.png")
+    shutil.copy(ROOT / "examples" / "bell.txt", file)
+    for text, sentences in WRONG_TABLES:
+        table.write_text(text)
+        done = run("./hear", file)
+        said = [line[2:] for line in done.stdout.splitlines() if line.startswith("! ")]
+        assert done.returncode == 4 and picture.exists() and len(said) == len(sentences) + (3 if "a,300" in text else 0), (sentences, done)
+        assert all(any(sentence in line for line in said) for sentence in sentences), (sentences, said)
+        assert "tierce-b" in text or "tierce     " in done.stdout or "no row for the peak at 526" in done.stdout, done
+        picture.unlink()
+    table.write_text("name,hz\n")
+    refused(run("./hear", file), "the first line must be", picture)
+    table.write_text(SIDED)
+    assert run("python3", "tools/partials.py", table, "-o", file, "--gain", "-6", "--seconds", "6").returncode == 0
+    done = run("./hear", file)
+    rows = {line.split()[0]: line.split() for line in done.stdout.splitlines()[1:]}
+    assert done.returncode == 0 and rows["hum"][-3:-1] == ["-12.0", "left"] and "right" in rows["tierce"] and "right" in rows["tierce-b"] and rows["nominal"][-2] == "both", done
+    assert "beat of 0.91 Hz with tierce-b" in done.stdout, done
+    shutil.copy(ROOT / "examples" / "belfry.txt", Path(folder, "belfry.txt"))
+    done = run("./hear", Path(folder, "belfry.txt"))
+    assert done.returncode == 4 and done.stdout.startswith("! too short to measure") and "nominal" not in done.stdout and Path(folder, "belfry.png").exists(), done
+
+
 def main():
+    with tempfile.TemporaryDirectory() as folder:
+        measured(folder)
     with tempfile.TemporaryDirectory() as folder:
         bad_tables(folder)
         channels_and_clipping(folder)
@@ -112,7 +154,7 @@ def main():
         assert sorted(os.listdir(folder)) == ["bell.report", "bell.txt"], os.listdir(folder)
     with tempfile.TemporaryDirectory() as folder:
         heard(folder)
-    print(f"{len(BAD_TABLES) + 9} bad inputs refused with a sentence; the example bell and its report are what its table makes; heard and seen")
+    print(f"{len(BAD_TABLES) + 10} bad inputs refused with a sentence; {len(WRONG_TABLES)} tables that don't agree with a sound, told; the example bell and its report are what its table makes; heard and seen")
 
 
 if __name__ == "__main__":
