@@ -70,8 +70,8 @@ def read_wave(path):
         raise Wrong(f"{path} is no WAVE file that can be read: {error}") from None
     if width != 3:
         raise Wrong(f"{path} has samples of {8 * width} bits, not of 24")
-    if not rate or not channels:
-        raise Wrong(f"{path} is no WAVE file that can be read: its rate or its number of channels is 0")
+    if not rate or channels not in (1, 2):
+        raise Wrong(f"{path} has {channels} channels at a rate of {rate}: one or two channels can be measured")
     bytes_ = data[:len(data) // (3 * channels) * 3 * channels].reshape(-1, 3).astype(np.int32)
     numbers = (bytes_[:, 0] | bytes_[:, 1] << 8 | bytes_[:, 2] << 16) << 8 >> 12  # the sign is bit 23; the low 4 bits are 0
     return rate, numbers.reshape(-1, channels) / FULL

@@ -15,7 +15,8 @@ RISE = 10 ** (20 / 20)  # a stroke's error stands so far above that of the frame
 PART = 10 ** (-40 / 20)  # and above so much of the sound there,
 FAINTEST = 10 ** (-55 / 20)  # and of the loudest frame of all
 APART = 6  # strokes are more than so many frames apart
-NOISE_MOST = 0.3  # the noise of a stroke lasts at most so much of it
+NOISE_MOST = 0.3  # the noise of a stroke lasts at most so much of it,
+NOISE_LEAST = 10 ** (-50 / 20)  # and is at least so much of the sound
 
 
 @dataclass
@@ -66,8 +67,9 @@ def begins(errors, error, level, size):
 def cleared(error, level, size, begin, end):
     """The sample from which on a stroke is without noise: where its error has come down to what it stays at."""
     first, last = begin // size, max(begin // size + 1, end // size)
-    part = error[first:last] / (level[first:last] + 1e-12)
-    usual = 4 * np.percentile(part, 30)
+    heard = level[first:last] > 1e-5 * level[first:last].max()
+    part = np.where(heard, error[first:last], 0.0) / np.where(heard, level[first:last], 1.0)
+    usual = max(NOISE_LEAST, 4 * np.percentile(part[heard], 30)) if heard.any() else NOISE_LEAST
     most = int(NOISE_MOST * len(part))
     noisy = np.nonzero(part[:most] > usual)[0]
     ring = (begin + ORDER) // size + 2 - first
@@ -87,4 +89,5 @@ def strokes_of(sounds, rate):
     errors = np.stack([foretelling(part[:, side], ORDER) for side in range(part.shape[1])], 1)
     error, level = frame_levels(errors, size), frame_levels(part, size)
     starts = begins(errors, error, level, size) + [len(part)]
-    return [Stroke(first + b, first + cleared(error, level, size, b, e), first + e) for b, e in zip(starts, starts[1:])]
+    ends = [b + int(np.nonzero(part[b:e].any(1))[0][-1]) + 1 for b, e in zip(starts, starts[1:])]  # without the silence before the next one
+    return [Stroke(first + b, first + cleared(error, level, size, b, e), first + e) for b, e in zip(starts, ends)]
