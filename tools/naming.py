@@ -124,11 +124,8 @@ def lost_peaks(rows, peaks):
 
 
 def noise_words(measured, noise):
-    """Of noise that the table has and the sound hasn't, or the other way round."""
-    heard = any(stroke.noise for stroke in measured)
-    if noise and not heard and any(not stroke.short for stroke in measured):
-        yield f"no noise is heard for the row {noise.name}"
-    if noise is None and heard:
+    """Of noise that the table hasn't. (Soft noise of the table may not be heard beside its partials: of that nothing is said.)"""
+    if noise is None and any(stroke.noise for stroke in measured):
         yield "no row for the noise of the stroke"
 
 

@@ -7,7 +7,7 @@ the error of the best such combination shows, something new has begun: a stroke,
 from dataclasses import dataclass
 
 import numpy as np
-from scipy import signal
+from scipy import ndimage, signal
 
 ORDER = 160  # so many samples before foretell the next
 FRAME = 0.004  # the error is judged by frames of so many seconds
@@ -16,7 +16,7 @@ PART = 10 ** (-40 / 20)  # and above so much of the sound there,
 FAINTEST = 10 ** (-55 / 20)  # and of the loudest frame of all
 APART = 6  # strokes are more than so many frames apart
 NOISE_MOST = 0.3  # the noise of a stroke lasts at most so much of it,
-NOISE_LEAST = 10 ** (-50 / 20)  # and is at least so much of the sound
+NOISE_LEAST = 10 ** (-42 / 20)  # and begins with at least so much of the sound
 
 
 @dataclass
@@ -67,13 +67,14 @@ def begins(errors, error, level, size):
 def cleared(error, level, size, begin, end):
     """The sample from which on a stroke is without noise: where its error has come down to what it stays at."""
     first, last = begin // size, max(begin // size + 1, end // size)
-    heard = level[first:last] > 1e-5 * level[first:last].max()
-    part = np.where(heard, error[first:last], 0.0) / np.where(heard, level[first:last], 1.0)
-    usual = max(NOISE_LEAST, 4 * np.percentile(part[heard], 30)) if heard.any() else NOISE_LEAST
-    most = int(NOISE_MOST * len(part))
-    noisy = np.nonzero(part[:most] > usual)[0]
+    around = ndimage.maximum_filter1d(level[first:last], 15)  # a frame may fall on a beat or into a slow wave
+    heard = around > 1e-5 * around.max()
+    part = np.where(heard, error[first:last], 0.0) / np.where(heard, around, 1.0)
+    usual = 4 * np.percentile(part[heard], 20) if heard.any() else 0.0
     ring = (begin + ORDER) // size + 2 - first
-    return begin if not len(noisy) or noisy[-1] < ring else (first + int(noisy[-1]) + 1) * size
+    most = max(ring + 1, int(NOISE_MOST * len(part)))
+    quiet = ring + int(np.argmax(np.append(part[ring:most] <= usual, True)))
+    return (first + quiet) * size if (part[ring:quiet] > NOISE_LEAST).sum() > 1 else begin
 
 
 def strokes_of(sounds, rate):
