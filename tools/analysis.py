@@ -23,6 +23,7 @@ MASKED = 35.0  # nearer than that, one that is so many dB softer is what the lou
 CENTS, HERTZ, LEVEL, DECAY = 1.0, 0.1, 0.5, 0.05  # what is sure: within a cent or 0.1 Hz, 0.5 dB, and so much of the decay,
 SURE, SURE_BESIDE = 3.0, 8.0  # so many standard deviations wide; beside another whose peak overlaps, more
 LASTING = 0.005  # what falls by less than e to this does not decay
+DAMPED = 0.03  # a damping is judged by so many seconds before and after it
 NOISE_PEAK = math.sqrt(3)  # even noise has so many times its root mean square as its peak
 
 
@@ -197,7 +198,17 @@ def measure_stroke(sounds, rate, stroke):
     return done
 
 
+def is_softer(sounds, rate, at):
+    """Whether a sound is softer from a sample on than before it: a damping, and no stroke."""
+    size = int(DAMPED * rate)
+    before, after = sounds[max(0, at - size):at], sounds[at:at + size]
+    return bool(len(before) == size and (after ** 2).mean() < (before ** 2).mean() / 2)
+
+
 def measure(sounds, rate):
     """The strokes of a sound, each measured by itself."""
-    found = strokes.strokes_of(sounds, rate)
-    return [measure_stroke(sounds, rate, stroke) for stroke in found]
+    done = []
+    for stroke in strokes.strokes_of(sounds, rate):
+        done.append(measure_stroke(sounds, rate, stroke))
+        done[-1].softer = is_softer(sounds, rate, stroke.begin)
+    return done

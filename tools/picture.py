@@ -50,12 +50,13 @@ def lines_of(stroke):
 
 def report(measured, found):
     """What is printed: the strokes, the partials of each that was measured, and what doesn't agree."""
+    struck, damped = ([f"{stroke.begin:.3f}" for stroke in measured if stroke.softer is softer] for softer in (False, True))
     if len(measured) > 1:
-        yield f"{len(measured)} strokes, each measured by itself: at {', '.join(f'{stroke.begin:.3f}' for stroke in measured)} s"
-    for i, stroke in enumerate(measured, 1):
+        yield f"{len(struck)} stroke{'s' if len(struck) > 1 else ''}, at {', '.join(struck)} s{'; damped at ' + ', '.join(damped) + ' s' if damped else ''}: each part is measured by itself"
+    for stroke in measured:
         if not stroke.short:
             if len(measured) > 1:
-                yield f"stroke {i}, {stroke.begin:.3f} to {stroke.end:.3f} s"
+                yield f"from {stroke.begin:.3f} to {stroke.end:.3f} s:"
             yield from lines_of(stroke)
     yield from (f"! {sentence}" for sentence in found)
 
