@@ -39,6 +39,7 @@ class Partial:
     t60: float  # infinite where it doesn't decay
     channel: str = "both"
     unsure: set = field(default_factory=set)  # which of hz, db and t60 the sound doesn't tell
+    spread: float = 0.0  # how many Hz its frequency may be off
     near: list = field(default_factory=list)  # the partials, or the table's rows, from which it can't be told apart
     name: str = ""
     cents: float = math.nan  # off the just ratio of its name
@@ -130,7 +131,7 @@ def partials_of(fit, lead):
         sure = SURE_BESIDE if any(overlap(p, other, fit.seconds) for other in found) else SURE
         off = sure * off_exponents[i] * fit.rate
         unsure = {"hz": off > 2 * math.pi * within(p.hz), "db": sure * off_amplitudes[i] > 10 ** (LEVEL / 20) - 1, "t60": off > DECAY * decays[i] and not lasting[i]}
-        p.unsure = {what for what, is_unsure in unsure.items() if is_unsure}
+        p.unsure, p.spread = {what for what, is_unsure in unsure.items() if is_unsure}, off / (2 * math.pi)
     mark_near(found, fit.seconds)
     return found
 
@@ -162,7 +163,7 @@ def energy(bins):
 
 def left_by(fit, lead):
     """The energy that the partials of a fit leave unexplained."""
-    rest = damped.Fit(fit.sound, fit.rate)
+    rest = damped.Fit(fit.sound, fit.rate, fit.highest)
     chosen = listed(fit, lead)[0]
     rest.add(fit.exponents[chosen], fit.amplitudes[chosen])
     return energy(rest.left)

@@ -28,12 +28,13 @@ class Fit:
     """A sound's transform, the damped sines found in it, and what they leave."""
     sound: np.ndarray
     rate: float
+    highest: float = math.inf  # what is above so many Hz is not looked at
     exponents: np.ndarray = field(default_factory=lambda: np.zeros(0, complex))  # per sample
     amplitudes: np.ndarray = field(default_factory=lambda: np.zeros(0, complex))
 
     def __post_init__(self):
         self.count = len(self.sound)
-        self.bins = np.fft.rfft(self.sound)
+        self.bins = np.fft.rfft(self.sound)[:int(min(self.highest / self.rate, 0.5) * self.count) + 1]
         self.turns = np.exp(-2j * np.pi * np.arange(len(self.bins)) / self.count)
         self.left = self.bins.copy()
 
@@ -229,8 +230,11 @@ def spare(fit, one):
     others = np.nonzero(np.abs(fit.places() - fit.places()[one]) < np.maximum(8, 2 * fit.widths()))[0]
     others = others[others != one]
     members = np.append(others, one)
-    strongest = others[np.argmax(heights(fit)[others])] if len(others) else one
-    if heights(fit)[one] > heights(fit)[strongest] / 10 or strongest == one:
+    if not len(others):
+        return False
+    strongest = others[np.argmax(heights(fit)[others])]
+    apart = np.abs(fit.places()[others] - fit.places()[one]).min()
+    if heights(fit)[one] > heights(fit)[strongest] / 10 and apart > fit.widths()[members].max():
         return False
     band = band_of(fit, fit.places()[members], fit.widths()[members])
     own, turns = own_bins(fit, members, band), fit.turns[band]
@@ -300,9 +304,9 @@ def look(fit, given_up):
         settle(fit, 3)
 
 
-def explained(sound, rate):
-    """The damped sines of a sound."""
-    fit = Fit(sound, rate)
+def explained(sound, rate, highest=math.inf):
+    """The damped sines of a sound, up to so many Hz."""
+    fit = Fit(sound, rate, highest)
     given_up = []
     look(fit, given_up)
     settle(fit, 20)

@@ -26,10 +26,10 @@ def reach(hz):
 
 
 def name_by_table(partials, rows):
-    """Gives each row's name to the nearest peak within reach, each to one: as many rows as can be, and then the nearest."""
+    """Gives each row's name to the nearest peak within reach (or within what it may be off), each to one: as many rows as can be, and then the nearest."""
     if not partials or not rows:
         return
-    apart = np.array([[abs(p.hz - row.hz) / reach(row.hz) for p in partials] for row in rows])
+    apart = np.array([[abs(p.hz - row.hz) / max(reach(row.hz), p.spread) for p in partials] for row in rows])
     for r, i in zip(*optimize.linear_sum_assignment(np.where(apart <= 1, apart, 1e6))):
         if apart[r, i] <= 1:
             partials[i].row, partials[i].name = rows[r], rows[r].name
