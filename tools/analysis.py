@@ -179,15 +179,15 @@ def noise_of(sound, fit, lead, rate):
     return 20 / math.log(10) * start + 20 * math.log10(NOISE_PEAK), damped.DECAY_TO_T60 / -fall if fall < 0 else math.inf
 
 
-def measure_stroke(sounds, rate, stroke):
-    """A stroke's partials, of each channel by itself, and what they leave."""
+def measure_stroke(sounds, rate, stroke, highest=math.inf):
+    """A stroke's partials up to so many Hz, of each channel by itself, and what they leave."""
     done = Measured(stroke.begin / rate, stroke.clear / rate, stroke.end / rate)
     if done.short:
         return done
     lead, sides, left, whole = stroke.clear - stroke.begin, [], 0.0, 0.0
     same = all(np.array_equal(sounds[:, 0], sounds[:, side]) for side in range(sounds.shape[1]))
     for side in range(1 if same else 2):
-        fit = damped.explained(sounds[stroke.clear:stroke.end, side], rate)
+        fit = damped.explained(sounds[stroke.clear:stroke.end, side], rate, highest)
         sides.append(partials_of(fit, lead))
         left, whole = left + left_by(fit, lead), whole + energy(fit.bins)
         if lead and not done.noise:

@@ -10,7 +10,7 @@ import math
 from dataclasses import dataclass, field
 
 import numpy as np
-from scipy import linalg, ndimage, signal
+from scipy import fft, linalg, ndimage, signal
 
 DECAY_TO_T60 = 3 * math.log(10)  # an amplitude that falls by e^-d in a second falls by 60 dB in 3 ln 10 / d seconds
 LOWEST = 15.0  # nothing is looked for below so many Hz
@@ -33,6 +33,7 @@ class Fit:
     amplitudes: np.ndarray = field(default_factory=lambda: np.zeros(0, complex))
 
     def __post_init__(self):
+        self.sound = self.sound[:fast_length(len(self.sound))]
         self.count = len(self.sound)
         self.bins = np.fft.rfft(self.sound)[:int(min(self.highest / self.rate, 0.5) * self.count) + 1]
         self.turns = np.exp(-2j * np.pi * np.arange(len(self.bins)) / self.count)
@@ -54,6 +55,13 @@ class Fit:
     def widths(self):
         """Half the width of each peak, in bins."""
         return 1 - self.exponents.real * self.count / (2 * np.pi)
+
+
+def fast_length(count):
+    """The most samples, up to a count, that are transformed fast."""
+    while fft.next_fast_len(count) != count:
+        count -= 1
+    return count
 
 
 def response(s, turns, count):

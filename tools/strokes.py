@@ -11,7 +11,7 @@ from scipy import ndimage, signal
 
 ORDER = 160  # so many samples before foretell the next
 FRAME = 0.004  # the error is judged by frames of so many seconds
-RISE = 10 ** (20 / 20)  # a stroke's error stands so far above that of the frames before it
+RISE = 10 ** (14 / 20)  # a stroke's error stands so far above that of the frames before it
 PART = 10 ** (-40 / 20)  # and above so much of the sound there,
 FAINTEST = 10 ** (-55 / 20)  # and of the loudest frame of all
 APART = 6  # strokes are more than so many frames apart
