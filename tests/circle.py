@@ -26,7 +26,7 @@ import partials as tables  # noqa: E402
 
 # Each bell: so many partials, N, and the seed of its numbers.
 BELLS = [(5, 265, 1), (8, 400, 2), (12, 200, 3), (20, 265, 4), (40, 265, 5), (40, 128, 6)]
-DOUBLETS, CLOSE, STROKES, SIDES, SHORT, STALE = 10, 2, 5, 4, 6, 400  # so many of each
+DOUBLETS, CLOSE, STROKES, SIDES, SHORT, STALE = 10, 2, 5, 4, 12, 400  # so many of each
 HIGHEST = 60.0  # levels of a bell spread over so many dB
 NAMED_MOST = 0.15  # no more than this part of all partials may be named as not reachable
 
@@ -236,11 +236,10 @@ def all_faults(program, folder, counts):
         counts["named"] += len(sound.unreached())
         yield from faults_of(sound, what)
     for seed in range(SHORT):
-        rows, _ = doublets(random.Random(f"short {seed}"), 1.0, 1.0)
-        gap = min(b[1] - a[1] for a, b in zip(rows[2::2], rows[3::2]))
-        rows = [row for pair in ([rows[0]], [rows[1]], *([a, b] for a, b in zip(rows[2::2], rows[3::2]) if b[1] - a[1] == gap)) for row in pair]
-        n = 265
-        yield from short_faults(Sound(program, folder, rows, n, passes=int(max(0.25, 0.3 / gap) / (tables.TICK * n)) if 0.3 / gap < 3.3 else tables.MOST_PASSES), f"short {seed}")
+        draw = random.Random(f"short {seed}")
+        gap, hz = draw.uniform(0.2, 1.2), draw.uniform(300, 1000)
+        rows = [("hum", 150.0, -8.0, 14.0), ("d0", hz, -6.0, draw.uniform(2.5, 14)), ("d0-b", hz + gap, -6 - 12 * draw.random(), draw.uniform(2.5, 14))]
+        yield from short_faults(Sound(program, folder, rows, 265, passes=int(draw.uniform(0.25, 0.45) / gap / (tables.TICK * 265))), f"short {seed}")
     draw = random.Random("tables")
     single = [sound for sound, what in bells if what.startswith("bell") and not sound.unreached()]
     for _ in range(STALE):
