@@ -5,6 +5,8 @@ Needs numpy and scipy; levels are in dB below the largest number that a 20-bit w
 """
 
 import math
+import os
+import sys
 import wave
 from dataclasses import dataclass, field
 
@@ -60,6 +62,16 @@ class Measured:
     @property
     def short(self):
         return self.end - self.clear < SHORTEST
+
+
+def say(lines):
+    """Prints lines; one who doesn't read on is no error."""
+    try:
+        print("\n".join(lines), flush=True)
+    except OSError as error:
+        os.dup2(os.open(os.devnull, os.O_WRONLY), sys.stdout.fileno())
+        if not isinstance(error, BrokenPipeError):
+            sys.exit(f"what was measured can't be printed: {error.strerror}")
 
 
 def read_wave(path):

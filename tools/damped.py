@@ -81,9 +81,9 @@ def pencil(values, turns, order):
     apart = turns[a][:, None] - turns[b][None, :]
     level = (values[a][:, None] - values[b][None, :]) / apart
     shifted = ((turns * values)[a][:, None] - (turns * values)[b][None, :]) / apart
-    left, _, right = np.linalg.svd(level)
-    left, right = left[:, :order].conj().T, right[:order].conj().T
     try:
+        left, _, right = np.linalg.svd(level)
+        left, right = left[:, :order].conj().T, right[:order].conj().T
         found = linalg.eigvals(left @ shifted @ right, left @ level @ right)
     except (linalg.LinAlgError, ValueError):
         return np.zeros(0, complex)

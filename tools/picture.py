@@ -15,15 +15,17 @@ import math
 import os
 import sys
 
-import matplotlib
+try:
+    import matplotlib
+    matplotlib.use("Agg")
+    import matplotlib.pyplot as plt
+    import numpy as np
 
-matplotlib.use("Agg")
-import matplotlib.pyplot as plt  # noqa: E402
-import numpy as np  # noqa: E402
-
-import analysis  # noqa: E402
-import naming  # noqa: E402
-import partials as tables  # noqa: E402
+    import analysis
+    import naming
+except ImportError as error:
+    sys.exit(f"picture: numpy, scipy and matplotlib are needed (tools/libraries installs them for /usr/bin/python3): {error}")
+import partials as tables
 
 SIDES = ("left (DAC 0)", "right (DAC 1)")
 DISAGREES = 4  # the exit status where something doesn't agree
@@ -177,7 +179,9 @@ def main():
         lines, agrees = seen(asked.sound, asked.picture, asked.table)
     except (analysis.Wrong, tables.Wrong) as wrong:
         sys.exit(f"picture: {wrong}")
-    print("\n".join(lines))
+    except (np.linalg.LinAlgError, ArithmeticError, MemoryError) as error:
+        sys.exit(f"picture: {asked.sound} can't be measured: {error}")
+    analysis.say(lines)
     sys.exit(0 if agrees else DISAGREES)
 
 

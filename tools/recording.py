@@ -17,13 +17,16 @@ import os
 import sys
 import warnings
 
-import numpy as np
-from scipy.io import wavfile
+try:
+    import numpy as np
+    from scipy.io import wavfile
 
-import analysis
-import naming
+    import analysis
+    import naming
+    import strokes
+except ImportError as error:
+    sys.exit(f"recording: numpy and scipy are needed (tools/libraries installs them for /usr/bin/python3): {error}")
 import partials as tables
-import strokes
 
 HIGHEST = 8000.0  # what is above so many Hz is not looked at
 ECHO = 0.4  # what begins so soon after a stroke is its echo
@@ -199,7 +202,9 @@ def main():
         tables.write_whole({asked.table: "\n".join(text) + "\n"})
     except (analysis.Wrong, tables.Wrong) as wrong:
         sys.exit(f"recording: {wrong}")
-    print("\n".join([*text[1 + len(lines) + len(words):], *lines, *(f"! {sentence}" for sentence in words)]))
+    except (np.linalg.LinAlgError, ArithmeticError, MemoryError) as error:
+        sys.exit(f"recording: {asked.recording} can't be measured: {error}")
+    analysis.say([*text[1 + len(lines) + len(words):], *lines, *(f"! {sentence}" for sentence in words)])
     sys.exit(DISAGREES if words else 0)
 
 
