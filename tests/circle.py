@@ -173,39 +173,40 @@ def short_faults(sound, what):
         yield f"{what}: said {words}"
 
 
-def table_faults(draw, sound, other):
-    """One wrong table beside a sound: whether all that is wrong in it is told, and nothing else."""
-    rows = [copy.copy(row) for row in sound.rows]
-    kind = draw.choice(["stale", "missing", "many", "other", "equal"])
+def wrong_table(draw, sound, other):
+    """A wrong table beside a sound: its kind, its rows, the names of those that are wrong, and how many peaks have no row; none where a wrong row happens to be near a peak."""
+    rows, kind = [copy.copy(row) for row in sound.rows], draw.choice(["stale", "missing", "many", "other", "equal"])
     lost = draw.sample(rows, draw.randint(1, max(1, len(rows) // 3)))
-    changed = {row.name for row in lost}
+    if kind == "missing":
+        return kind, [row for row in rows if row not in lost], set(), len(lost)
+    if kind == "equal":
+        rows.append(copy.copy(lost[0]))
+        rows[-1].name = "twin"
+        return kind, rows, {lost[0].name, "twin"}, 0
     if kind == "stale":
         for row in lost:
             row.hz *= 2 ** (draw.choice([-1, 1]) * draw.uniform(4, 100) / 1200)
-    elif kind == "missing":
-        rows = [row for row in rows if row not in lost]
     elif kind == "many":
         for row in lost:
             row.hz, row.name = row.hz * 2 ** (draw.uniform(10, 90) / 1200), row.name + "-more"
-        rows, changed = [copy.copy(row) for row in sound.rows] + lost, {row.name for row in lost}
-    elif kind == "equal":
-        rows = rows + [copy.copy(lost[0])]
-        rows[-1].name, changed = "twin", {lost[0].name, "twin"}
+        rows = [copy.copy(row) for row in sound.rows] + lost
     else:
-        rows, changed = [copy.copy(row) for row in other.rows], {row.name for row in other.rows}
-    near = [row for row in rows if row.name in changed and any(abs(row.hz - p.hz) < 2 * naming.reach(p.hz) for p in sound.bare[0].partials)] if kind != "equal" else []
+        rows = lost = [copy.copy(row) for row in other.rows]
+    if any(abs(row.hz - p.hz) < 2 * naming.reach(p.hz) for row in lost for p in sound.bare[0].partials):
+        return None
+    return kind, rows, {row.name for row in lost}, {"stale": len(lost), "many": 0, "other": len(sound.bare[0].partials)}[kind]
+
+
+def table_faults(sound, kind, rows, wrong, wanted):
+    """Whether all that is wrong in a table is told, and nothing else."""
     words = sound.told(rows)
-    if near:
-        return
-    for name in changed if kind != "missing" else []:
+    for name in wrong:
         if not any(f" {name}," in sentence or name in sentence.split() for sentence in words):
             yield f"a {kind} table: {name} isn't told: {words}"
-    silent = {row.name for row in sound.rows} - changed if kind != "other" else set()
-    for sentence in words:
-        if any(f"row {name}," in sentence for name in silent):
-            yield f"a {kind} table: {sentence}, though that row is right"
+    for row in rows:
+        if row.name not in wrong and any(f"row {row.name}," in sentence for sentence in words):
+            yield f"a {kind} table: {row.name} is told, though that row is right: {words}"
     without = sum(sentence.startswith("no row for the peak") for sentence in words)
-    wanted = {"stale": len(lost), "missing": len(lost), "many": 0, "equal": 0, "other": len(sound.bare[0].partials)}[kind]
     if without != wanted:
         yield f"a {kind} table: {without} peaks without a row are told, and there are {wanted}: {words}"
 
@@ -242,9 +243,13 @@ def all_faults(program, folder, counts):
         yield from short_faults(Sound(program, folder, rows, 265, passes=int(draw.uniform(0.25, 0.45) / gap / (tables.TICK * 265))), f"short {seed}")
     draw = random.Random("tables")
     single = [sound for sound, what in bells if what.startswith("bell") and not sound.unreached()]
-    for _ in range(STALE):
+    judged = 0
+    while judged < STALE:
         sound, other = draw.sample(single, 2)
-        yield from table_faults(draw, sound, other)
+        table = wrong_table(draw, sound, other)
+        if table:
+            judged += 1
+            yield from table_faults(sound, *table)
 
 
 def main():
