@@ -51,6 +51,8 @@ def commands(folder, prefix):
     assert run("./karvelorn", "partials", "bell.csv", "-o", "new.txt", "--passes", "9000", **here).status == 0
     seen = run("./karvelorn", "hear", "new.txt", "--table", "bell.csv", **here)
     assert (seen.status in (Status.DONE, Status.UNLIKE)) and (at / "new.png").exists(), seen
+    taken = run("./karvelorn", "measure", "new.wav", "-o", "again.csv", **here)
+    assert (taken.status in (Status.DONE, Status.UNLIKE)) and "name,hz,db,t60" in (at / "again.csv").read_text(), taken
     assert run("./karvelorn", "--version", **here).out == f"karvelorn {VERSION}\n" and "hear" in run("./karvelorn", "--help", **here).out
     refused(run("./karvelorn", "run", **here), Status.MISUSED, "name a file")
     return rung.out
@@ -69,7 +71,7 @@ def in_place(folder):
     assert files_below(prefix) == before, "a command has left something under the prefix"
     completion = prefix / "share" / "bash-completion" / "completions" / "karvelorn"
     asked = run("bash", "-c", 'source "$1"; COMP_WORDS=("$2" ""); COMP_CWORD=1; _karvelorn; echo "${COMPREPLY[@]}"', "bash", completion, prefix / "bin" / "karvelorn")
-    assert asked.out.split() == ["partials", "run", "hear", "compare", "--help", "--version"], asked
+    assert asked.out.split() == ["measure", "partials", "run", "hear", "compare", "--help", "--version"], asked
     stale = prefix / "libexec" / "karvelorn" / "tools" / "of_an_earlier_version.py"
     stale.write_text("")
     listed = prefix / "libexec" / "karvelorn" / "LIST"

@@ -5,6 +5,7 @@ A command is a function from its arguments to a Status. What ends it early is an
 
 import argparse
 import errno
+import importlib.util
 import os
 import signal
 import sys
@@ -93,6 +94,13 @@ def read_file(path, most=-1):
     except (OSError, AttributeError) as error:
         reason = getattr(error, "strerror", None) or "standard input is closed"
         raise Ending(f"cannot read {path}: {reason}", Status.UNREAD) from None
+
+
+def need_libraries(names, undone):
+    """Ends where libraries aren't there: what wasn't done, which ones are needed for it, and the command that installs them."""
+    missing = [name for name in names if importlib.util.find_spec(name) is None]
+    if missing:
+        raise Ending(f"{undone}: {', '.join(missing)} {'is' if len(missing) == 1 else 'are'} needed for it: apt install {' '.join(f'python3-{name}' for name in missing)}", Status.MISSING)
 
 
 ENDING_SIGNALS = (signal.SIGINT, signal.SIGTERM, signal.SIGHUP)

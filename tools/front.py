@@ -17,6 +17,7 @@ from command_line import Ending, Status, ended, finish, say, version  # noqa: E4
 from statuses import table  # noqa: E402
 
 COMMANDS = (
+    ("Monday", "measure", "measuring", "a recording becomes a table of its partials"),
     ("Monday", "partials", "partials", "a table of measured partials becomes a bench file"),
     ("Wednesday", "run", "rung", "a bench file is rung pass by pass: a line for each"),
     ("Wednesday", "hear", "heard", "a bench file is heard and seen: its sound, its picture and its partials"),
@@ -36,7 +37,7 @@ def help_lines():
         yield f"  {on if on != day else '':10} {name:10} {does}"
         day = on
     yield from ("", "options:", "  -h, --help  this list", "  --version   print the version and end", "  --commands  the names of the commands alone, a line each",
-                "", "example:", "  karvelorn partials bell.csv -o bell.txt && karvelorn hear bell.txt && karvelorn compare bell.txt", "", "exit status:")
+                "", "example:", "  karvelorn measure bell.flac -o bell.csv; karvelorn partials bell.csv -o bell.txt && karvelorn hear bell.txt && karvelorn compare bell.txt", "", "exit status:")
     yield from table()
 
 

@@ -8,7 +8,6 @@ a refusal, a failure or an interruption no older sound or picture is taken for t
 alone; a picture needs numpy, scipy and matplotlib, and is made by tools/picture.py.
 """
 
-import importlib.util
 import os
 import re
 import subprocess
@@ -20,7 +19,7 @@ from typing import NamedTuple
 import questions
 import sounds
 from building import built
-from command_line import HOME, IN_REPOSITORY, Ending, Parser, Status, read_file, say, start, tell
+from command_line import HOME, IN_REPOSITORY, Ending, Parser, Status, need_libraries, read_file, say, start, tell
 from outputs import destination, made_here, same_file, set_aside, write_whole
 from rung import file_of, said_by
 from table_reader import read_table
@@ -105,21 +104,6 @@ def sound_of(file):
 
 # Picture
 
-def need_libraries():
-    """A picture needs libraries; what isn't there is named with the command that installs it."""
-    missing = [name for name in LIBRARIES if importlib.util.find_spec(name) is None]
-    if missing:
-        raise Ending(f"no picture was made: {', '.join(missing)} {'is' if len(missing) == 1 else 'are'} needed for it: apt install {' '.join(f'python3-{name}' for name in missing)}", Status.MISSING)
-
-
-def readable(path, folder):
-    """A sound as tools/picture.py reads it: a recording of another kind than 24 bits is written so in a folder."""
-    copy = os.path.join(folder, os.path.splitext(os.path.basename(path))[0] + ".wav")
-    with open(copy, "wb") as file:
-        file.write(sounds.as_24_bits(*sounds.read(path)))
-    return copy
-
-
 def need_table(table):
     """A table that gives names must be one."""
     try:
@@ -129,16 +113,15 @@ def need_table(table):
 
 
 def seen(files):
-    """Measures and draws a sound; prints the table of partials and writes the picture."""
-    need_libraries()
+    """Measures and draws a sound; prints its partials and writes the picture. Answers whether all agrees, as a status."""
+    need_libraries(LIBRARIES, "no picture was made")
     if files.table:
         need_table(files.table)
     tell("hear", "measuring and drawing")
     with tempfile.TemporaryDirectory(prefix="karvelorn-") as folder:
-        sound, picture = files.sound or readable(files.file, folder), os.path.join(folder, "picture.png")
-        table = ["--table", files.table] if files.table else []
-        done = subprocess.run([sys.executable, str(HOME / "tools" / "picture.py"), sound, "-o", picture, *table], stdin=subprocess.DEVNULL, stdout=subprocess.PIPE, stderr=subprocess.PIPE,
-                              env={**os.environ, "PYTHONIOENCODING": "utf-8", "PYTHONDONTWRITEBYTECODE": "1"})
+        picture, table = os.path.join(folder, "picture.png"), ["--table", files.table] if files.table else []
+        done = subprocess.run([sys.executable, str(HOME / "tools" / "picture.py"), files.sound or files.file, "-o", picture, *table], stdin=subprocess.DEVNULL, stdout=subprocess.PIPE, stderr=subprocess.PIPE,
+                              env={**os.environ, "TMPDIR": folder, "PYTHONIOENCODING": "utf-8", "PYTHONDONTWRITEBYTECODE": "1"})
         told = done.stderr.decode(errors="replace").strip()
         drawn = read_file(picture) if os.path.isfile(picture) else b""
     if drawn:
@@ -146,18 +129,18 @@ def seen(files):
         tell("hear", f"wrote {files.picture}")
     if done.stdout:
         say(done.stdout.decode(errors="replace"), end="")
-    if done.returncode or not drawn:
-        raise unlike(done.returncode, told)
-    if told:
-        tell("hear", told)
+    if drawn and done.returncode in (Status.DONE, Status.UNLIKE):
+        if told:
+            tell("hear", told.removeprefix("picture: "))
+        return Status(done.returncode)
+    raise undrawn(done.returncode, told)
 
 
-def unlike(status, told):
-    """Why a sound isn't measured or drawn, or is not what its table says."""
-    if "Traceback" in told:
-        return Ending(f"a fault of this software: {told.splitlines()[-1]}", Status.FAULT)
-    known = status in (Status.REFUSED, Status.UNREAD, Status.UNWRITTEN, Status.MISSING)
-    return Ending(told.removeprefix("picture: ") or "the picture can't be made", Status(status) if known else Status.UNLIKE)
+def undrawn(status, told):
+    """Why a sound isn't measured or drawn."""
+    if told and status in (Status.REFUSED, Status.UNREAD, Status.UNWRITTEN, Status.MISSING, Status.UNLIKE):
+        return Ending(f"no picture was made: {told.removeprefix('picture: ')}", Status(status))
+    return Ending(f"a fault of this software: {told.splitlines()[-1] if told else f'tools/picture.py ended with {status} and drew nothing'}", Status.FAULT)
 
 
 # Older files
@@ -187,11 +170,9 @@ def main(arguments):
         if files.sound:
             write_whole({files.sound: sound_of(files.file)}, [files.file])
             tell("hear", f"wrote {files.sound}")
-        if not asked.no_picture:
-            seen(files)
+        return Status.DONE if asked.no_picture else seen(files)
     finally:
         kept(asides)
-    return Status.DONE
 
 
 if __name__ == "__main__":

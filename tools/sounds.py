@@ -120,14 +120,3 @@ def read(path):
     if not np.isfinite(found).all():
         raise Ending(f"{path} has samples that are no numbers")
     return rate, found
-
-
-def as_24_bits(rate, found):
-    """A WAVE file of 24 bits with these samples; what is beyond the range is lowered with all the rest."""
-    import numpy as np
-    found = found / max(1.0, np.abs(found).max(initial=0.0))
-    words = np.clip(np.round(found * 2 ** 23), -2 ** 23, 2 ** 23 - 1).astype("<i4")
-    data = words.reshape(-1, 1).view(np.uint8).reshape(-1, 4)[:, :3].tobytes()
-    channels = found.shape[1]
-    head = struct.pack("<4sI4s4sIHHIIHH4sI", b"RIFF", 36 + len(data), b"WAVE", b"fmt ", 16, PCM, channels, rate, 3 * channels * rate, 3 * channels, 24, b"data", len(data))
-    return head + data
