@@ -91,7 +91,7 @@ def called(p):
 
 def limits(stroke, top=0.0):
     """What may escape a measurement, in words: how near two partials may be, and how quiet one, beside a level that counts as 0 dB."""
-    apart = analysis.BEAT / (stroke.end - stroke.clear)
+    apart = math.ceil(100 * analysis.BEAT / (stroke.end - stroke.clear)) / 100
     return f"two partials less than {apart:.2f} Hz apart may count as one, with wrong numbers; one below {stroke.heard - top:.1f} dB may be missed (T60 {analysis.HEARD_T60:g} s)"
 
 
