@@ -5,9 +5,9 @@ the sound, and what isn't as the table says is told.
 
 Bells, doublets, close sets, strokes and channels: each partial is found without the table's help, gets its own name, and is
 within 1 cent or 0.1 Hz, 0.5 dB and 5 % of its decay, or the report names it as not reachable with the registers' steps; and
-no other partial is found; of partials 46 to 60 dB down one may be told to be unsure. Without a table, two partials of one to three
-quarters of a beat and more are found as two or told not to be told apart, and those that count as one are nearer than is printed.
-Short sounds: two partials nearer than half a beat are said not to be told apart. Tables that are
+no other partial is found. Of partials 46 to 60 dB down none is missed or wrong, though some may be told to be unsure. Doublets
+without a table, of 0.03 to 1.1 beats: two are found, each right or told not to be told apart, or one, and then they are nearer
+than the distance that is printed. Short sounds: two partials nearer than half a beat are said not to be told apart. Tables that are
 stale or another bell's, rows missing and rows too many: each such row and each such peak is told, and no other. Shows too
 that it can fail: beside tables that are off by a little more, every partial is found wanting.
 """

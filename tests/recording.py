@@ -1,6 +1,7 @@
 """From a recording to the table of its partials: bells made here, with noise 50 dB below the peak, the clapper's noise, a
 room's first echoes and a doublet, at 44.1 and 48 kHz, come back within 1 cent and 10 % of each T60, with their names and no
-other partial. Every common form of file is read alike; the mains' hum, clipping, a second stroke and bad files are told.
+other partial. Of partials 46 to 60 dB down in that noise none comes back wrong, and none above the printed level is missed.
+Every common form of file is read alike; the mains' hum, clipping, a second stroke and bad files are told.
 
     /usr/bin/python3 tests/recording.py      (needs numpy and scipy, and soundfile for FLAC)
 """

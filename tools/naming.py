@@ -46,10 +46,10 @@ def share_rows(partials, rows, seconds):
 
 def name_by_ratio(partials):
     """Names from the just ratios: the prime is the one that gives most partials a name, and the loudest ones."""
-    def named_from(prime):
+    def named_from(base):
         named = {}
         for name, ratio in NAMES.items():
-            near = [(-p.db, i) for i, p in enumerate(partials) if abs(cents(p.hz, prime * ratio)) < RATIO_CENTS and i not in named.values()]
+            near = [(-p.db, i) for i, p in enumerate(partials) if abs(cents(p.hz, base * ratio)) < RATIO_CENTS and i not in named.values()]
             if near:
                 named[name] = min(near)[1]
         return named
@@ -67,10 +67,10 @@ def name_by_ratio(partials):
 
 def set_cents(partials):
     """How far each named partial is from its just ratio to the prime."""
-    prime = [p.hz for p in partials if p.name == "prime" and not p.near and "hz" not in p.unsure]
+    base = [p.hz for p in partials if p.name == "prime" and not p.near and "hz" not in p.unsure]
     for p in partials:
-        if prime and p.name in NAMES and not p.near and "hz" not in p.unsure:
-            p.cents = cents(p.hz, prime[0] * NAMES[p.name])
+        if base and p.name in NAMES and not p.near and "hz" not in p.unsure:
+            p.cents = cents(p.hz, base[0] * NAMES[p.name])
 
 
 def name_all(measured, rows):

@@ -16,7 +16,7 @@ from command_line import Ending, Status
 ECHO = 0.4  # what begins so soon after a stroke is its echo
 SETTLED = 0.15  # partials are measured from so many seconds after a stroke on, when its noise and the first echoes are over
 NEAR = 120.0  # a ratio names the loudest partial within so many cents
-STRIKE = {"nominal": 2.0, "superquint": 3.0, "octave nominal": 4.0}  # the strike note is that of which these are nearly multiples
+MULTIPLES = {"nominal": 2.0, "superquint": 3.0, "octave nominal": 4.0}  # the strike note is that of which these are nearly multiples
 MAINS = (50.0, 60.0)
 CLIPPED = 3  # so many samples one after the other at the peak are clipped
 RESIDUAL = -20.0  # more than this, in dB of the sound, may not be left unexplained: noise 50 dB below the peak leaves about -30
@@ -61,10 +61,10 @@ def mains_in(partials):
 
 def name(partials, ratios):
     """Gives names by ratios: the prime is that with which most have a name, and the loudest."""
-    def named_from(prime):
+    def named_from(base):
         chosen = {}
         for word, ratio in ratios.items():
-            near = [i for i, p in enumerate(partials) if abs(naming.cents(p.hz, prime * ratio)) < NEAR and i not in chosen.values()]
+            near = [i for i, p in enumerate(partials) if abs(naming.cents(p.hz, base * ratio)) < NEAR and i not in chosen.values()]
             if near:
                 chosen[word] = max(near, key=lambda i: partials[i].db)
         return chosen
@@ -80,9 +80,9 @@ def name(partials, ratios):
         p.name = p.name or next(free)
 
 
-def strike_note(partials):
+def heard_pitch(partials):
     """The strike note in Hz: of nominal, superquint and octave nominal half, a third and a fourth, the mean by their levels."""
-    chosen = [(p.hz / STRIKE[p.name], 10 ** (p.db / 20)) for p in partials if p.name in STRIKE and not p.near and "hz" not in p.unsure]
+    chosen = [(p.hz / MULTIPLES[p.name], 10 ** (p.db / 20)) for p in partials if p.name in MULTIPLES and not p.near and "hz" not in p.unsure]
     return sum(hz * weight for hz, weight in chosen) / sum(weight for _, weight in chosen) if chosen else math.nan
 
 
@@ -118,8 +118,8 @@ def measured(channels, rate, ratios, highest):
     lines = [f"{len(found)} stroke{'s' if len(found) > 1 else ''}, measured from {done.begin:.3f} to {done.end:.3f} s; {done.residual:.1f} dB of the sound below {highest:g} Hz unexplained", naming.limits(done, loudest_of(done.partials))]
     if before is not None:
         lines.append(f"before the stroke: what is heard is {20 * math.log10(np.abs(channels).max() / (loudness(before) + 1e-9)):.1f} dB below the peak")
-    strike = strike_note(done.partials)
-    lines += [] if math.isnan(strike) else [f"strike note: {strike:.3f} Hz, from nominal, superquint and octave nominal as far as they are told"]
+    pitch = heard_pitch(done.partials)
+    lines += [] if math.isnan(pitch) else [f"strike note: {pitch:.3f} Hz, from nominal, superquint and octave nominal as far as they are told"]
     for p in done.partials:
         other = naming.beat_of(p, done.partials)
         lines += [f"beat of {other.hz - p.hz:.3f} Hz: {p.name} and {other.name}"] if other and told(p) and told(other) else []
