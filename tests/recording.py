@@ -121,6 +121,7 @@ def forms(folder):
         tables.append([(row.name, round(row.hz, 1)) for row in read_table(str(table))])
     assert all(t == tables[0] for t in tables), tables
     ends(run(ROOT / "karvelorn", "partials", table, "-o", Path(folder, "form.txt")), 0)
+    assert "-40" not in run(ROOT / "karvelorn", "hear", path).out and path.with_suffix(".png").exists()
 
 
 def told(folder):

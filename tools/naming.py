@@ -12,7 +12,7 @@ import analysis
 NAMES = {"hum": 0.5, "prime": 1.0, "tierce": 1.2, "quint": 1.5, "nominal": 2.0}
 ROW_CENTS, ROW_HERTZ = 2.0, 0.2  # a row names a peak within so many cents, or so many Hz where that is more
 RATIO_CENTS = 80.0  # a just ratio names a peak within so many cents
-RESIDUAL = -40.0  # more than this, in dB of the sound, may not be left unexplained
+RESIDUAL, RECORDED_RESIDUAL = -40.0, -20.0  # more than this, in dB of the sound or of a recording, may not be left unexplained: noise 50 dB below the peak leaves about -30
 BEATING = 10.0  # two partials so many Hz apart beat
 
 
@@ -150,8 +150,8 @@ def not_told(stroke):
             yield f"{called(p)}: {' and '.join(what[u] for u in what if u in p.unsure)} can't be told in {seconds:.2f} s of sound"
 
 
-def findings(measured, rows, noise, table):
-    """All that doesn't agree, in words; rows are the table's, if there is one, without its noise."""
+def findings(measured, rows, noise, table, most=RESIDUAL):
+    """All that doesn't agree, in words; rows are the table's, if there is one, without its noise. So many dB may be left unexplained."""
     peaks = [p for stroke in measured for p in stroke.partials]
     whole = [stroke for stroke in measured if not stroke.short]
     if not whole:
@@ -163,6 +163,6 @@ def findings(measured, rows, noise, table):
         words += [*equal_rows(rows), *lost_rows(rows, peaks), *lost_peaks(rows, peaks), *noise_words(measured, noise)]
     for stroke in whole:
         words += not_told(stroke)
-        if stroke.residual > RESIDUAL:
-            words.append(f"the partials leave {stroke.residual:.1f} dB of the sound unexplained, more than {RESIDUAL:g} dB: what is printed is not the whole sound")
+        if stroke.residual > most:
+            words.append(f"the partials leave {stroke.residual:.1f} dB of the sound unexplained, more than {most:g} dB: what is printed is not the whole sound")
     return words

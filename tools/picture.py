@@ -28,7 +28,7 @@ import numpy as np  # noqa: E402
 
 import analysis  # noqa: E402
 import naming  # noqa: E402
-from outputs import destination, write_whole  # noqa: E402
+from outputs import destination, made_here, write_whole  # noqa: E402
 from table_reader import read_table  # noqa: E402
 
 SIDES = ("left (DAC 0)", "right (DAC 1)")
@@ -156,7 +156,7 @@ def seen(sound, table):
     noise = next((row for row in rows if row.noise), None)
     rows = [row for row in rows if not row.noise]
     naming.name_all(measured, rows)
-    found = naming.findings(measured, rows, noise, table)
+    found = naming.findings(measured, rows, noise, table, naming.RESIDUAL if made_here(sound) else naming.RECORDED_RESIDUAL)
     return draw(os.path.basename(sound), channels, rate, measured, rows, found), list(report(measured, found)), not found
 
 

@@ -19,7 +19,6 @@ NEAR = 120.0  # a ratio names the loudest partial within so many cents
 MULTIPLES = {"nominal": 2.0, "superquint": 3.0, "octave nominal": 4.0}  # the strike note is that of which these are nearly multiples
 MAINS = (50.0, 60.0)
 CLIPPED = 3  # so many samples one after the other at the peak are clipped
-RESIDUAL = -20.0  # more than this, in dB of the sound, may not be left unexplained: noise 50 dB below the peak leaves about -30
 DECAY = 0.1  # a decay is told within so much
 
 
@@ -127,5 +126,5 @@ def measured(channels, rate, ratios, highest):
     words += [f"{len(found)} strokes: only the longest is measured"] if len(found) > 1 else []
     words += [f"clipped {clipped(channels)} times: levels and peaks may be wrong"] if clipped(channels) else []
     words += naming.not_told(done)
-    words += [f"{done.residual:.1f} dB of the sound are unexplained, more than {RESIDUAL:g} dB"] if done.residual > RESIDUAL else []
+    words += [f"{done.residual:.1f} dB of the sound are unexplained, more than {naming.RECORDED_RESIDUAL:g} dB"] if done.residual > naming.RECORDED_RESIDUAL else []
     return done.partials, lines, words
