@@ -18,6 +18,9 @@ from pathlib import Path
 ROOT = Path(__file__).resolve().parent.parent
 sys.path[:0] = [str(ROOT), str(ROOT / "tools")]
 import compared  # noqa: E402
+import questions  # noqa: E402
+from machine_words import name_of  # noqa: E402
+from statuses import Status  # noqa: E402
 from reference import layout, orders, parts  # noqa: E402
 from reference.machine import fresh_machine, put_update_ticks  # noqa: E402
 from reference.update import run_update  # noqa: E402
@@ -187,18 +190,18 @@ def limited(at):
     trigger = "Only until a trigger changes {}: with another mode there the orders may part."
     command = "Only until commands change modes, sum words, DACs or T, the first of them in line {} of the file."
     swapped = "The second order, from second.order: 1, 0."
-    at.says(at.file(bench([(TRIGGERS, {}), (STOPS, {})])), (1, 0), 0, swapped, begins, trigger.format("generator 1"))
+    at.says(at.file(bench([(TRIGGERS, {}), (STOPS, {})])), (1, 0), Status.UNTIL, swapped, begins, trigger.format("generator 1"))
     at.says(at.file(bench([(TRIGGERS, {}), (STOPS, {})])), (0, 1), 0, "The second order, from second.order, the same as by number: 0, 1.", YES)
     at.says(at.file(bench([(RUNS, {}), (STOPS, {})])), (1, 0), 0, swapped, YES)
-    at.says(at.file(bench([(WAITS, dict(gsum=3)), (READS, dict(gsum=3))])), (1, 0), 0, swapped, begins, trigger.format("generator 0"))
-    at.says(at.file(bench([(WAITS, {}), (WAITS, {}), (STOPS, {})])), (2, 1, 0), 0, "The second order, from second.order: 2, 1, 0.", begins, trigger.format("generators 1 and 2"))
+    at.says(at.file(bench([(WAITS, dict(gsum=3)), (READS, dict(gsum=3))])), (1, 0), Status.UNTIL, swapped, begins, trigger.format("generator 0"))
+    at.says(at.file(bench([(WAITS, {}), (WAITS, {}), (STOPS, {})])), (2, 1, 0), Status.UNTIL, "The second order, from second.order: 2, 1, 0.", begins, trigger.format("generators 1 and 2"))
     linger, gp, gmode, gmode_off, t = 30 << 12 | 0b00010 << 7 | 0b10 << 3, 0b0110 << 8 | 1, 0b1010 << 8 | 1, 0b11 << 30 | 0b1010 << 8 | 1, 0b00011 << 7
     two = [(RUNS, {}), (RUNS, {})]
     lines = bench(two).count("\n")
     at.says(at.file(bench(two, (linger, gp, gmode_off, gmode + 1))), (1, 0), 0, swapped, YES)
-    at.says(at.file(bench(two, (linger, gp, gmode, t))), (1, 0), 0, swapped, begins, command.format(lines + 3))
-    at.says(at.file(bench([(TRIGGERS, {}), (STOPS, {})], (t,))), (1, 0), 0, swapped, begins, trigger.format("generator 1"), command.format(lines + 1))
-    at.says(at.file(bench(two, (gmode, t))), (1, 0), 0, swapped, begins, command.format(lines + 1))
+    at.says(at.file(bench(two, (linger, gp, gmode, t))), (1, 0), Status.UNTIL, swapped, begins, command.format(lines + 3))
+    at.says(at.file(bench([(TRIGGERS, {}), (STOPS, {})], (t,))), (1, 0), Status.UNTIL, swapped, begins, trigger.format("generator 1"), command.format(lines + 1))
+    at.says(at.file(bench(two, (gmode, t))), (1, 0), Status.UNTIL, swapped, begins, command.format(lines + 1))
 
 
 def long_orders(at):
@@ -216,55 +219,72 @@ def long_orders(at):
 
 
 def refusals(at):
-    """Each refusal, with its question as README has it."""
+    """Each refusal, with its question as README has it and its cause."""
     table = dict(re.findall(r"^\| (\d+) \| (.*\?) \|$", (ROOT / "README.md").read_text(), flags=re.M))
-    assert all(table[str(number)] == question for number, question in compared.QUESTIONS.items()), "the questions aren't README's"
+    assert all(table[str(number)] == question for number, question in questions.QUESTIONS.items()), "the questions aren't README's"
     two = bench([(RUNS, {}), (RUNS, {})])
-    for text in ("", "passes=x\n", two + "\n", two[:-1], "\n", two + "#" * 65536, b"\xff\n", b"passes=1\nword=0:\xb2\n"):
-        at.says(at.file(text), None, 2, f"machine.txt doesn't pass question 9: {table['9']}")
-        at.says(at.file(text), "no order", 2, f"machine.txt doesn't pass question 9: {table['9']}")
-    for words in (dict(w0=1 << 20), dict(w4113=0), dict(w4113=257), dict(w4114=1), dict(w10=0b0100 << 6)):
+    lines = two.count("\n")
+    for text, cause in (("", "the file is empty: passes= is missing"), ("passes=x\n", "line 1 (passes=x): the number of passes is no decimal number"), (two + "\n", f"line {lines + 1}: is empty"),
+                        (two[:-1], f"line {lines} (word=4113:2): has no LF at its end"), ("\n", "line 1: is empty"), (two + "#" * 65536, "the file has more than 65536 bytes"),
+                        (b"\xff\n", "line 1 (\\xff): passes= is missing: it must be the first line"), (b"passes=1\nword=0:\xb2\n", "line 2 (word=0:\\xb2): the value is no decimal number")):
+        for order in (None, "no order"):
+            at.says(at.file(text), order, Status.REFUSED, f"machine.txt doesn't pass question 9: {table['9']}", f"  {cause}")
+    for words, cause in ((dict(w0=1 << 20), "line 2: GO of generator 0 (word 0) has 1048576, at most 1048575"), (dict(w4113=0), "T (word 4113) has 0, 1 to 256"), (dict(w4113=257), "T (word 4113) has 257, 1 to 256"),
+                         (dict(w4114=1), "N (word 4114) has 1, 2 to 1025"), (dict(w10=0b0100 << 6), "GMODE of generator 0 (word 10) has 256: run mode 0100, built are 0000 0001 0010 0011 0111 1001 1101 1110 1111")):
+        text = bench([(RUNS, {}), (RUNS, {})], **words)
+        place = re.search(r"word (\d+)", cause)[1]
+        line = next(number for number, line in enumerate(text.splitlines(), 1) if line.startswith(f"word={place}:"))
         for order in (None, (1, 0), (7, 7, 7)):
-            at.says(at.file(bench([(RUNS, {}), (RUNS, {})], **words)), order, 2, f"The machine of machine.txt doesn't pass question 2: {table['2']}")
+            at.says(at.file(text), order, Status.REFUSED, f"The machine of machine.txt doesn't pass question 2: {table['2']}", f"  line {line}: {cause.partition(': ')[2] if cause.startswith('line') else cause}")
     file = at.file(two)
     for order in ((0,), (0, 1, 0), (1, 0, 2), range(256)):
-        at.says(file, order, 2, f"second.order doesn't pass question 5: {table['5']} T is 2 in machine.txt.")
+        at.says(file, order, Status.REFUSED, f"second.order doesn't pass question 5: {table['5']} T is 2 in machine.txt.")
     for order in ((0, 0), (1, 2), (255, 0)):
-        at.says(file, order, 2, f"second.order doesn't pass question 6: {table['6']} T is 2 in machine.txt.")
+        at.says(file, order, Status.REFUSED, f"second.order doesn't pass question 6: {table['6']} T is 2 in machine.txt.")
     for order in ("", "\n", "order=0\norder=1", "order=0\norder=01\n", "order=0\norder=256\n", "order=0\n\norder=1\n", "order=0 \norder=1\n", "order=1\r\norder=0\r\n", "1\n0\n", "order=\n", "order=0\n" * 257, b"order=\xb2\n"):
-        at.says(file, order, 2, "second.order is no order file: it must have 1 to 256 lines order=G, each with a number G from 0 to 255 without leading zeros and ended by LF.")
+        at.says(file, order, Status.REFUSED, "second.order is no order file: it must have 1 to 256 lines order=G, each with a number G from 0 to 255 without leading zeros and ended by LF.")
+
+
+# Runs what ./compare does with another program.
+WITH_PROGRAM = "import sys; sys.path[:0] = ['tools']; import command_line, compared; command_line.start('compare', lambda words: compared.answer(*words))"
 
 
 def trouble(at):
-    """What can't be read or isn't known ends with status 3 and a line on standard error."""
+    """What can't be read or isn't known ends with a status of its own and a line on standard error."""
     file, none = at.file(bench([(RUNS, {})])), at.path / "none"
     for call in ((none,), (file, none), (none, none), (at.path,), (file, at.path)):
         done = run("./compare", *call)
-        missing = none if none in call else at.path
-        assert (done.returncode, done.stdout, done.stderr) == (3, "", f"compare: cannot read {missing}\n"), done
+        missing, reason = (none, "No such file or directory") if none in call else (at.path, "Is a directory")
+        assert (done.returncode, done.stdout, done.stderr) == (Status.UNREAD, "", f"compare: cannot read {missing}: {reason}\n"), done
     usage = run("./compare", "--help")
-    assert usage.returncode == 0 and usage.stdout.startswith("./compare FILE [ORDER-FILE]\n") and not usage.stderr, usage
+    assert usage.returncode == 0 and usage.stdout.startswith("usage: karvelorn compare [-h] [--version] FILE [ORDER-FILE]\n") and '"Only until .."' in usage.stdout and not usage.stderr, usage
     for call in ((), (file, file, file)):
         done = run("./compare", *call)
-        assert (done.returncode, done.stdout, done.stderr) == (3, "", usage.stdout), done
+        assert (done.returncode, done.stdout) == (Status.MISUSED, "") and "--help" in done.stderr, done
     # What can't be written is no verdict, of a bell that is the same neither.
     with open("/dev/full", "w") as full:
         done = subprocess.run(["./compare", "examples/bell.txt"], stdout=full, stderr=subprocess.PIPE, text=True, cwd=ROOT)
-    assert (done.returncode, done.stderr) == (3, "compare: cannot write: No space left on device\n"), done
+    assert (done.returncode, done.stderr) == (Status.UNWRITTEN, "compare: cannot write: No space left on device\n"), done
     reader, writer = os.pipe()
     os.close(reader)
     done = subprocess.run(["./compare", "examples/bell.txt"], stdout=writer, stderr=subprocess.PIPE, text=True, cwd=ROOT)
     os.close(writer)
-    assert (done.returncode, done.stderr) == (3, "compare: cannot write: Broken pipe\n"), done
+    assert (done.returncode, done.stderr) == (Status.UNWRITTEN, "compare: cannot write: Broken pipe\n"), done
     done = subprocess.run("./compare examples/bell.txt >&-", shell=True, stdout=subprocess.PIPE, stderr=subprocess.PIPE, text=True, cwd=ROOT)
-    assert done.returncode == 3 and done.stderr.startswith("compare: ") and done.stderr.count("\n") == 1, done
+    assert (done.returncode, done.stderr) == (Status.UNWRITTEN, "compare: cannot write: standard output is closed\n"), done
+    other_programs(at, file)
+
+
+def other_programs(at, file):
+    """Programs that print or do what sorted never does."""
     program = at.path / "program"
-    for prints, sentence in (("echo no", "printed what is not known here: ['no']"), ("true", "printed what is not known here: []"), ("exit 5", "ended with status 5"), ("echo sorted: cannot read it >&2", "sorted: cannot read it"),
-                             ("echo equal", "isn't so in the file"), ("echo order=0; echo point=1 place=1 word=2", "isn't so in the file")):
+    for prints, status, sentence in (("echo no", Status.FAULT, "printed what is not known here: ['no']"), ("true", Status.FAULT, "printed what is not known here: []"), ("exit 5", Status.FAULT, "ended with status 5"),
+                                     ("echo sorted: cannot read it >&2", Status.UNREAD, "sorted: cannot read it"), ("echo sorted: cannot write >&2", Status.UNWRITTEN, "sorted: cannot write"),
+                                     ("echo equal", Status.FAULT, "isn't so in the file"), ("echo order=0; echo point=1 place=1 word=2", Status.FAULT, "isn't so in the file")):
         program.write_text(f"#!/bin/sh\n{prints}\n")
         program.chmod(0o755)
-        done = run("/usr/bin/python3", "tools/compared.py", program, file)
-        assert done.returncode == 3 and not done.stdout and done.stderr.startswith("compare: ") and sentence in done.stderr, done
+        done = run("/usr/bin/python3", "-c", WITH_PROGRAM, program, file)
+        assert done.returncode == status and not done.stdout and done.stderr.startswith("compare: ") and sentence in done.stderr, done
 
 
 def readme(at):
@@ -279,14 +299,13 @@ def readme(at):
 
 def named_words():
     """Every word of the machine has its name."""
-    bell = compared.Bell(b"passes=0\n")
-    bell.names = {255: "nominal"}
+    partials = {255: "nominal"}
     names = {0: "GO of generator 0", 10: "GMODE of generator 0", 2815: "GMODE of generator 255 (nominal)", 2816: "M0 of modifier 0", 3839: "MMODE of modifier 127", 3840: "generator-this sum word 0",
              3967: "generator-last sum word 63", 3968: "modifier-this sum word 0", 4095: "modifier-last sum word 63", 4096: "DAC word 0", 4111: "DAC word 15", layout.DX: "DX", layout.T: "T", layout.N: "N",
              layout.COUNTER: "the pass counter", layout.LINGERING: "lingering", layout.LINGER_PASS: "the Linger pass", layout.OVERRUN: "overrun", 4119: "X of delay unit 0", 4342: "the third word of delay unit 31", 4343: "the update ticks"}
     for place, name in names.items():
-        assert bell.word(place) == name, (place, bell.word(place))
-    assert len({bell.word(place) for place in range(layout.MACHINE_WORDS)}) == layout.MACHINE_WORDS
+        assert name_of(place, partials) == name, (place, name_of(place, partials))
+    assert len({name_of(place) for place in range(layout.MACHINE_WORDS)}) == layout.MACHINE_WORDS
 
 
 def machine_of(text):
@@ -373,7 +392,7 @@ def at_random(at, draw):
         file, order, machine = at.file(text), at.file(order_text(second), "second.order"), machine_of(text.encode())
         answer = parts.parts(machine, range(len(second)), second, [0] * layout.MACHINE_WORDS, [0] * 256)
         said, status = compared.compared(str(PROGRAM), str(file), str(order))
-        assert answer.number == 0 and status == (1 if answer.point else 0), (text, second, said)
+        assert answer.number == 0 and status == (Status.NO if answer.point else Status.UNTIL if "as the file begins" in said[1] else Status.DONE), (text, second, said)
         assert said[1].startswith("No" if answer.point else "Yes") and (not answer.point or named_behind(answer.point, answer.place, machine, range(len(second)), second, said[2])), (text, second, said)
         met[answer.point] += 1
     assert min(met.values()) > 10, met

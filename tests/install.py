@@ -1,46 +1,113 @@
-"""`./install PREFIX` puts everything in place: the example host, built with what pkg-config says, rings as `ring` does,
-the installed programs are those that were built, and bad calls end with a sentence and leave nothing.
+"""`./install PREFIX` puts everything in place, also under a prefix with a space and behind DESTDIR, and takes it away again: the
+example host, built with what pkg-config says, rings as the program does; the installed command works without the repository; bad
+calls end with a sentence and a status, and leave nothing.
 
-    python3 tests/install.py
+    /usr/bin/python3 tests/install.py      (what isn't built is built)
 """
 
 import os
-import subprocess
+import re
+import shlex
+import shutil
 import sys
 import tempfile
 from pathlib import Path
 
-ROOT = Path(__file__).resolve().parent.parent
+from calls import ROOT, Status, names, refused, run
+
+VERSION = (ROOT / "VERSION").read_text().strip()
+BELL = ROOT / "examples" / "short_bell.txt"
 
 
-def run(*command, **more):
-    return subprocess.run([str(word) for word in command], stdout=subprocess.PIPE, stderr=subprocess.PIPE, cwd=ROOT, **more)
+def files_below(folder):
+    """All files below a folder."""
+    return {str(path.relative_to(folder)) for path in Path(folder).rglob("*") if not path.is_dir()}
+
+
+def host(folder, prefix):
+    """The example host, with the library, the header and the pkg-config file of a prefix."""
+    here = dict(os.environ, PKG_CONFIG_PATH=str(prefix / "lib" / "pkgconfig"))
+    flags = shlex.split(run("pkg-config", "--cflags", "--libs", "karvelorn", env=here).out)
+    assert f"-I{prefix}/include" in flags and f"-L{prefix}/lib" in flags and "-lkarvelorn" in flags, flags
+    assert run("pkg-config", "--modversion", "karvelorn", env=here).out.strip() == VERSION and re.fullmatch(r"\d+\.\d+\.\d+", VERSION)
+    program = Path(folder, "ring_host")
+    made = run("gcc", "-std=c99", "-O2", "-Wall", "-Werror", "examples/ring_host.c", *flags, "-o", program)
+    assert made.status == 0, made.err
+    return run(program, input=BELL.read_bytes()).out
+
+
+def commands(folder, prefix):
+    """The installed command, by a link to it, in a folder of its own and without rt: all its commands work."""
+    at = Path(folder, "a bell")
+    at.mkdir()
+    shutil.copy(BELL, at / "bell.txt")
+    shutil.copy(ROOT / "examples" / "bell.csv", at)
+    (at / "karvelorn").symlink_to(prefix / "bin" / "karvelorn")
+    here = {"cwd": at, "env": {"PATH": "/usr/bin:/bin"}}
+    rung = run("./karvelorn", "run", "bell.txt", **here)
+    assert rung.status == 0 and rung.out.count("\n") == 40
+    assert run("./karvelorn", "hear", "--no-picture", "bell.txt", **here).status == 0 and (at / "bell.wav").read_bytes()[:4] == b"RIFF"
+    assert run("./karvelorn", "compare", "bell.txt", **here).out.startswith("The second order, by pitch: ")
+    assert run("./karvelorn", "partials", "bell.csv", "-o", "new.txt", "--passes", "9000", **here).status == 0
+    seen = run("./karvelorn", "hear", "new.txt", "--table", "bell.csv", **here)
+    assert (seen.status in (Status.DONE, Status.UNLIKE)) and (at / "new.png").exists(), seen
+    taken = run("./karvelorn", "measure", "new.wav", "-o", "again.csv", **here)
+    assert (taken.status in (Status.DONE, Status.UNLIKE)) and "name,hz,db,t60" in (at / "again.csv").read_text(), taken
+    assert run("./karvelorn", "--version", **here).out == f"karvelorn {VERSION}\n" and "hear" in run("./karvelorn", "--help", **here).out
+    refused(run("./karvelorn", "run", **here), Status.MISUSED, "name a file")
+    return rung.out
+
+
+def in_place(folder):
+    """Under a prefix with a space and an apostrophe, twice; then gone."""
+    prefix = Path(folder, "the foundry's prefix")
+    done = run("./install", prefix)
+    assert done.status == 0 and f"stand under {prefix}" in done.err, done
+    assert names(prefix / "bin") == ["karvelorn"], "everybody's path has one name"
+    for name in ("ring", "wav", "sorted"):
+        assert (prefix / "libexec" / "karvelorn" / "programs" / name).read_bytes() == (ROOT / "target" / "bin" / name).read_bytes()
+    before = files_below(prefix)
+    assert commands(folder, prefix) == host(folder, prefix)
+    assert files_below(prefix) == before, "a command has left something under the prefix"
+    completion = prefix / "share" / "bash-completion" / "completions" / "karvelorn"
+    asked = run("bash", "-c", 'source "$1"; COMP_WORDS=("$2" ""); COMP_CWORD=1; _karvelorn; echo "${COMPREPLY[@]}"', "bash", completion, prefix / "bin" / "karvelorn")
+    assert asked.out.split() == ["measure", "partials", "run", "hear", "compare", "--help", "--version"], asked
+    stale = prefix / "libexec" / "karvelorn" / "tools" / "of_an_earlier_version.py"
+    stale.write_text("")
+    listed = prefix / "libexec" / "karvelorn" / "LIST"
+    listed.write_text("f libexec/karvelorn/tools/of_an_earlier_version.py\n" + listed.read_text())
+    assert run("./install", prefix).status == 0 and files_below(prefix) == before
+    (prefix / "bin" / "another").write_text("")
+    assert run("./install", "--uninstall", prefix).status == 0
+    assert files_below(prefix) == {"bin/another"} and names(prefix) == ["bin"], files_below(prefix)
+    refused(run("./install", "--uninstall", prefix), Status.UNREAD, "nothing is installed under")
+
+
+def behind(folder):
+    """Behind DESTDIR: what the files say is the prefix alone."""
+    package = Path(folder, "a package")
+    here = dict(os.environ, DESTDIR=str(package))
+    assert run("./install", "/opt/bells", env=here).status == 0 and not os.path.exists("/opt/bells")
+    root = package / "opt" / "bells"
+    assert (root / "lib" / "pkgconfig" / "karvelorn.pc").read_text().startswith("prefix=/opt/bells\n") and str(package) not in (root / "bin" / "karvelorn").read_text()
+    assert run(root / "bin" / "karvelorn", "run", BELL).out.count("\n") == 40
+    assert run("./install", "uninstall", "/opt/bells", env=here).status == 0 and not files_below(package)
 
 
 def main():
     with tempfile.TemporaryDirectory() as folder:
-        prefix = Path(folder, "prefix")
-        done = run("./install", prefix)
-        assert done.returncode == 0, done.stderr.decode()
-        here = dict(os.environ, PKG_CONFIG_PATH=str(prefix / "lib" / "pkgconfig"))
-        flags = run("pkg-config", "--cflags", "--libs", "karvelorn", env=here).stdout.decode().split()
-        assert f"-I{prefix}/include" in flags and "-lkarvelorn" in flags, flags
-        host = Path(folder, "ring_host")
-        made = run("gcc", "-std=c99", "-O2", "-Wall", "-Werror", "examples/ring_host.c", *flags, "-o", host)
-        assert made.returncode == 0, made.stderr.decode()
-        text = (ROOT / "examples" / "short_bell.txt").read_bytes()
-        rung = run(prefix / "bin" / "ring", input=text)
-        assert rung.stdout == run(host, input=text).stdout and rung.stdout.count(b"\n") == 40
-        for name in ("ring", "wav", "sorted"):
-            assert (prefix / "bin" / name).read_bytes() == (ROOT / "target" / "bin" / name).read_bytes()
-        assert run(prefix / "bin" / "wav", input=text).stdout[:4] == b"RIFF"
-        assert run(prefix / "bin" / "sorted", input=text).stdout.endswith(b"order=4\nequal\n")
+        in_place(folder)
+        behind(folder)
         blocked = Path(folder, "file")
         blocked.write_text("")
-        for call in ([], ["a", "b"], [str(blocked / "below")]):
-            bad = run("./install", *call)
-            assert bad.returncode == 1 and bad.stderr.startswith(b"install: ") and not bad.stdout, (call, bad)
-    print("installed: programs, library, header and karvelorn.pc; the example host rings as ring does")
+        for call, status, sentence in (([], Status.MISUSED, "PREFIX"), (["a", "b"], Status.MISUSED, "name one prefix"), ([""], Status.MISUSED, "name one prefix"), (["--nonsense", "a"], Status.MISUSED, "--nonsense"),
+                                       ([str(blocked / "below")], Status.UNWRITTEN, "cannot write under"), (["--uninstall", str(blocked)], Status.UNWRITTEN, "cannot write under")):
+            refused(run("./install", *call), status, "install: ", sentence)
+        link = Path(folder, "link to install")
+        link.symlink_to(ROOT / "install")
+        assert run(link, "relative prefix", cwd=folder).status == 0 and Path(folder, "relative prefix", "bin", "karvelorn").exists()
+        assert run(link, "--uninstall", "relative prefix", cwd=folder).status == 0 and not Path(folder, "relative prefix").exists()
+    print(f"installed and taken away: commands, programs, tools, library, header, completion and karvelorn.pc {VERSION}; the example host rings as the command does")
 
 
 if __name__ == "__main__":

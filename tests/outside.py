@@ -1,15 +1,19 @@
 """Tries the bench program where the outside fails it: a full device, a closed pipe, a failing descriptor, input in pieces.
+Then README's recipe for many files, also on a disk of 500 kB.
 
     python3 tests/outside.py [PROGRAM]
 
-target/bin/ring must be built. It runs in a stack of 512 kB. A failed write must end it with one line on
+target/bin/ring and target/bin/wav must be built. It runs in a stack of 512 kB. A failed write must end it with one line on
 standard error and no later line; a failed read must have it print nothing, since a part of a file may be
-another file. What the machine cannot do is left out with a sentence.
+another file. The recipe leaves whole sounds or none, and ends with a status that tells. What the machine cannot do is left
+out with a sentence.
 """
 
 import fcntl
 import os
+import re
 import resource
+import shutil
 import signal
 import socket
 import struct
@@ -236,6 +240,74 @@ def slow_input():
             yield f"{name}, in pieces", in_pieces(text, 1000), Outcome(file(name, text).printed, b"", 0)
 
 
+# Many files, as README says
+
+SOUND_BYTES = 44 + 6 * PASSES_MOST
+DISK = "500k"
+# What is left on a disk of its own, which is gone afterwards: the status and the files with their sizes.
+ON_A_DISK = """mount -t tmpfs -o size={disk} none "$1" && cp -a "$2/." "$1" && cd "$1" || exit 99
+{recipe}
+echo "status $?"; find . -type f -printf '%P/%s\\n'"""
+
+
+def recipe():
+    """README's recipe."""
+    with open(os.path.join(ROOT, "README.md"), encoding="utf-8") as page:
+        found = re.findall(r"^    (printf .*xargs.*)$", page.read(), re.M)
+    assert len(found) == 1, found
+    return found[0]
+
+
+def bells(folder, names):
+    """A folder of bells, each the example with its own name, and ./hear as a link."""
+    os.makedirs(os.path.join(folder, "bells"))
+    os.symlink(os.path.join(ROOT, "hear"), os.path.join(folder, "hear"))
+    for name in names:
+        shutil.copy(os.path.join(ROOT, "examples", "bell.txt"), os.path.join(folder, "bells", name + ".txt"))
+
+
+def left(folder):
+    """The sounds in a folder with their sizes, and what is neither a sound nor a bench file."""
+    found = sorted(os.listdir(os.path.join(folder, "bells")))
+    sizes_ = {name: os.path.getsize(os.path.join(folder, "bells", name)) for name in found if name.endswith(".wav")}
+    return sizes_, [name for name in found if not name.endswith((".wav", ".txt"))]
+
+
+def many_files():
+    """The recipe with names that have blanks, apostrophes and umlauts; one file is refused, and had a sound before."""
+    names = ["a bell", "the foundry's d'5", "Größe"]
+    with tempfile.TemporaryDirectory() as folder:
+        bells(folder, names)
+        done = subprocess.run(["bash", "-c", recipe()], cwd=folder, stderr=subprocess.PIPE)
+        whole = {name + ".wav": SOUND_BYTES for name in names}
+        yield "many files", (done.returncode, left(folder)), (0, (whole, []))
+        with open(os.path.join(folder, "bells", names[1] + ".txt"), "ab") as bell:
+            bell.write(b"word=0:0")
+        done = subprocess.run(["bash", "-c", recipe()], cwd=folder, stderr=subprocess.PIPE)
+        whole[names[1] + ".older.wav"] = whole.pop(names[1] + ".wav")
+        told = b"the foundry's d'5.txt makes no sound: refused=9" in done.stderr and b"has no LF at its end" in done.stderr
+        yield "many files, one refused", (done.returncode, left(folder), told), (123, (whole, []), True)
+        done = subprocess.run(["bash", "-c", recipe().replace("bells/", "none/")], cwd=folder, stderr=subprocess.PIPE)
+        yield "no files", (done.returncode, b"cannot read none/*.txt" in done.stderr), (123, True)
+
+
+def small_disk():
+    """The recipe on a disk with room for one of two sounds: each is whole or not there, and the status tells."""
+    if subprocess.run(["unshare", "-m", "sh", "-c", "mount -t tmpfs -o size=4k none /tmp"], stderr=subprocess.DEVNULL).returncode:
+        print("outside: left out, since this machine does not have it: a disk of its own for a test")
+        return
+    for times in ("$(nproc)", "1"):
+        with tempfile.TemporaryDirectory() as disk, tempfile.TemporaryDirectory() as folder:
+            bells(folder, ["one bell", "another's"])
+            script = ON_A_DISK.format(disk=DISK, recipe=recipe().replace("$(nproc)", times))
+            done = subprocess.run(["unshare", "-m", "bash", "-c", script, "bash", disk, folder], stdout=subprocess.PIPE, stderr=subprocess.PIPE)
+        status, *lines = done.stdout.decode().splitlines()
+        sounds = [line for line in lines if not line.rpartition("/")[0].endswith(".txt")]
+        whole = all(line.rpartition("/")[0].endswith(".wav") and int(line.rpartition("/")[2]) == SOUND_BYTES for line in sounds)
+        least = 1 if times == "1" else 0
+        yield f"a disk of {DISK}, {times} at a time", (status, whole, least <= len(sounds) <= 1, b"No space left on device" in done.stderr), ("status 123", True, True, True)
+
+
 def checks():
     """All checks."""
     yield from ordinary()
@@ -245,6 +317,8 @@ def checks():
     yield from filled_pipe()
     yield from failing_reads()
     yield from slow_input()
+    yield from many_files()
+    yield from small_disk()
 
 
 def main():

@@ -1,22 +1,32 @@
-"""The partials of a sound: where its spectrum has peaks, and the frequency, level and decay of each, fitted together.
+"""The partials of a sound, as they are in it: of each stroke and each channel the damped sines that explain it, and what
+they leave. What is looked for doesn't depend on any table; names come afterwards (naming.py).
 
-Needs numpy and scipy; levels are in dB below the largest number that a 20-bit word holds.
+Needs numpy and scipy; levels are in dB below the largest number that a 20-bit word holds, at the stroke's beginning.
 """
 
 import math
-import wave
-from dataclasses import dataclass
+from dataclasses import dataclass, field
 
 import numpy as np
 from scipy import signal
 
-FULL = 2 ** 19
-DECAY_TO_T60 = 3 * math.log(10)  # an amplitude that falls by e^-d in a second falls by 60 dB in 3 ln 10 / d seconds
-NAMES = {"hum": 0.5, "prime": 1.0, "tierce": 1.2, "quint": 1.5, "nominal": 2.0}
+import damped
+import sounds
+import strokes
+from command_line import Ending, Status
 
-
-class Wrong(Exception):
-    """What is wrong with a sound."""
+FEWEST, SLOWEST = 256, 2000  # a sound has so many samples, and so many in a second
+SHORTEST = 0.2  # a stroke with fewer seconds is not measured
+SPAN, QUIETEST = 66.0, -84.0  # a partial is at most so many dB below the loudest, and is above this level
+SHORTEST_T60 = 0.25  # and lasts so long
+BEAT = 0.75  # two partials are told apart if the sound lasts so much of a beat
+MASKED = 35.0  # nearer than that, one that is so many dB softer is what the louder one's steps leave
+CENTS, HERTZ, LEVEL, DECAY = 1.0, 0.1, 0.5, 0.05  # what is sure: within a cent or 0.1 Hz, 0.5 dB, and so much of the decay,
+SURE, SURE_BESIDE = 3.0, 8.0  # so many standard deviations wide; beside another whose peak overlaps, more
+LASTING = 0.005  # what falls by less than e to this does not decay
+DAMPED = 0.03  # a damping is judged by so many seconds before and after it
+HEARD_T60, HEARD_MARGIN = 2.0, 3.0  # a partial of such a T60 is found if it is so many dB above where it stands out of what is left
+NOISE_PEAK = math.sqrt(3)  # even noise has so many times its root mean square as its peak
 
 
 @dataclass
@@ -24,52 +34,62 @@ class Partial:
     """A partial as it was measured."""
     hz: float
     db: float
-    t60: float
+    t60: float  # infinite where it doesn't decay
+    channel: str = "both"
+    unsure: set = field(default_factory=set)  # which of hz, db and t60 the sound doesn't tell
+    spread: float = 0.0  # how many Hz its frequency may be off
+    near: list = field(default_factory=list)  # the partials, or the table's rows, from which it can't be told apart
     name: str = ""
     cents: float = math.nan  # off the just ratio of its name
+    row: object = None  # the table's row that names it
 
 
-def read_wave(path):
-    """The rate of a WAVE file of 24-bit PCM, and its channels as numbers from -1 to 1."""
-    try:
-        with wave.open(str(path)) as file:
-            rate, channels, width = file.getframerate(), file.getnchannels(), file.getsampwidth()
-            data = np.frombuffer(file.readframes(file.getnframes()), np.uint8)
-    except (OSError, EOFError, wave.Error) as error:
-        raise Wrong(f"{path} is no WAVE file that can be read: {error}") from None
-    if width != 3:
-        raise Wrong(f"{path} has samples of {8 * width} bits, not of 24")
-    bytes_ = data.reshape(-1, 3).astype(np.int32)
-    numbers = (bytes_[:, 0] | bytes_[:, 1] << 8 | bytes_[:, 2] << 16) << 8 >> 12  # the sign is bit 23; the low 4 bits are 0
-    return rate, numbers.reshape(-1, channels) / FULL
+@dataclass
+class Measured:
+    """A stroke as it was measured: when it begins and ends, from when on it is without noise, what it has and what is left."""
+    begin: float
+    clear: float
+    end: float
+    partials: list = field(default_factory=list)
+    residual: float = 0.0  # in dB of the sound
+    heard: float = -math.inf  # in dB: a partial with a T60 of HEARD_T60 that is below may be missed
+    noise: tuple = ()  # level and T60
+    softer: bool = False  # it is no stroke but what is left after a damping
+
+    @property
+    def short(self):
+        return self.end - self.clear < SHORTEST
 
 
-def falling_window(length):
-    """A window that rises in a twentieth of its length and then falls: what is loud at first counts as that."""
-    rise = max(1, length // 20)
-    return np.concatenate([signal.windows.blackmanharris(2 * rise)[:rise], signal.windows.blackmanharris(2 * (length - rise))[length - rise:]])
+def read_sound(path):
+    """The rate of a sound that can be measured, and its channels as numbers from -1 to 1."""
+    rate, channels = sounds.read(path)
+    if len(channels) < FEWEST or not channels.any():
+        raise Ending(f"{path} has too little sound to be measured: {len(channels)} frames{'' if channels.any() else ', all 0'}", Status.UNLIKE)
+    if rate < SLOWEST:
+        raise Ending(f"{path} has {rate} samples a second: from {SLOWEST} on a sound can be measured", Status.UNLIKE)
+    return rate, channels
+
+
+def unmeasured(path, error):
+    """The ending of a measurement whose sums fail."""
+    return Ending(f"{path} can't be measured: {error}", Status.UNLIKE)
+
+
+SUMS_FAIL = (np.linalg.LinAlgError, ArithmeticError, MemoryError)
 
 
 def spectrum(sound, rate):
     """Frequencies, and levels in dB: a lasting sine of the largest range has 0."""
-    window = falling_window(len(sound))
+    window = damped.falling_window(len(sound))
     size = 1 << (len(sound) - 1).bit_length() + 1
     level = np.abs(np.fft.rfft(sound * window, size)) * 2 / window.sum()
     return np.fft.rfftfreq(size, 1 / rate), 20 * np.log10(np.maximum(level, 1e-9))
 
 
-def peaks(sound, rate, most=12):
-    """The frequencies of the highest peaks, those 70 dB below the highest left out, as are small ones beside a high one."""
-    hz, db = spectrum(sound, rate)
-    apart = max(1, int(8 / (hz[1] * len(sound) / rate)))
-    found, about = signal.find_peaks(db, height=db.max() - 70, prominence=12, distance=apart)
-    highest = found[np.argsort(about["peak_heights"])[::-1][:most]]
-    return sorted(float(hz[i]) for i in highest if hz[i] > 20)
-
-
 def envelope_at(sound, rate, hz, seconds=0.12):
     """Times, and the sound's amplitude and phase near a frequency there, relative to that frequency."""
-    window = signal.windows.blackmanharris(min(len(sound) // 3, max(64, int(seconds * rate))))
+    window = signal.windows.blackmanharris(max(1, min(len(sound) // 3, max(64, int(seconds * rate)))))
     window /= window.sum()
     turned = sound * np.exp(-2j * np.pi * hz * np.arange(len(sound)) / rate)
     low = 2 * signal.fftconvolve(turned, window, mode="valid")
@@ -77,95 +97,127 @@ def envelope_at(sound, rate, hz, seconds=0.12):
     return (np.arange(len(low))[::step] + len(window) / 2) / rate, low[::step]
 
 
-def first_guess(sound, rate, hz):
-    """A decaying exponent near a frequency: by the slopes of phase and level while it falls by 20 dB."""
-    times, low = envelope_at(sound, rate, hz)
-    level = np.abs(low)
-    start = int(np.argmax(level[: max(2, len(level) // 4)]))
-    below = np.nonzero(level[start:] < level[start] / 10)[0]
-    end = max(start + 4, start + (below[0] if len(below) else len(level)))
-    part = slice(start, min(end, len(level)))
-    fall = np.polyfit(times[part], np.log(level[part] + 1e-15), 1)[0]
-    turn = np.polyfit(times[part], np.unwrap(np.angle(low[part])), 1)[0]
-    if abs(turn) > 2 * np.pi * 8:
-        turn = 0.0
-    return min(fall, -0.05) + 2j * np.pi * hz + 1j * turn
+def within(hz):
+    """The distance within which a frequency is the same: 0.1 Hz, or a cent where that is more."""
+    return max(HERTZ, hz * (2 ** (CENTS / 1200) - 1))
 
 
-def fitted(sound, rate, exponents, rounds=6):
-    """Exponents and amplitudes of decaying sines that together come nearest to a sound (Gauss and Newton's method)."""
-    times = np.arange(len(sound)) / rate
-    exponents = np.array(exponents)
-    waves = np.exp(np.outer(times, exponents))
-    amplitudes = solve([waves.real, -waves.imag], sound)
-    for _ in range(rounds):
-        moved = waves * amplitudes * times[:, None]
-        error = sound - (waves * amplitudes).real.sum(1)
-        change = solve([waves.real, -waves.imag, moved.real, -moved.imag], error)
-        count = len(exponents)
-        step = change[count:]
-        limit = 2 * np.pi * 0.5
-        step = step / np.maximum(1, np.abs(step) / limit)
-        exponents = exponents + step
-        exponents = np.minimum(exponents.real, -0.01) + 1j * exponents.imag
-        waves = np.exp(np.outer(times, exponents))
-        amplitudes = solve([waves.real, -waves.imag], sound)
-    return exponents, amplitudes
+def listed(fit, lead):
+    """Which damped sines of a fit are partials, by number, and their levels as the stroke begins, so many samples before."""
+    decays = -fit.exponents.real
+    db = 20 * np.log10(np.abs(fit.amplitudes) + 1e-30) + 20 / math.log(10) * decays * lead
+    loud = (db > max(db.max(initial=-math.inf) - SPAN, QUIETEST)) & (damped.DECAY_TO_T60 > SHORTEST_T60 * decays * fit.rate)
+    hz = fit.exponents.imag * fit.rate / (2 * np.pi)
+    chosen = []
+    for i in sorted(np.nonzero(loud)[0], key=lambda i: -db[i]):
+        if all(abs(hz[i] - hz[j]) * fit.seconds > BEAT or db[i] > db[j] - MASKED for j in chosen):
+            chosen.append(i)
+    return sorted(chosen, key=lambda i: hz[i]), db
 
 
-def solve(columns, wanted):
-    """The complex numbers, by real and imaginary columns, that come nearest to what is wanted: least squares with columns of one length."""
-    matrix = np.hstack(columns)
-    lengths = np.sqrt((matrix ** 2).sum(0)) + 1e-300
-    matrix = matrix / lengths
-    found = np.linalg.solve(matrix.T @ matrix + 1e-13 * np.eye(matrix.shape[1]), matrix.T @ wanted) / lengths
-    parts = found.reshape(len(columns), -1)
-    return np.concatenate([parts[i] + 1j * parts[i + 1] for i in range(0, len(columns), 2)])
+def overlap(p, other, seconds):
+    """Whether the peaks of two partials overlap in a sound of so many seconds."""
+    return other is not p and abs(p.hz - other.hz) < 3 / seconds + 3 / p.t60 + 3 / other.t60
 
 
-def strongest(partials, below=40):
-    """Those whose energy is not so many dB below that of the strongest."""
-    energy = [p.db + 10 * math.log10(p.t60) for p in partials]
-    return [p for p, e in zip(partials, energy) if e > max(energy) - below]
+def partials_of(fit, lead, decay):
+    """The partials of a fit, with what can't be told of each: a decay is told within such a part of it."""
+    chosen, db = listed(fit, lead)
+    off_exponents, off_amplitudes = damped.spreads(fit)
+    decays = np.maximum(-fit.exponents.real * fit.rate, 1e-9)
+    lasting = decays * fit.seconds < LASTING
+    found = [Partial(fit.exponents[i].imag * fit.rate / (2 * np.pi), float(db[i]), math.inf if lasting[i] else damped.DECAY_TO_T60 / decays[i]) for i in chosen]
+    for i, p in zip(chosen, found):
+        sure = SURE_BESIDE if any(overlap(p, other, fit.seconds) for other in found) else SURE
+        off = sure * off_exponents[i] * fit.rate
+        unsure = {"hz": off > 2 * math.pi * within(p.hz), "db": sure * off_amplitudes[i] > 10 ** (LEVEL / 20) - 1, "t60": off > decay * decays[i] and not lasting[i]}
+        p.unsure, p.spread = {what for what, is_unsure in unsure.items() if is_unsure}, off / (2 * math.pi)
+    mark_near(found, fit.seconds)
+    return found
 
 
-def measure(sound, rate, guesses):
-    """The partials near some frequencies, in their sequence. What is measured begins with the sound itself."""
-    if not len(guesses):
-        return []
-    sound = sound[np.argmax(sound != 0):]
-    exponents, amplitudes = fitted(sound, rate, [first_guess(sound, rate, hz) for hz in guesses])
-    return [Partial(e.imag / (2 * np.pi), 20 * math.log10(abs(a) + 1e-12), DECAY_TO_T60 / -e.real) for e, a in zip(exponents, amplitudes)]
+def mark_near(found, seconds):
+    """Marks the partials that can't be told apart: nearer than a beat of the sound, or unsure with peaks that overlap."""
+    for p in found:
+        p.near = [other for other in found if other is not p and (abs(p.hz - other.hz) * seconds < BEAT or (p.unsure and other.unsure and overlap(p, other, seconds)))]
 
 
-def name_by_table(partials, table):
-    """Names from a table's frequencies: the nearest within 60 cents."""
-    for p in partials:
-        near = [(abs(1200 * math.log2(p.hz / hz)), name) for name, hz in table.items()]
-        if near and min(near)[0] < 60:
-            p.name = min(near)[1]
+def joined(left, right):
+    """The partials of two channels, each once: that of the louder channel."""
+    rest, both = list(right), []
+    for p in left:
+        same = [q for q in rest if abs(q.hz - p.hz) < within(p.hz) and (p.unsure or q.unsure or abs(1 / q.t60 - 1 / p.t60) < 0.2 / p.t60 + 0.001)]
+        p.channel = "left"
+        if same:
+            q = min(same, key=lambda q: abs(q.hz - p.hz))
+            rest.remove(q)
+            p, q = (p, q) if p.db > q.db else (q, p)
+            p.channel = "both" if p.db - q.db < 0.05 else p.channel
+        both.append(p)
+    return sorted(both + rest, key=lambda p: p.hz)
 
 
-def name_by_ratio(partials):
-    """Names from the just ratios: the prime is the one that gives most partials a name, and the nearest ones."""
-    def misses(prime):
-        named = {}
-        for name, ratio in NAMES.items():
-            near = min((abs(1200 * math.log2(p.hz / (prime * ratio))), i) for i, p in enumerate(partials))
-            if near[0] < 80 and near[1] not in named.values():
-                named[name] = near[1]
-        return named
-
-    tries = [misses(p.hz / ratio) for p in partials for ratio in NAMES.values()]
-    if tries:
-        best = max(tries, key=lambda named: (len(named), sum(partials[i].db for i in named.values())))
-        for name, i in best.items():
-            partials[i].name = name
+def energy(bins):
+    return np.vdot(bins, bins).real
 
 
-def set_cents(partials):
-    """How far each named partial is from its just ratio to the prime."""
-    prime = [p.hz for p in partials if p.name == "prime"]
-    for p in partials:
-        if prime and p.name in NAMES:
-            p.cents = 1200 * math.log2(p.hz / (prime[0] * NAMES[p.name]))
+def left_by(fit, lead):
+    """The energy that the partials of a fit leave unexplained."""
+    rest = damped.Fit(fit.sound, fit.rate, fit.highest)
+    chosen = listed(fit, lead)[0]
+    rest.add(fit.exponents[chosen], fit.amplitudes[chosen])
+    return energy(rest.left)
+
+
+def heard_from(fit, lead):
+    """The level at the stroke's beginning, so many samples before, below which a partial may be missed."""
+    stands_out = 20 * math.log10(damped.quietest(fit, HEARD_T60) + 1e-30) + HEARD_MARGIN + 60 * lead / fit.rate / HEARD_T60
+    loudest = listed(fit, lead)[1].max(initial=-math.inf)
+    return max(stands_out, loudest - SPAN, QUIETEST)
+
+
+def noise_of(sound, fit, lead, rate):
+    """Level and T60 of the noise before a fit's sound begins, so many samples long: what its partials don't explain there."""
+    chosen = listed(fit, lead)[0]
+    before = np.arange(-lead, 0)
+    partials = sum((fit.amplitudes[i] * np.exp(fit.exponents[i] * before)).real for i in chosen)
+    levels = strokes.frame_levels((sound - partials)[:, None], max(2, int(strokes.FRAME * rate)))
+    fall, start = np.polyfit((np.arange(len(levels)) + 0.5) * strokes.FRAME, np.log(levels + 1e-9), 1) if len(levels) > 1 else (-math.inf, -math.inf)
+    return 20 / math.log(10) * start + 20 * math.log10(NOISE_PEAK), damped.DECAY_TO_T60 / -fall if fall < 0 else math.inf
+
+
+def measure_stroke(channels, rate, stroke, highest=math.inf, decay=DECAY):
+    """A stroke's partials up to so many Hz, of each channel by itself, and what they leave; decays are told within such a part."""
+    done = Measured(stroke.begin / rate, stroke.clear / rate, stroke.end / rate)
+    if done.short:
+        return done
+    lead, sides, left, whole = stroke.clear - stroke.begin, [], 0.0, 0.0
+    same = all(np.array_equal(channels[:, 0], channels[:, side]) for side in range(channels.shape[1]))
+    for side in range(1 if same else 2):
+        fit = damped.explained(channels[stroke.clear:stroke.end, side], rate, highest)
+        sides.append(partials_of(fit, lead, decay))
+        done.heard = max(done.heard, heard_from(fit, lead))
+        left, whole = left + left_by(fit, lead), whole + energy(fit.bins)
+        if lead and not done.noise:
+            done.noise = noise_of(channels[stroke.begin:stroke.clear, side], fit, lead, rate)
+    for p in sides[1] if not same else []:
+        p.channel = "right"
+    done.partials = sides[0] if same else joined(*sides)
+    done.residual = 10 * math.log10(left / whole + 1e-30) if whole else 0.0
+    return done
+
+
+def is_softer(channels, rate, at):
+    """Whether a sound is softer from a sample on than before it: a damping, and no stroke."""
+    size = int(DAMPED * rate)
+    before, after = channels[max(0, at - size):at], channels[at:at + size]
+    return bool(len(before) == size and (after ** 2).mean() < (before ** 2).mean() / 2)
+
+
+def measure(channels, rate):
+    """The strokes of a sound, each measured by itself."""
+    done = []
+    for stroke in strokes.strokes_of(channels, rate):
+        done.append(measure_stroke(channels, rate, stroke))
+        done[-1].softer = is_softer(channels, rate, stroke.begin)
+    return done

@@ -1,45 +1,31 @@
 #!/usr/bin/env python3
 """What the program sorted finds of a bench file, in words: may it be rung with its generators in another order?
 
-    python3 tools/compared.py PROGRAM FILE [ORDER-FILE]      (./compare builds the program and calls this)
+    karvelorn compare FILE [ORDER-FILE]
 
-PROGRAM compares the order by number with a second one, that of ORDER-FILE or else that by pitch. It alone decides; the
+The program compares the order by number with a second one, that of ORDER-FILE or else that by pitch. It alone decides; the
 words of FILE are looked at only to say what stands behind its findings. Generators are named by the report of
-tools/partials.py beside FILE (NAME.report), if the pitches there are those of FILE. The exit status is 0 where the orders
-are equal, 1 where they are not, 2 in a refusal and 3 for everything else.
+tools/partials.py beside FILE (NAME.report), if the pitches there are those of FILE.
 """
 
 import os
 import re
 import subprocess
-import sys
 
 import partials as tables
+import questions
+from building import built
+from command_line import Ending, Parser, Status, read_file, say, start, tell
+from machine_words import name_of
+from reference import layout
+from rung import said_by
 
-EQUAL, NOT_EQUAL, REFUSED, FAILED = range(4)
-FILE_MOST = 65536
 ENTRIES_SHOWN, NAMES_SHOWN = 12, 6
-
-# The words of the machine.
-GENERATOR = ("GO", "GJ", "GK", "GN", "GM", "GP", "GQ", "GL", "GSUM", "GFM", "GMODE")
-MODIFIER = ("M0", "M1", "L0", "L1", "MIN", "MRM", "MSUM", "MMODE")
-DELAY_UNIT = ("X", "Y", "Z", "P", "the first word", "the second word", "the third word")
-QUADRANTS = ("generator-this", "generator-last", "modifier-this", "modifier-last")
-OTHERS = ("DX", "T", "N", "the pass counter", "lingering", "the Linger pass", "overrun")
-MODIFIERS_AT, SUMS_AT, DACS_AT, OTHERS_AT, DELAY_UNITS_AT, UPDATE_TICKS_AT = 2816, 3840, 4096, 4112, 4119, 4343
-T_AT, N_AT, FRESH_T, FRESH_N = 4113, 4114, 1, 265
 
 # Run modes.
 PAUSE, TO_DAC, WRITES, READS, WAITS, STOPS, TRIGGERS = 0b0001, 0b0010, 0b0011, 0b0111, 0b1001, 0b1101, 0b1110
 ADDING = (STOPS, TRIGGERS, 0b1111)
 
-# The questions that sorted asks, in README's words.
-QUESTIONS = {
-    2: "Are all words within their width and range, with built modes and addresses, and are the update ticks those of T and N?",
-    5: "Are there T entries in the order?",
-    6: "Is each number below T in the order once?",
-    9: "Is the text a bench file?",
-}
 NOT_SO = "what the program sorted found isn't so in the file"
 ORDER_FILE = "it must have 1 to 256 lines order=G, each with a number G from 0 to 255 without leading zeros and ended by LF"
 
@@ -47,10 +33,6 @@ POINT = re.compile(r"point=([1-4]) place=(\d+) (word|written)=(\d+)")
 ENTRY = re.compile(r"order=(\d+)")
 # A partial's line in the report: its name, its generators, and its Hz if it isn't noise.
 PARTIAL = re.compile(r"(.*\S)\s+(\d+(?:,\d+)*)\s+(?:noise|(\d+\.\d+)\s+[+-]\d+\.\d+)\s+\S+\s+[+-]\S+\s+\S+\s+[+-]\S+%")
-
-
-class Trouble(Exception):
-    """Why nothing could be found."""
 
 
 def joined(parts):
@@ -72,22 +54,21 @@ class Bell:
     """The machine of a bench file as it begins, its commands, and the names of its partials by generator."""
 
     def __init__(self, text):
-        lines = text.decode("ascii").splitlines()
-        words = (line[len("word="):].split(":") for line in lines if line.startswith("word="))
-        self.words = {int(place): int(value) for place, value in words}
-        self.commands = [(number, int(line[len("command="):], 16)) for number, line in enumerate(lines, 1) if line.startswith("command=")]
-        self.t = self.words.get(T_AT, FRESH_T)
+        bench, _ = questions.read(text)
+        self.words = {place: value for place, value, _ in bench.words}
+        self.commands = bench.commands
+        self.t = self.words.get(layout.T, layout.FRESH_T)
         self.names = {}
 
     def register(self, g, name):
-        return self.words.get(len(GENERATOR) * g + GENERATOR.index(name), 0)
+        return self.words.get(layout.generator_at(g) + layout.GENERATOR_NAMES.index(name), 0)
 
     def mode(self, g):
         return self.register(g, "GMODE") >> 6
 
     def pitch(self, g):
         """A generator's Hz, where it turns forwards."""
-        return (self.register(g, "GJ") >> 8) / 2 ** 20 / (tables.TICK * self.words.get(N_AT, FRESH_N))
+        return (self.register(g, "GJ") >> 8) / 2 ** 20 / (tables.TICK * self.words.get(layout.N, layout.FRESH_N))
 
     def in_mode(self, order, mode):
         return [g for g in order if self.mode(g) == mode]
@@ -111,18 +92,6 @@ class Bell:
         """What a generator sends to a DAC or writes: the sum word that its GFM names."""
         quadrant, word = divmod(self.register(g, "GFM"), 64)
         return f"modifier-last sum word {word}" if quadrant else f"generator-last {self.sum_word(word)}"
-
-    def word(self, place):
-        """A word of the machine."""
-        for start, end, names, whose in ((0, MODIFIERS_AT, GENERATOR, "generator"), (MODIFIERS_AT, SUMS_AT, MODIFIER, "modifier"), (DELAY_UNITS_AT, UPDATE_TICKS_AT, DELAY_UNIT, "delay unit")):
-            if start <= place < end:
-                at, name = divmod(place - start, len(names))
-                return f"{names[name]} of {whose} {self.number(at) if whose == 'generator' else at}"
-        if SUMS_AT <= place < DACS_AT:
-            return f"{QUADRANTS[(place - SUMS_AT) // 64]} sum word {(place - SUMS_AT) % 64}"
-        if DACS_AT <= place < OTHERS_AT:
-            return f"DAC word {place - DACS_AT}"
-        return "the update ticks" if place == UPDATE_TICKS_AT else OTHERS[place - OTHERS_AT]
 
     def order(self, order):
         """An order: partials by name, numbers that follow each other together, and no more than its beginning."""
@@ -150,7 +119,7 @@ def name_partials(bell, path):
     for name, generators, hz in rows:
         for g in map(int, generators.split(",")):
             if g >= bell.t or abs(bell.pitch(g) - float(hz or 0)) > 0.001 or bell.mode(g) in (TO_DAC, WRITES):
-                print(f"compare: no partials are named: in {path} generator {g} is {name}, and in the bench file it isn't", file=sys.stderr)
+                tell("compare", f"no partials are named: in {path} generator {g} is {name}, and in the bench file it isn't")
                 bell.names = {}
                 return
             bell.names[g] = name
@@ -242,80 +211,89 @@ def found(program, text, order_file):
     """The lines that the program prints."""
     command = [program] + ([order_file] if order_file else [])
     try:
-        done = subprocess.run(command, input=text, stdout=subprocess.PIPE, stderr=subprocess.PIPE, close_fds=False)
+        done = subprocess.run(command, input=text, stdout=subprocess.PIPE, stderr=subprocess.PIPE, close_fds=False)  # an order file may be a descriptor
     except OSError as error:
-        raise Trouble(f"cannot run {program}: {error.strerror}") from None
+        raise Ending(f"cannot run {program}: {error.strerror}", Status.MISSING) from None
     if done.returncode or done.stderr:
-        raise Trouble(done.stderr.decode(errors="replace").strip() or f"the program sorted ended with status {done.returncode}")
+        raise said_by("sorted", done.stderr.decode(errors="replace").strip() or f"the program sorted ended with status {done.returncode}")
     return done.stdout.decode("ascii", "replace").splitlines()
 
 
 def refusal(line, file, order_file, text):
     """A refusal in words, or nothing where the line is none."""
     if line == "order-refused=9":
-        return f"{order_file} is no order file: {ORDER_FILE}."
+        return [f"{order_file} is no order file: {ORDER_FILE}."]
     name, _, number = line.partition("=")
-    if name != "refused" or number not in map(str, QUESTIONS):
+    if name != "refused" or number not in map(str, questions.QUESTIONS):
         return None
     number = int(number)
-    whose = {2: f"The machine of {file}", 9: file}.get(number) or order_file or "The order by pitch"
-    which = f" T is {Bell(text).t} in {file}." if number in (5, 6) else ""
-    return f"{whose} doesn't pass question {number}: {QUESTIONS[number]}{which}"
+    if number in (5, 6):
+        head, = questions.refusal(order_file or "The order by pitch", number, text)
+        return [f"{head} T is {Bell(text).t} in {file}."]
+    return questions.refusal(f"The machine of {file}" if number == 2 else file, number, text)
+
+
+def behind(bell, point, second):
+    """What stands behind a point that fails, and where it shows."""
+    try:
+        cause = (point_1, point_2, point_3, point_4)[int(point[1]) - 1](bell, int(point[2]), second)
+        where = name_of(int(point[4]), bell.names) if point[3] == "word" else f"item {point[4]} of the written data"
+    except (LookupError, ValueError):
+        raise Ending(NOT_SO, Status.FAULT) from None
+    return [sentence(cause), f"Shown by an example with the file's modes, sum words and DACs: after a pass by each order the first difference is in {where}."]
 
 
 def compared(program, file, order_file=None):
     """What was found, in words, and the exit status."""
-    try:
-        with open(file, "rb") as opened:
-            text = opened.read(FILE_MOST + 1)
-    except OSError as error:
-        raise Trouble(f"cannot read {file}: {error.strerror}") from None
+    text = read_file(file, questions.FILE_MOST + 1)
     lines = found(program, text, order_file)
     refused = refusal(lines[0], file, order_file, text) if len(lines) == 1 else None
     if refused:
-        return [refused], REFUSED
+        return refused, Status.REFUSED
     entries, point = [ENTRY.fullmatch(line) for line in lines[:-1]], POINT.fullmatch(lines[-1]) if lines else None
     if not lines or not all(entries) or not (point or lines[-1] == "equal"):
-        raise Trouble(f"the program sorted printed what is not known here: {lines[-1:]}")
+        raise Ending(f"the program sorted printed what is not known here: {lines[-1:]}", Status.FAULT)
     bell, second = Bell(text), [int(entry[1]) for entry in entries]
     if sorted(second) != list(range(bell.t)):
-        raise Trouble(NOT_SO)
+        raise Ending(NOT_SO, Status.FAULT)
     name_partials(bell, tables.report_beside(file))
     said = [order_line(bell, second, order_file)]
-    if not point:
-        but = list(limits(bell, second))
-        return said + [f"Yes{', as the file begins' if but else ''}: the same bell in both orders."] + but, EQUAL
-    try:
-        behind = (point_1, point_2, point_3, point_4)[int(point[1]) - 1](bell, int(point[2]), second)
-        where = bell.word(int(point[4])) if point[3] == "word" else f"item {point[4]} of the written data"
-    except (IndexError, ValueError):
-        raise Trouble(NOT_SO) from None
-    return said + ["No: the two orders can ring differently.", sentence(behind), f"Shown by an example with the file's modes, sum words and DACs: after a pass by each order the first difference is in {where}."], NOT_EQUAL
+    if point:
+        return said + ["No: the two orders can ring differently.", *behind(bell, point, second)], Status.NO
+    until = list(limits(bell, second))
+    return said + [f"Yes{', as the file begins' if until else ''}: the same bell in both orders.", *until], Status.UNTIL if until else Status.DONE
 
 
-def say(lines):
-    """Prints lines whole."""
-    try:
-        sys.stdout.reconfigure(errors="replace")
-        print("\n".join(lines), flush=True)
-    except OSError as error:
-        os.dup2(os.open(os.devnull, os.O_WRONLY), sys.stdout.fileno())  # what is left unwritten stays so
-        raise Trouble(f"cannot write: {error.strerror}") from None
-
-
-def main(arguments):
-    """An error of any kind is FAILED: Python's own status for one, 1, would say that the orders aren't equal."""
-    try:
-        said, status = compared(*arguments)
-        say(said)
-    except Trouble as trouble:
-        print(f"compare: {trouble}", file=sys.stderr)
-        return FAILED
-    except Exception as error:
-        print(f"compare: nothing was found: {error!r}", file=sys.stderr)
-        return FAILED
+def answer(program, file, order_file=None):
+    """Prints what was found; answers the status."""
+    said, status = compared(program, file, order_file)
+    say("\n".join(said))
     return status
 
 
+def parser():
+    """What may be asked."""
+    asked = Parser("compare", "Says whether a bench file rings the same bell with its generators by number and in a second order: by pitch, or as in ORDER-FILE.\n"
+                   "0 is yes, 1 no; a yes that holds only until a trigger or a command has 7, and a line \"Only until ..\" says until which.",
+                   "karvelorn compare bell.txt")
+    asked.add_argument("file", metavar="FILE", help="a bench file, - for standard input")
+    asked.add_argument("order", metavar="ORDER-FILE", nargs="?", help="a line order=G for each generator, as they are taken")
+    return asked
+
+
+def is_stream(path):
+    """Whether a file can be read once only: a pipe, a device."""
+    return os.path.exists(path) and not os.path.isfile(path) and not os.path.isdir(path)
+
+
+def main(arguments):
+    asked = parser().parse_args(arguments)
+    for path in (asked.file, asked.order):
+        if path not in (None, "-") and not is_stream(path):
+            read_file(path, 1)
+    program, = built("compare", "sorted")
+    return answer(program, asked.file, asked.order)
+
+
 if __name__ == "__main__":
-    sys.exit(main(sys.argv[1:]))
+    start("compare", main)

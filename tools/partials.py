@@ -1,35 +1,35 @@
 #!/usr/bin/env python3
 """From a table of partials to a bench file, with a report of what the registers make of each.
 
-    python3 tools/partials.py TABLE -o FILE [--rate HZ | --seconds S] [--passes N] [--gain DB]
+    karvelorn partials TABLE -o FILE [--rate HZ | --seconds S] [--passes N] [--gain DB]
 
 TABLE has a line `name,hz,db,t60` or `name,hz,db,t60,channel` and then one for each partial: its name, its frequency in
 Hz, its level in dB (0 is the most that one generator gives), the time in seconds in which it falls by 60 dB, and `left`,
 `right` or `both` (the default). One row may have `noise` as its frequency: the stroke, noise whose peak has that level.
-Lines that start with # are skipped.
+Lines that start with # are skipped. Tables as spreadsheets write them are read too (tools/table_reader.py).
 
 The rate in passes a second is 10^9 / (195 N): --rate asks for the nearest one, --seconds for the N with which the passes
 last so long (N = 265 where neither is given). --gain DB is added to all levels; without it the levels are lowered, if need
-be, until the sum of all peaks fits the 20 bits of a DAC. The report goes to standard output and, for `./compare`, beside
-the bench file: NAME.report for NAME.txt. An error says what is wrong and where, writes nothing and ends with status 1.
+be, until the sum of all peaks fits the 20 bits of a DAC. The report goes to standard output and, for `compare`, beside
+the bench file: NAME.report for NAME.txt. An error says what is wrong and where, and writes nothing.
 """
 
-import argparse
-import csv
-import errno
 import math
 import os
-import sys
-import tempfile
-from dataclasses import dataclass, field
+
+from command_line import Ending, Parser, Status, read_file, say, start, tell
+from outputs import destination, made_here, same_file, set_aside, write_whole
+from reference import layout
+from table_reader import QUIET, read_table
+
+Wrong = Ending  # what is wrong with a table or with what is asked for
 
 TICK = 195e-9
-MOST_BYTES, MOST_PASSES, GENERATORS, N_LEAST, N_MOST = 65536, 65535, 256, 2, 1025
+MOST_BYTES, MOST_PASSES = 65536, 65535
 FULL = 4095 * 4093 / 64  # the peak of a generator at its loudest
 RANGE = 2 ** 19 - 1  # the most that a DAC word holds
 HALVING = 20 * math.log10(2)  # a halving in dB; the envelope halves for each 2^20 of GQ
 CENTS, LEVEL, DECAY = 1.0, 0.5, 0.05  # what counts as reached: within so many cents, dB, and so much of the decay
-QUIET = 200  # levels are within so many dB
 QUIETEST = 16  # a peak below which rounding to whole numbers changes the decay by more than that
 MASKED = 0.035  # a quieter partial is masked where the lines of louder ones may reach so much of its peak: then its decay may be off by 5 %
 STEPS = 1024  # so many steps of the envelope make a halving: the size of the exponential's table
@@ -40,71 +40,6 @@ NOISE, FOUR_QUADRANT, MIXING, REPLACE = 0b00010, 0b11000, 0b10100, 1 << 6
 GENERATOR_LAST, MODIFIER_LAST, MODIFIER_THIS = 0 << 6, 1 << 6, 2 << 6
 SILENT = GENERATOR_LAST | 63  # a word that nothing adds into: no frequency modulation
 UNITY = 1 << 18  # a coefficient that with a scale of 1 multiplies by exactly 1
-T_AT, N_AT = 4113, 4114
-
-
-class Wrong(Exception):
-    """What is wrong with a table or with what is asked for."""
-
-
-@dataclass
-class Row:
-    """A row of the table, and what the registers make of it."""
-    name: str
-    hz: float  # 0 for noise
-    db: float
-    t60: float
-    channel: str
-    line: int
-    generators: list = field(default_factory=list)
-    gj: int = 0
-    gm: int = 0
-    gp: int = 0
-    gq: int = 0
-
-    @property
-    def noise(self):
-        return self.hz == 0
-
-
-def number(text, what, line, least, most=math.inf):
-    """A number of the table, above the least and below the most."""
-    try:
-        value = float(text)
-    except ValueError:
-        raise Wrong(f"line {line}: {what} is not a number: {text!r}") from None
-    if not least < value < most:
-        raise Wrong(f"line {line}: {what} must be above {least:g}{'' if most == math.inf else f' and below {most:g}'}: {text}")
-    return value
-
-
-def read_table(path):
-    """The rows of a table."""
-    try:
-        with open(path, encoding="utf-8", newline="") as file:
-            lines = [(i, row) for i, row in enumerate(csv.reader(file), 1) if row and not row[0].lstrip().startswith("#")]
-    except (OSError, UnicodeDecodeError, csv.Error) as error:
-        raise Wrong(f"{path} can't be read: {error}") from None
-    if not lines or [cell.strip() for cell in lines[0][1]] not in (["name", "hz", "db", "t60"], ["name", "hz", "db", "t60", "channel"]):
-        raise Wrong("the first line must be name,hz,db,t60 or name,hz,db,t60,channel")
-    rows, width = [], len(lines[0][1])
-    for line, cells in lines[1:]:
-        cells = [cell.strip() for cell in cells]
-        if len(cells) != width:
-            raise Wrong(f"line {line}: {len(cells)} columns where the first line has {width}")
-        name, hz, db, t60, channel = cells if width == 5 else cells + ["both"]
-        if not name or name in (row.name for row in rows):
-            raise Wrong(f"line {line}: a name that is empty or was there before: {name!r}")
-        if channel not in ("left", "right", "both"):
-            raise Wrong(f"line {line}: the channel must be left, right or both: {channel!r}")
-        rows.append(Row(name, 0.0 if hz == "noise" else number(hz, "the frequency", line, 0), number(db, "the level", line, -QUIET, QUIET), number(t60, "the decay", line, 0), channel, line))
-    if not rows:
-        raise Wrong("the table has no partial")
-    if sum(row.noise for row in rows) > 1:
-        raise Wrong("the table has more than one row of noise")
-    if any(row.noise and row.channel != "both" for row in rows):
-        raise Wrong("noise goes to both channels")
-    return rows
 
 
 def wave_peak(gm):
@@ -187,12 +122,12 @@ def reached(row, rows, rate, gain, seconds):
 def add_generator(words, g, run, go=0, gj=0, gm=0, gp=0, gq=0, gsum=0, gfm=SILENT, wave=SINE):
     gmode = run << 6 | LEVEL_PLUS_EXPONENTIAL << 4 | wave
     for j, value in enumerate((go, gj, 0, 0, gm, gp, gq, 0, gsum, gfm, gmode)):
-        words[11 * g + j] = value
+        words[layout.generator_at(g) + j] = value
 
 
 def add_modifier(words, m, function, m0=0, m1=0, l0=0, l1=0, a=0, b=0, to=0, aa=0, bb=0):
     for j, value in enumerate((m0 << 10, m1 << 10, l0, l1, a, b, REPLACE | to, function << 4 | aa << 2 | bb)):
-        words[2816 + 8 * m + j] = value
+        words[layout.modifier_at(m) + j] = value
 
 
 def lay_out(rows, n):
@@ -220,25 +155,25 @@ def lay_out(rows, n):
         add_generator(words, g, TO_DAC, go=side, gfm=source)
         g += 1
     t = max(g, 20) if noise else g
-    if g > GENERATORS:
-        raise Wrong(f"{g} generators are needed, two of them for the DACs, and there are {GENERATORS}")
-    if n < t + 8:
-        raise Wrong(f"a pass of {n} ticks is too short for {t} generators: {t + 8} are needed, or a lower rate")
-    words[T_AT], words[N_AT] = t, n
+    if g > layout.GENERATORS:
+        raise Wrong(f"{g} generators are needed, two of them for the DACs, and there are {layout.GENERATORS}")
+    if n < t + layout.OVERHEAD_TICKS:
+        raise Wrong(f"a pass of {n} ticks is too short for {t} generators: {t + layout.OVERHEAD_TICKS} are needed, or a lower rate")
+    words[layout.T], words[layout.N] = t, n
     return words
 
 
 def ticks(rate, seconds, passes):
     """N by the wanted rate or length."""
     if rate is not None and seconds is not None:
-        raise Wrong("ask for a rate or for a length, not for both")
-    n = 265
+        raise Wrong("ask for a rate or for a length, not for both", Status.MISUSED)
+    n = layout.FRESH_N
     if rate is not None:
         n = round(1 / (TICK * rate)) if rate > 0 else 0
     if seconds is not None:
         n = round(seconds / (TICK * passes)) if passes else 0
-    if not N_LEAST <= n <= N_MOST:
-        raise Wrong(f"that needs passes of {n} ticks, and N goes from {N_LEAST} to {N_MOST}: rates from {1 / TICK / N_MOST:.0f} to {1 / TICK / N_LEAST:.0f} Hz, at most {N_MOST * TICK * MOST_PASSES:.1f} s")
+    if not layout.N_LEAST <= n <= layout.N_MOST:
+        raise Wrong(f"that needs passes of {n} ticks, and N goes from {layout.N_LEAST} to {layout.N_MOST}: rates from {1 / TICK / layout.N_MOST:.0f} to {1 / TICK / layout.N_LEAST:.0f} Hz, at most {layout.N_MOST * TICK * MOST_PASSES:.1f} s")
     return n
 
 
@@ -292,31 +227,11 @@ def report_beside(file):
     return os.path.splitext(file)[0] + ".report"
 
 
-def write_whole(texts):
-    """Files, each by its path, that are there whole or not at all."""
-    temporary = {}
-    try:
-        for path, text in texts.items():
-            if os.path.isdir(path):
-                raise IsADirectoryError(errno.EISDIR, os.strerror(errno.EISDIR))
-            handle, temporary[path] = tempfile.mkstemp(dir=os.path.dirname(path) or ".")
-            with os.fdopen(handle, "w", encoding="utf-8") as file:
-                file.write(text)
-            os.chmod(temporary[path], 0o644)
-        for path in texts:
-            os.replace(temporary.pop(path), path)
-    except OSError as error:
-        raise Wrong(f"{path} can't be written: {error.strerror}") from None
-    finally:
-        for left in temporary.values():
-            os.unlink(left)
-
-
 def make(table, passes=MOST_PASSES, rate=None, seconds=None, gain=None):
     """The bench file of a table, and the report's lines; its rows, with their registers, and N and the gain."""
     rows = read_table(table)
-    if not 0 <= passes <= MOST_PASSES:
-        raise Wrong(f"a file has 0 to {MOST_PASSES} passes: {passes}")
+    if not 1 <= passes <= MOST_PASSES:
+        raise Wrong(f"a bell has 1 to {MOST_PASSES} passes: {passes}", Status.MISUSED)
     n = ticks(rate, seconds, passes)
     gain = fit(rows, 1 / (TICK * n), gain)
     if sum_of_peaks(rows) == 0:
@@ -325,31 +240,85 @@ def make(table, passes=MOST_PASSES, rate=None, seconds=None, gain=None):
     return text, list(report(rows, n, passes, gain)), rows, n, gain
 
 
-def finite(text):
-    """A number on the command line."""
-    if not abs(float(text)) < 1e9:
+# The command
+
+def positive(text):
+    """A rate or a length on the command line."""
+    if not 1e-9 < float(text) < 1e9:
         raise ValueError
     return float(text)
 
 
-def main():
-    parser = argparse.ArgumentParser(description=__doc__.split("\n")[0])
-    parser.add_argument("table")
-    parser.add_argument("-o", dest="file", required=True)
-    parser.add_argument("--passes", type=int, default=MOST_PASSES)
-    for option in ("--rate", "--seconds", "--gain"):
-        parser.add_argument(option, type=finite)
-    asked = parser.parse_args()
+def level(text):
+    """A gain on the command line."""
+    if not abs(float(text)) <= QUIET:
+        raise ValueError
+    return float(text)
+
+
+def parser():
+    """What may be asked."""
+    asked = Parser("partials", "Makes a bench file of a table of measured partials: each becomes a generator. The report says what the registers make of each, what\n"
+                   "clips and what they can't reach; it is printed and stands beside the bench file (NAME.report).",
+                   "karvelorn partials bell.csv -o bell.txt --seconds 6")
+    asked.add_argument("table", metavar="TABLE", help="lines name,hz,db,t60[,channel], as a spreadsheet writes them or by hand")
+    asked.add_argument("-o", dest="file", metavar="FILE", required=True, help="the bench file")
+    asked.add_argument("--passes", metavar="N", type=int, default=MOST_PASSES, help=f"how many passes, 1 to {MOST_PASSES} (so many where this isn't asked)")
+    asked.add_argument("--rate", metavar="HZ", type=positive, help="about so many passes a second")
+    asked.add_argument("--seconds", metavar="S", type=positive, help="the passes last about so long")
+    asked.add_argument("--gain", metavar="DB", type=level, help=f"added to all levels, {-QUIET} to {QUIET}; without it levels are lowered until nothing clips")
+    return asked
+
+
+def beside(file, ending):
+    """The file of another ending beside a bench file."""
+    return os.path.splitext(file)[0] + ending
+
+
+def set_older_aside(file, endings, ours_alone):
+    """Sets aside what stands beside a bench file and isn't this one's, so that nobody takes it for that."""
+    for path in (beside(file, ending) for ending in endings):
+        if os.path.isfile(path) and (made_here(path) or not ours_alone):
+            try:
+                tell("partials", f"{path} is not of this table: it is now {os.path.basename(set_aside(path))}")
+            except Ending as ending:
+                tell("partials", str(ending))
+
+
+def unlike(file, text):
+    """Whether a bench file that is there has another text."""
     try:
-        beside = report_beside(asked.file)
-        if os.path.realpath(beside) in (os.path.realpath(asked.file), os.path.realpath(asked.table)):
-            raise Wrong(f"{beside} can't be the table or the bench file: the report goes there")
-        text, lines, _, _, _ = make(asked.table, asked.passes, asked.rate, asked.seconds, asked.gain)
-        write_whole({asked.file: text, beside: "\n".join(lines) + "\n"})
-    except Wrong as wrong:
-        sys.exit(f"partials: {asked.table}: {wrong}")
-    print("\n".join(lines))
+        with open(file, "rb") as older:
+            return older.read() != text
+    except OSError:
+        return True
+
+
+def main(arguments):
+    asked = parser().parse_args(arguments)
+    report_at = report_beside(asked.file)
+    if same_file(report_at, asked.file) or same_file(report_at, asked.table):
+        raise Ending(f"{report_at} can't be the table or the bench file: the report goes there", Status.MISUSED)
+    for path in (asked.file, report_at):
+        destination(path, [asked.table])
+    if not os.path.lexists(asked.table):
+        read_file(asked.table)
+    try:
+        try:
+            text, lines, _, _, _ = make(asked.table, asked.passes, asked.rate, asked.seconds, asked.gain)
+        except Ending as ending:
+            raise Ending(f"{asked.table}: {ending}", ending.status) from None
+        other = unlike(asked.file, text.encode())
+        write_whole({asked.file: text.encode(), report_at: ("\n".join(lines) + "\n").encode()}, [asked.table])
+    except BaseException:
+        set_older_aside(asked.file, (".report",), False)
+        set_older_aside(asked.file, (".wav", ".png"), True)
+        raise
+    if other:
+        set_older_aside(asked.file, (".wav", ".png"), True)
+    say("\n".join(lines))
+    return Status.DONE
 
 
 if __name__ == "__main__":
-    main()
+    start("partials", main)

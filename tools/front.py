@@ -1,0 +1,67 @@
+#!/usr/bin/env python3
+"""The front of all commands: karvelorn COMMAND ..
+
+A command is a line of COMMANDS: its day, its name, its module here (with a function main from arguments to a Status), and what it
+does. --help lists them in the order of the week of a bench file; bash completion asks for them.
+"""
+
+import signal
+
+if signal.getsignal(signal.SIGINT) != signal.SIG_IGN:
+    signal.signal(signal.SIGINT, signal.SIG_DFL)  # until there is something to clear away
+
+import importlib  # noqa: E402
+import sys  # noqa: E402
+
+from command_line import Ending, Status, ended, finish, say, version  # noqa: E402
+from statuses import table  # noqa: E402
+
+COMMANDS = (
+    ("Monday", "measure", "measuring", "a recording becomes a table of its partials"),
+    ("Monday", "partials", "partials", "a table of measured partials becomes a bench file"),
+    ("Wednesday", "run", "rung", "a bench file is rung pass by pass: a line for each"),
+    ("Wednesday", "hear", "heard", "a bench file is heard and seen: its sound, its picture and its partials"),
+    ("Thursday", "compare", "compared", "is it the same bell with its generators in another order?"),
+)
+MODULES = {name: module for _, name, module, _ in COMMANDS}
+
+
+def help_lines():
+    """The commands in the order of the week, and the exit statuses."""
+    yield "usage: karvelorn COMMAND ..       karvelorn COMMAND --help says more"
+    yield ""
+    yield "Rings bells by their bench files, bit for bit as the Systems Concepts Digital Synthesizer of 1978."
+    yield ""
+    day = None
+    for on, name, _, does in COMMANDS:
+        yield f"  {on if on != day else '':10} {name:10} {does}"
+        day = on
+    yield from ("", "options:", "  -h, --help  this list", "  --version   print the version and end", "  --commands  the names of the commands alone, a line each",
+                "", "example:", "  karvelorn measure bell.flac -o bell.csv; karvelorn partials bell.csv -o bell.txt && karvelorn hear bell.txt && karvelorn compare bell.txt", "", "exit status:")
+    yield from table()
+
+
+def main(arguments):
+    """What is asked of the front itself."""
+    asked = arguments[0] if arguments else None
+    if asked in ("-h", "--help"):
+        say("\n".join(help_lines()))
+    elif asked == "--version":
+        say(f"karvelorn {version()}")
+    elif asked == "--commands":
+        say("\n".join(MODULES))
+    else:
+        raise Ending(f"{'no command' if asked is None else f'no such command: {asked}'}; there are {', '.join(MODULES)} (karvelorn --help says what they do)", Status.MISUSED)
+    return Status.DONE
+
+
+def command_of(arguments):
+    """The name, the function and the arguments of what is asked."""
+    if arguments and arguments[0] in MODULES:
+        name = arguments[0]
+        return name, lambda rest: importlib.import_module(MODULES[name]).main(rest), arguments[1:]
+    return "karvelorn", main, arguments
+
+
+if __name__ == "__main__":
+    finish(ended(*command_of(sys.argv[1:])))

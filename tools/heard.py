@@ -1,0 +1,179 @@
+#!/usr/bin/env python3
+"""Makes a bench file heard and seen: its sound (.wav) and its picture (.png) beside it, and the table of its partials.
+
+    karvelorn hear [FILE]
+
+FILE is a bench file, or a recording, of which only the picture is made. What stood there before is set aside first, so that after
+a refusal, a failure or an interruption no older sound or picture is taken for this file's. A sound needs the proved program wav
+alone; a picture needs numpy, scipy and matplotlib, and is made by tools/picture.py.
+"""
+
+import os
+import re
+import subprocess
+import sys
+import tempfile
+from contextlib import suppress
+from typing import NamedTuple
+
+import questions
+import sounds
+from building import built
+from command_line import HOME, IN_REPOSITORY, Ending, Parser, Status, need_libraries, read_file, say, start, tell
+from outputs import destination, made_here, same_file, set_aside, write_whole
+from rung import file_of, said_by
+from table_reader import read_table
+
+EXAMPLE = HOME / "examples" / "bell.txt"
+REFUSED = re.compile(r"refused=(\d+)")
+WAVE_HEADER, FRAME = 44, 6
+LIBRARIES = ("numpy", "scipy", "matplotlib")
+
+
+class Files(NamedTuple):
+    """The files of a call: what is heard, its table if there is one, and the results (no sound where a recording is seen)."""
+    file: str
+    table: str
+    sound: str
+    picture: str
+
+
+def parser():
+    """What may be asked."""
+    asked = Parser("hear", "Makes a bench file heard and seen: NAME.wav and NAME.png beside NAME.txt, and the table of its partials. Of a recording (WAVE or FLAC)\n"
+                   "the picture and the table are made. An older NAME.wav or NAME.png is set aside (NAME.older.wav) unless a new one takes its place.",
+                   "karvelorn hear bell.txt\nkarvelorn hear --no-picture bell.txt\nkarvelorn hear recording.flac --table bell.csv")
+    asked.add_argument("file", metavar="FILE", nargs="?", help="a bench file or a recording" + (" (examples/bell.txt where none is named)" if IN_REPOSITORY else ""))
+    asked.add_argument("-o", dest="output", metavar="SOUND", help="the sound (NAME.wav where this isn't asked); the picture goes beside it")
+    asked.add_argument("--table", metavar="CSV", help="a table of partials that gives them their names (NAME.csv beside FILE, where there is one)")
+    asked.add_argument("--no-picture", action="store_true", help="only the sound, for which no library is needed")
+    return asked
+
+
+def head_of(file, base):
+    """The first bytes of a file. Where it is there and can't be read, older results are set aside too."""
+    try:
+        return read_file(file, 4)
+    except Ending:
+        if os.path.isfile(file):
+            kept(set_older_aside(path for path in (base + ".wav", base + ".png") if not same_file(path, file)))
+        raise
+
+
+def files_of(asked):
+    """The files of a call, judged before anything is touched."""
+    file = file_of(asked.file, EXAMPLE)
+    if file == "-":
+        raise Ending("name a file: the results are written beside it", Status.MISUSED)
+    base = os.path.splitext(asked.output or file)[0]
+    recording = sounds.is_sound(head_of(file, base))
+    if recording and (asked.no_picture or asked.output):
+        raise Ending(f"{file} is a sound already: only its picture is made", Status.MISUSED)
+    beside = os.path.splitext(file)[0] + ".csv"
+    table = asked.table or (beside if os.path.isfile(beside) else None)
+    if asked.table:
+        read_file(asked.table, 1)
+    files = Files(file, table, None if recording else asked.output or base + ".wav", base + ".png")
+    if files.sound and same_file(files.sound, files.picture):
+        raise Ending(f"{files.sound} can't be the sound: the picture goes there", Status.MISUSED)
+    for output in filter(None, (files.sound, files.picture)):
+        destination(output, [given for given in (file, table) if given])
+    return files
+
+
+# Sound
+
+def sound_of(file):
+    """The sound of a bench file: the bytes of a WAVE file, whole."""
+    text = read_file(file, questions.FILE_MOST + 1)
+    program, = built("hear", "wav")
+    tell("hear", f"ringing {file}")
+    try:
+        done = subprocess.run([program], input=text, stdout=subprocess.PIPE, stderr=subprocess.PIPE)
+    except OSError as error:
+        raise Ending(f"cannot run {program}: {error.strerror}", Status.MISSING) from None
+    told = done.stderr.decode(errors="replace").strip()
+    refused = REFUSED.fullmatch(told)
+    if refused:
+        raise Ending("\n".join([f"{file} makes no sound: {told}", *questions.refusal(file, int(refused[1]), text)]))
+    bench, _ = questions.read(text)
+    if done.returncode or told or bench is None or len(done.stdout) != WAVE_HEADER + FRAME * bench.passes:
+        raise said_by("wav", told)
+    return done.stdout
+
+
+# Picture
+
+def need_table(table):
+    """A table that gives names must be one."""
+    try:
+        read_table(table)
+    except Ending as ending:
+        raise Ending(f"no picture was made: {table}: {ending}", ending.status) from None
+
+
+def seen(files):
+    """Measures and draws a sound; prints its partials and writes the picture. Answers whether all agrees, as a status."""
+    need_libraries(LIBRARIES, "no picture was made")
+    if files.table:
+        need_table(files.table)
+    tell("hear", "measuring and drawing")
+    with tempfile.TemporaryDirectory(prefix="karvelorn-") as folder:
+        picture, table = os.path.join(folder, "picture.png"), ["--table", files.table] if files.table else []
+        done = subprocess.run([sys.executable, str(HOME / "tools" / "picture.py"), files.sound or files.file, "-o", picture, *table], stdin=subprocess.DEVNULL, stdout=subprocess.PIPE, stderr=subprocess.PIPE,
+                              env={**os.environ, "TMPDIR": folder, "PYTHONIOENCODING": "utf-8", "PYTHONDONTWRITEBYTECODE": "1"})
+        told = done.stderr.decode(errors="replace").strip()
+        drawn = read_file(picture) if os.path.isfile(picture) else b""
+    if drawn:
+        write_whole({files.picture: drawn}, [files.file])
+        tell("hear", f"wrote {files.picture}")
+    if done.stdout:
+        say(done.stdout.decode(errors="replace"), end="")
+    if drawn and done.returncode in (Status.DONE, Status.UNLIKE):
+        if told:
+            tell("hear", told.removeprefix("picture: "))
+        return Status(done.returncode)
+    raise undrawn(done.returncode, told)
+
+
+def undrawn(status, told):
+    """Why a sound isn't measured or drawn."""
+    if told and status in (Status.REFUSED, Status.UNREAD, Status.UNWRITTEN, Status.MISSING, Status.UNLIKE):
+        return Ending(f"no picture was made: {told.removeprefix('picture: ')}", Status(status))
+    return Ending(f"a fault of this software: {told.splitlines()[-1] if told else f'tools/picture.py ended with {status} and drew nothing'}", Status.FAULT)
+
+
+# Older files
+
+def kept(asides):
+    """What hear had made before goes where a new one has taken its place; all else stays under its other name, and is told."""
+    for path, aside in asides.items():
+        if not os.path.exists(path):
+            tell("hear", f"{path} was there from before and is not of this ringing: it is now {os.path.basename(aside)}")
+        elif made_here(aside):
+            with suppress(FileNotFoundError):
+                os.unlink(aside)
+        elif os.path.exists(aside):
+            tell("hear", f"what was {path} was not made by hear: it is kept as {os.path.basename(aside)}")
+
+
+def set_older_aside(outputs):
+    """Sets aside what stands where the results go; answers the other names."""
+    return {path: aside for path in outputs if (aside := set_aside(path))}
+
+
+def main(arguments):
+    asked = parser().parse_args(arguments)
+    files = files_of(asked)
+    asides = set_older_aside(filter(None, (files.sound, files.picture)))
+    try:
+        if files.sound:
+            write_whole({files.sound: sound_of(files.file)}, [files.file])
+            tell("hear", f"wrote {files.sound}")
+        return Status.DONE if asked.no_picture else seen(files)
+    finally:
+        kept(asides)
+
+
+if __name__ == "__main__":
+    start("hear", main)
