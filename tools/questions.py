@@ -9,7 +9,7 @@ from typing import NamedTuple
 import command_line  # noqa: F401  (makes the reference known)
 from machine_words import name_of
 from reference import layout
-from reference.machine import LEAST, MOST, function_built, oscillator_mode_built, run_mode_built, source_built
+from reference.machine import RANGES, function_built, oscillator_mode_built, run_mode_built, source_built
 
 FILE_MOST, PASSES_MOST, VALUE_MOST = 65536, 65535, 2 ** 32 - 1
 COMMAND_DIGITS, HEXADECIMAL = 8, b"0123456789ABCDEF"
@@ -183,7 +183,7 @@ def register_fault(name, value):
 
 def word_fault(place, value):
     """What a word has and may have, where it may not have what it has."""
-    least, most = LEAST[place], MOST[place]
+    least, most = RANGES[place]
     if not least <= value <= most:
         return f"{value}, {f'{least} to {most}' if least else f'at most {most}'}"
     wrong = mode_fault(place, value)
