@@ -54,7 +54,7 @@ def every_place():
     ends = (0, 1, 255), (0, 127), (0, 31)
     places = [11 * g + j for g in ends[0] for j in range(11)] + [2816 + 8 * m + j for m in ends[1] for j in range(8)] + [4119 + 7 * u + j for u in ends[2] for j in range(7)]
     for place in chain(places, range(3840, 4119, 9), range(4112, 4119)):
-        for value in (0, 1, questions.MOST[place], questions.MOST[place] + 1):
+        for value in (0, 1, questions.RANGES[place][1], questions.RANGES[place][1] + 1):
             if value < 2 ** 32:
                 yield ring_files.bench(1, ((place, value),))
     for place, values in ((10, range(0, 1024, 16)), (10, range(16)), (2823, range(0, 512, 16)), (2820, range(0, 256, 32)), (2821, range(0, 256, 32)), (4122, range(16))):
