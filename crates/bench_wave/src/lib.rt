@@ -90,7 +90,7 @@ fn sound(
     }
 }
 
-// The file of a file, rung over a delay memory of zeros: the first bytes of the buffer. A refused file has none.
+// The sound of a bench file, rung over a delay memory of zeros: the first bytes of the buffer. A refused file has none.
 pub fn wave(file: &[u8], out: &mut [u8; WAVE_ROOM]) -> Made
     ensures { λ r. ⌜ r .number ≡ heardFile (now (file .entry)) .number ⌝ }
     ensures { λ r. ⌜ r .length ≡ length (waveOf (now (file .entry)) .output) ⌝ }

@@ -137,7 +137,7 @@ pub record Claims : Type 0 where
   -- TIMER 01 sets the counter to its 20 bits of data, and TIMER 11 to 0: the high bits are cleared.
   pub timer-sets : (m : Machine) → Good Of1978 m → (c : ℕ) → ttOf c ≡ 0b01 → (getD (timed m c) counterAt 0 ≡ dataOf c) × (dataOf c < 2 ^ lingerBits)
   pub timer-clears : (m : Machine) → Good Of1978 m → (c : ℕ) → ttOf c ≡ 0b11 → getD (timed m c) counterAt 0 ≡ 0
-  -- A number of 32 bits is printed whole: its file is read as that number, without leading zeros.
+  -- A number of 32 bits is printed whole: its digits are read as that number, without leading zeros.
   pub counter-printed : (n : ℕ) → n < 2 ^ counterBits → decimalIn (2 ^ counterBits) (decimal n) ≡ Is n
   -- A refused pass leaves the machine, the places and delay memory as they were.
   pub refused-leaves : (text : Text) (m : Machine) (call : Call) → passOf text m call .number ≢ 0

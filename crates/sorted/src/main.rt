@@ -26,7 +26,7 @@ fn sort(given: bool, order: &[u8]) {
     }
 }
 
-// Reads the order file of a name, and then goes on with its file.
+// Reads the order file of a name, and then goes on with its bytes.
 fn sort_by(name: &[u8]) {
     let reading = os::open_read(name);
     if reading < 0 {

@@ -5,7 +5,7 @@ use libc::STDERR_FILENO;
 use libc::STDIN_FILENO;
 use libc::STDOUT_FILENO;
 
-// Writes the file of a file, or its refusal; says whether all was written.
+// Writes the sound of a bench file, or its refusal; says whether all was written.
 fn sound(file: &[u8]) -> bool {
     let mut out = [0u8; bench_wave::WAVE_ROOM];
     let made = bench_wave::wave(file, &mut out);
