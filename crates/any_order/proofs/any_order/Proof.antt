@@ -6,9 +6,6 @@ use borrow.Author.Needs.{needs}
 use Rattle.any_order.proofs.any_order.Statement.{statement}
 use Rattle.any_order.proofs.any_order.Tie as tie
 
-refusal-requires : tie.Need-refusal-requires
-refusal-requires c κs = search needs
-
 returns : tie.Need-returns
 returns c =
     let asked = c .before in
@@ -26,4 +23,4 @@ returns-2 c =
     says-rule (asked .before .before .args .m .now) (asked .refusal .ensures) (passed .if1 .left) (c .holds .ensures)
 
 pub any-order-spec : {M : Type 1} → statement M
-any-order-spec = tie.close (tie.spec refusal-requires returns holds-requires returns-2)
+any-order-spec = tie.close (tie.spec (λ c κs. search needs) returns holds-requires returns-2)

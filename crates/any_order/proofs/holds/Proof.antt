@@ -15,9 +15,6 @@ count-requires : tie.Need-count-requires
 unfolding zeros
 count-requires c κs = (c .before .before .pre, refl)
 
-alike-requires : tie.Need-alike-requires
-alike-requires c κs = search needs
-
 returns : tie.Need-returns
 returns c =
     let counted = c .before .before in
@@ -25,4 +22,4 @@ returns c =
     c .alike .ensures ∙ ap (λ (k : List ℕ). alike (held k)) (counted .count .ensures) ∙ held-alike (b .args .m .now) (b .pre)
 
 pub holds-spec : {M : Type 1} → statement M
-holds-spec = tie.close (tie.spec count-requires alike-requires returns)
+holds-spec = tie.close (tie.spec count-requires (λ c κs. search needs) returns)

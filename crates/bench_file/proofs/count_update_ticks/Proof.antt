@@ -5,9 +5,6 @@ use Rattle.layout.specs.Machine.{withUpdateTicks}
 use Rattle.bench_file.proofs.count_update_ticks.Statement.{statement}
 use Rattle.bench_file.proofs.count_update_ticks.Tie as tie
 
-update-ticks-requires : tie.Need-update-ticks-requires
-update-ticks-requires c κs = search needs
-
 returns : tie.Need-returns
 unfolding withUpdateTicks
 returns c = rw (c .update-ticks .ensures)
@@ -15,5 +12,5 @@ returns c = rw (c .update-ticks .ensures)
 pub count-update-ticks-spec : {M : Type 1} → statement M
 count-update-ticks-spec =
     tie.close
-    (tie.spec (λ c. search needs) (λ c. search needs) update-ticks-requires (λ c. search needs) (λ c. search needs)
+    (tie.spec (λ c. search needs) (λ c. search needs) (λ c κs. search needs) (λ c. search needs) (λ c. search needs)
     returns)

@@ -7,12 +7,6 @@ use Rattle.bench_file.proofs.Judging.{judged-unfit, judged-fit}
 use Rattle.bench_file.proofs.judge_line.Statement.{statement}
 use Rattle.bench_file.proofs.judge_line.Tie as tie
 
-phase-after-requires : tie.Need-phase-after-requires
-phase-after-requires c κs = search needs
-
-fit-requires : tie.Need-fit-requires
-fit-requires c κs = search needs
-
 returns : tie.Need-returns
 returns c =
     let after = c .before .before in
@@ -54,5 +48,5 @@ returns-5 c =
 pub judge-line-spec : {M : Type 1} → statement M
 judge-line-spec =
     tie.close
-    (tie.spec phase-after-requires fit-requires returns (λ c. search needs) (λ c. search needs) (λ c. search needs)
-    (λ c. search needs) (λ c. search needs) returns-2 returns-3 returns-4 returns-5)
+    (tie.spec (λ c κs. search needs) (λ c κs. search needs) returns (λ c. search needs) (λ c. search needs)
+    (λ c. search needs) (λ c. search needs) (λ c. search needs) returns-2 returns-3 returns-4 returns-5)

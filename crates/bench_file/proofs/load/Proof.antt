@@ -39,20 +39,11 @@ line-end c =
 loop-holds : tie.Need-loop-holds Inv-loop μ-loop
 loop-holds c = (refl, refl, loading.begins _ _ _)
 
-after-requires : tie.Need-after-requires Inv-loop μ-loop
-after-requires c κs = omega arith
-
-find-requires : tie.Need-find-requires Inv-loop μ-loop
-find-requires c κs = search needs
-
 add-read-line : tie.Need-add-read-line Inv-loop μ-loop
 add-read-line c = omega (arith, short (c .before .before), line-end c)
 
 part-read-line-end : tie.Need-part-read-line-end Inv-loop μ-loop
 part-read-line-end c = omega (arith, line-end c)
-
-read-line-requires : tie.Need-read-line-requires Inv-loop μ-loop
-read-line-requires c κs = search needs
 
 load-line-requires : tie.Need-load-line-requires Inv-loop μ-loop
 load-line-requires c κs =
@@ -102,6 +93,6 @@ returns c = loading.ends _ (c .before .loop .inv .2) (c .loop-test .left)
 pub load-spec : {M : Type 1} → statement M
 load-spec =
     tie.close
-    (tie.spec Inv-loop μ-loop loop-holds after-requires find-requires add-read-line (λ c. omega arith)
-    (λ c. omega arith) part-read-line-end read-line-requires load-line-requires add-at add-at-2 loop-less loop-again
+    (tie.spec Inv-loop μ-loop loop-holds (λ c κs. omega arith) (λ c κs. search needs) add-read-line (λ c. omega arith)
+    (λ c. omega arith) part-read-line-end (λ c κs. search needs) load-line-requires add-at add-at-2 loop-less loop-again
     (λ c. c .before .loop .inv .0) (λ c. c .before .loop .inv .1) returns)

@@ -5,12 +5,6 @@ use borrow.Author.Needs.{needs}
 use Rattle.bench_file.proofs.load_line.Statement.{statement}
 use Rattle.bench_file.proofs.load_line.Tie as tie
 
-put-requires : tie.Need-put-requires
-put-requires c κs = search needs
-
-put-requires-2 : tie.Need-put-requires-2
-put-requires-2 c κs = search needs
-
 returns : tie.Need-returns
 returns c = let a = c .before .before .before .before .args in loading.load-passes _ (a .count) (a .m .now) (a .room .now) (c .enum-told .given .1)
 
@@ -32,6 +26,6 @@ returns-4 c = let a = c .before .before .before .before .args in loading.load-ot
 pub load-line-spec : {M : Type 1} → statement M
 load-line-spec =
     tie.close
-    (tie.spec (λ c. search needs) (λ c. search needs) put-requires (λ c. search needs) put-requires-2
+    (tie.spec (λ c. search needs) (λ c. search needs) (λ c κs. search needs) (λ c. search needs) (λ c κs. search needs)
     (λ c. search needs) (λ c. search needs) returns (λ c. search needs) returns-2 (λ c. search needs) returns-3
     returns-4)

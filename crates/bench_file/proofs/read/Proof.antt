@@ -7,9 +7,6 @@ use Rattle.bench_file.proofs.WholeFile as whole
 use Rattle.bench_file.proofs.read.Statement.{statement}
 use Rattle.bench_file.proofs.read.Tie as tie
 
-ended-requires : tie.Need-ended-requires
-ended-requires c κs = search needs
-
 returns : tie.Need-returns
 returns c =
     let a = c .before .before .before .args in
@@ -17,9 +14,6 @@ returns c =
 
 judge-requires : tie.Need-judge-requires
 judge-requires c κs = sym (c .before .ended .ensures) ∙ not-false _ (c .if1 .left)
-
-fit-requires : tie.Need-fit-requires
-fit-requires c κs = search needs
 
 returns-2 : tie.Need-returns-2
 returns-2 c =
@@ -35,9 +29,6 @@ returns-2 c =
     (judged .judge .ensures)
     (c .before .fit .ensures)
     (not-true _ (c .if2 .taken))
-
-fresh-requires : tie.Need-fresh-requires
-fresh-requires c κs = search needs
 
 load-requires : tie.Need-load-requires
 load-requires c κs =
@@ -78,13 +69,5 @@ returns-3 c =
 pub read-spec : {M : Type 1} → statement M
 read-spec =
     tie.close
-    (tie.spec
-    ended-requires
-    returns
-    judge-requires
-    fit-requires
-    returns-2
-    fresh-requires
-    load-requires
-    count-update-ticks-requires
-    returns-3)
+    (tie.spec (λ c κs. search needs) returns judge-requires (λ c κs. search needs) returns-2 (λ c κs. search needs)
+    load-requires count-update-ticks-requires returns-3)

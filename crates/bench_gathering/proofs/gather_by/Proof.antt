@@ -20,9 +20,6 @@ Inv-loop text output m₀ commands memory₀ order out₀ sine decay passes take
 abbrev μ-loop : tie.MeasureT-loop
 μ-loop text output m₀ commands memory₀ order out₀ sine decay passes taken refused number₀ here₀ m memory out number here = here .passes
 
-refusal-requires : tie.Need-refusal-requires Inv-loop μ-loop
-refusal-requires c κs = search needs
-
 loop-holds : tie.Need-loop-holds Inv-loop μ-loop
 loop-holds c = (refl, (refl, (c .refusal .ensures, gathering-begins _ _ _ _ _)))
 
@@ -85,7 +82,7 @@ returns-2 c = gathering-ends _ (c .before .before .loop .inv .1 .1 .1) (c .if1 .
 pub gather-by-spec : {M : Type 1} → statement M
 gather-by-spec =
     tie.close
-    (tie.spec Inv-loop μ-loop refusal-requires loop-holds
+    (tie.spec Inv-loop μ-loop (λ c κs. search needs) loop-holds
     (λ c. omega (arith, c .before .before .before .loop .inv .1 .1 .1 .inside))
     (λ c. c .before .before .before .before .loop .inv .0) (λ c. c .before .before .before .before .loop .inv .1 .0)
     (λ c. c .before .before .before .before .loop .inv .1 .1 .1 .room) returns step-into-requires next-number-requires

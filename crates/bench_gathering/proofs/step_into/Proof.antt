@@ -7,9 +7,6 @@ use borrow.Author.Needs.{needs}
 use Rattle.bench_gathering.proofs.step_into.Statement.{statement}
 use Rattle.bench_gathering.proofs.step_into.Tie as tie
 
-step-requires : tie.Need-step-requires
-step-requires c κs = search needs
-
 part-put-end : tie.Need-part-put-end
 part-put-end c =
     let done = c .before .before .before .before .before .before in
@@ -38,5 +35,5 @@ returns c =
 pub step-into-spec : {M : Type 1} → statement M
 step-into-spec =
     tie.close
-    (tie.spec step-requires (λ c. search needs) (λ c. search needs) part-put-end put-requires (λ c. search needs)
-    (λ c. search needs) (λ c. search needs) returns)
+    (tie.spec (λ c κs. search needs) (λ c. search needs) (λ c. search needs) part-put-end put-requires
+    (λ c. search needs) (λ c. search needs) (λ c. search needs) returns)

@@ -6,9 +6,6 @@ use borrow.Author.Needs.{needs}
 use Rattle.bench_lines.proofs.command.Statement.{statement}
 use Rattle.bench_lines.proofs.command.Tie as tie
 
-hexadecimal-requires : tie.Need-hexadecimal-requires
-hexadecimal-requires c κs = search needs
-
 returns : tie.Need-returns
 returns c = kinds.by-number (λ n. Command n) (c .before .before .before .hexadecimal .ensures) (c .before .c .given .1)
 
@@ -16,5 +13,4 @@ returns-2 : tie.Need-returns-2
 returns-2 c = kinds.by-none (λ n. Command n) (c .before .before .hexadecimal .ensures) (c .enum-told .given .1)
 
 pub command-spec : {M : Type 1} → statement M
-command-spec = tie.close
-    (tie.spec hexadecimal-requires (λ c. search needs) (λ c. search needs) returns returns-2)
+command-spec = tie.close (tie.spec (λ c κs. search needs) (λ c. search needs) (λ c. search needs) returns returns-2)

@@ -6,9 +6,6 @@ use borrow.Author.Needs.{needs}
 use Rattle.bench_lines.proofs.passes.Statement.{statement}
 use Rattle.bench_lines.proofs.passes.Tie as tie
 
-decimal-requires : tie.Need-decimal-requires
-decimal-requires c κs = search needs
-
 returns : tie.Need-returns
 returns c = kinds.by-number (λ n. Passes n) (c .before .before .before .decimal .ensures) (c .before .n .given .1)
 
@@ -17,4 +14,4 @@ returns-2 c = kinds.by-none (λ n. Passes n) (c .before .before .decimal .ensure
 
 pub passes-spec : {M : Type 1} → statement M
 passes-spec = tie.close
-    (tie.spec (λ c. search needs) decimal-requires (λ c. search needs) (λ c. search needs) returns returns-2)
+    (tie.spec (λ c. search needs) (λ c κs. search needs) (λ c. search needs) (λ c. search needs) returns returns-2)

@@ -8,14 +8,8 @@ use borrow.Author.Needs.{needs}
 use Rattle.bench_lines.proofs.read_line.Statement.{statement}
 use Rattle.bench_lines.proofs.read_line.Tie as tie
 
-starts-requires : tie.Need-starts-requires
-starts-requires c κs = search needs
-
 after-requires : tie.Need-after-requires
 after-requires c κs = starts-long _ passesStart (sym (c .before .starts .ensures) ∙ c .if1 .taken)
-
-passes-requires : tie.Need-passes-requires
-passes-requires c κs = search needs
 
 returns : tie.Need-returns
 returns c =
@@ -23,14 +17,8 @@ returns c =
     let a = then1 .before .before .before .before .before .args in
     kinds.line-passes (a .file .now) (then1 .before .starts .ensures) (then1 .if1 .taken) (c .before .after .ensures) (c .passes .ensures)
 
-starts-requires-2 : tie.Need-starts-requires-2
-starts-requires-2 c κs = search needs
-
 after-requires-2 : tie.Need-after-requires-2
 after-requires-2 c κs = starts-long _ wordStart (sym (c .before .starts2 .ensures) ∙ c .if2 .taken)
-
-word-requires : tie.Need-word-requires
-word-requires c κs = search needs
 
 returns-2 : tie.Need-returns-2
 returns-2 c =
@@ -46,14 +34,8 @@ returns-2 c =
     (c .before .after2 .ensures)
     (c .word .ensures)
 
-starts-requires-3 : tie.Need-starts-requires-3
-starts-requires-3 c κs = search needs
-
 after-requires-3 : tie.Need-after-requires-3
 after-requires-3 c κs = starts-long _ commandStart (sym (c .before .starts3 .ensures) ∙ c .if3 .taken)
-
-command-requires : tie.Need-command-requires
-command-requires c κs = search needs
 
 returns-3 : tie.Need-returns-3
 returns-3 c =
@@ -89,17 +71,6 @@ returns-4 c =
 pub read-line-spec : {M : Type 1} → statement M
 read-line-spec =
     tie.close
-    (tie.spec
-    starts-requires
-    after-requires
-    passes-requires
-    returns
-    starts-requires-2
-    after-requires-2
-    word-requires
-    returns-2
-    starts-requires-3
-    after-requires-3
-    command-requires
-    returns-3
-    returns-4)
+    (tie.spec (λ c κs. search needs) after-requires (λ c κs. search needs) returns (λ c κs. search needs)
+    after-requires-2 (λ c κs. search needs) returns-2 (λ c κs. search needs) after-requires-3 (λ c κs. search needs)
+    returns-3 returns-4)

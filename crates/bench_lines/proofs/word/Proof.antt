@@ -8,29 +8,17 @@ use borrow.Author.Needs.{needs}
 use Rattle.bench_lines.proofs.word.Statement.{statement}
 use Rattle.bench_lines.proofs.word.Tie as tie
 
-find-requires : tie.Need-find-requires
-find-requires c κs = search needs
-
 returns : tie.Need-returns
 returns c = kinds.word-no-colon (c .before .before .before .args .file .now) (c .before .find .ensures) (c .if1 .taken)
 
 slice-aggregate-decimal : tie.Need-slice-aggregate-decimal
 slice-aggregate-decimal c = sym (length-take-le _ _ (omega arith))
 
-decimal-requires : tie.Need-decimal-requires
-decimal-requires c κs = search needs
-
 returns-2 : tie.Need-returns-2
 returns-2 c =
     let place = c .before .before in
     let test = place .before .before in
     kinds.word-no-place (test .before .before .before .args .file .now) (test .before .find .ensures) (test .if1 .left) (place .decimal .ensures) (c .enum-told .given .1)
-
-after-requires : tie.Need-after-requires
-after-requires c κs = search needs
-
-decimal-requires-2 : tie.Need-decimal-requires-2
-decimal-requires-2 c κs = search needs
 
 returns-3 : tie.Need-returns-3
 returns-3 c =
@@ -65,6 +53,6 @@ returns-4 c =
 pub word-spec : {M : Type 1} → statement M
 word-spec =
     tie.close
-    (tie.spec find-requires returns slice-aggregate-decimal decimal-requires (λ c. search needs) (λ c. search needs)
-    returns-2 (λ c. search needs) after-requires decimal-requires-2 (λ c. search needs) (λ c. search needs) returns-3
-    (λ c. search needs) returns-4)
+    (tie.spec (λ c κs. search needs) returns slice-aggregate-decimal (λ c κs. search needs) (λ c. search needs)
+    (λ c. search needs) returns-2 (λ c. search needs) (λ c κs. search needs) (λ c κs. search needs) (λ c. search needs)
+    (λ c. search needs) returns-3 (λ c. search needs) returns-4)

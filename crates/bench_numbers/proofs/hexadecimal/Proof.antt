@@ -5,9 +5,6 @@ use borrow.Author.Needs.{needs}
 use Rattle.bench_numbers.proofs.hexadecimal.Statement.{statement}
 use Rattle.bench_numbers.proofs.hexadecimal.Tie as tie
 
-value-requires : tie.Need-value-requires
-value-requires c κs = search needs
-
 returns : tie.Need-returns
 returns c = digits.hexadecimal-by (c .before .before .before .args .bytes .now) (c .before .if1 .taken) (c .value .ensures)
 
@@ -15,4 +12,4 @@ returns-2 : tie.Need-returns-2
 returns-2 c = digits.hexadecimal-none (c .before .before .args .bytes .now) (c .if1 .left)
 
 pub hexadecimal-spec : {M : Type 1} → statement M
-hexadecimal-spec = tie.close (tie.spec value-requires returns returns-2)
+hexadecimal-spec = tie.close (tie.spec (λ c κs. search needs) returns returns-2)

@@ -18,9 +18,6 @@ Inv-loop bytes base limit v₀ i₀ v i =
 abbrev μ-loop : tie.MeasureT-loop
 μ-loop bytes base limit v₀ i₀ v i = length bytes - i
 
-digit-requires : tie.Need-digit-requires Inv-loop μ-loop
-digit-requires c κs = search needs
-
 returns : tie.Need-returns Inv-loop μ-loop
 returns c =
     let w = c .before .before .before in
@@ -63,5 +60,5 @@ returns-3 c =
 pub value-spec : {M : Type 1} → statement M
 value-spec =
     tie.close
-    (tie.spec Inv-loop μ-loop (λ c. (omega arith, omega arith, refl, refl)) (λ c. omega arith) digit-requires returns
-    mul-v add-v returns-2 (λ c. omega arith) (λ c. omega arith) loop-again (λ c. omega arith) returns-3)
+    (tie.spec Inv-loop μ-loop (λ c. (omega arith, omega arith, refl, refl)) (λ c. omega arith) (λ c κs. search needs)
+    returns mul-v add-v returns-2 (λ c. omega arith) (λ c. omega arith) loop-again (λ c. omega arith) returns-3)

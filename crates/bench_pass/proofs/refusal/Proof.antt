@@ -10,23 +10,14 @@ use borrow.Author.Needs.{needs}
 use Rattle.bench_pass.proofs.refusal.Statement.{statement}
 use Rattle.bench_pass.proofs.refusal.Tie as tie
 
-refusal-requires : tie.Need-refusal-requires
-refusal-requires c κs = search needs
-
 returns : tie.Need-returns
 returns c = refused-machine _ _ _ (c .before .refusal .ensures) (c .if1 .taken)
-
-data-refusal-requires : tie.Need-data-refusal-requires
-data-refusal-requires c κs = search needs
 
 returns-2 : tie.Need-returns-2
 returns-2 c =
     let lists = c .before in
     let whole = lists .before in
     refused-data _ _ _ (sym (whole .before .refusal .ensures) ∙ whole .if1 .left) (lists .data-refusal .ensures) (c .if2 .taken)
-
-memory-good-requires : tie.Need-memory-good-requires
-memory-good-requires c κs = search needs
 
 returns-3 : tie.Need-returns-3
 returns-3 c =
@@ -57,12 +48,5 @@ returns-4 c =
 pub refusal-spec : {M : Type 1} → statement M
 refusal-spec =
     tie.close
-    (tie.spec
-    refusal-requires
-    returns
-    data-refusal-requires
-    returns-2
-    memory-good-requires
-    returns-3
-    unit-refusal-requires
-    returns-4)
+    (tie.spec (λ c κs. search needs) returns (λ c κs. search needs) returns-2 (λ c κs. search needs) returns-3
+    unit-refusal-requires returns-4)

@@ -9,9 +9,6 @@ use borrow.Author.Needs.{needs}
 use Rattle.bench_pass.proofs.refusal_again.Statement.{statement}
 use Rattle.bench_pass.proofs.refusal_again.Tie as tie
 
-data-refusal-requires : tie.Need-data-refusal-requires
-data-refusal-requires c κs = search needs
-
 returns : tie.Need-returns
 returns c = again-data _ _ (c .before .data-refusal .ensures) (c .if1 .taken)
 
@@ -26,5 +23,4 @@ returns-2 c =
     again-units _ _ (sym (passed .before .data-refusal .ensures) ∙ passed .if1 .left) (c .unit-refusal .ensures)
 
 pub refusal-again-spec : {M : Type 1} → statement M
-refusal-again-spec =
-    tie.close (tie.spec data-refusal-requires returns unit-refusal-requires returns-2)
+refusal-again-spec = tie.close (tie.spec (λ c κs. search needs) returns unit-refusal-requires returns-2)

@@ -7,12 +7,6 @@ use borrow.Author.Needs.{needs}
 use Rattle.bench_ringing.proofs.put_machine.Statement.{statement}
 use Rattle.bench_ringing.proofs.put_machine.Tie as tie
 
-pass-line-requires : tie.Need-pass-line-requires
-pass-line-requires c κs = search needs
-
-put-frame-requires : tie.Need-put-frame-requires
-put-frame-requires c κs = search needs
-
 returns : tie.Need-returns
 unfolding givenAfter lineAfter
 returns c = rw (c .before .before .enum-told .given .1) (c .pass-line .ensures)
@@ -25,4 +19,4 @@ pub put-machine-spec : {M : Type 1} → statement M
 put-machine-spec =
     tie.close
     (tie.spec (λ c. search needs) (λ c. search needs) (λ c. search needs) (λ c. search needs) (λ c. search needs)
-    (λ c. search needs) pass-line-requires (λ c. search needs) put-frame-requires returns returns-2)
+    (λ c. search needs) (λ c κs. search needs) (λ c. search needs) (λ c κs. search needs) returns returns-2)

@@ -6,9 +6,6 @@ use borrow.Author.Needs.{needs}
 use Rattle.bench_ringing.proofs.put_refusal.Statement.{statement}
 use Rattle.bench_ringing.proofs.put_refusal.Tie as tie
 
-refusal-line-requires : tie.Need-refusal-line-requires
-refusal-line-requires c κs = search needs
-
 returns : tie.Need-returns
 unfolding givenRefused
 returns c = rw (c .before .before .enum-told .given .1) (c .refusal-line .ensures)
@@ -18,6 +15,4 @@ unfolding givenRefused
 returns-2 c = rw (c .enum-told2 .given .1) (refl, refl)
 
 pub put-refusal-spec : {M : Type 1} → statement M
-put-refusal-spec =
-    tie.close
-    (tie.spec (λ c. search needs) refusal-line-requires (λ c. search needs) returns returns-2)
+put-refusal-spec = tie.close (tie.spec (λ c. search needs) (λ c κs. search needs) (λ c. search needs) returns returns-2)

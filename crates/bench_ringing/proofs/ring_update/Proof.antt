@@ -6,9 +6,6 @@ use borrow.Author.Needs.{needs}
 use Rattle.bench_ringing.proofs.ring_update.Statement.{statement}
 use Rattle.bench_ringing.proofs.ring_update.Tie as tie
 
-start-of-requires : tie.Need-start-of-requires
-start-of-requires c κs = search needs
-
 take-commands-requires : tie.Need-take-commands-requires
 take-commands-requires c κs =
     let start = c .before .before .before .before .before .before in
@@ -25,5 +22,5 @@ returns c =
 pub ring-update-spec : {M : Type 1} → statement M
 ring-update-spec =
     tie.close
-    (tie.spec start-of-requires (λ c. search needs) (λ c. search needs) (λ c. search needs) (λ c. search needs)
+    (tie.spec (λ c κs. search needs) (λ c. search needs) (λ c. search needs) (λ c. search needs) (λ c. search needs)
     take-commands-requires (λ c. search needs) returns)

@@ -10,9 +10,6 @@ use borrow.Author.Needs.{needs}
 use Rattle.bench_ringing.proofs.step.Statement.{statement}
 use Rattle.bench_ringing.proofs.step.Tie as tie
 
-put-refusal-requires : tie.Need-put-refusal-requires
-put-refusal-requires c κs = search needs
-
 returns : tie.Need-returns
 returns c =
     let test = c .before .before in
@@ -21,9 +18,6 @@ returns c =
     let n = start .pre .1 .1 .0 in
     let stays = refused-stays (a .text) (a .m .now) (a .memory .now) (λ e. test .if1 .taken (n ∙ e)) in
     step-refused (a .text) (a .output) (ringingAt (a .at) (a .m .now) (a .memory .now) (a .commands .now)) (a .line .now) (a .at .taken) (start .pre .0) (start .pre .1 .1 .0) (stays .0) (stays .1) (test .if1 .taken) (c .put-refusal .ensures)
-
-run-requires : tie.Need-run-requires
-run-requires c κs = search needs
 
 ring-update-requires : tie.Need-ring-update-requires
 ring-update-requires c κs =
@@ -41,9 +35,6 @@ add-taken c =
     let start = passes .before .before .before .before .before in
     let a = start .args in
     omega (arith, start .good .1 .1 .1 .1 .0 .0, taken-most (a .text) _ (a .commands .now) (a .at .taken) (updated .ring-update .ensures .0))
-
-put-refusal-requires-2 : tie.Need-put-refusal-requires-2
-put-refusal-requires-2 c κs = search needs
 
 returns-2 : tie.Need-returns-2
 returns-2 c =
@@ -82,6 +73,6 @@ returns-3 c =
 pub step-spec : {M : Type 1} → statement M
 step-spec =
     tie.close
-    (tie.spec put-refusal-requires returns run-requires ring-update-requires add-taken put-refusal-requires-2
-    (λ c. search needs) (λ c. search needs) returns-2 put-machine-requires (λ c. search needs) (λ c. search needs)
-    (λ c. search needs) returns-3)
+    (tie.spec (λ c κs. search needs) returns (λ c κs. search needs) ring-update-requires add-taken
+    (λ c κs. search needs) (λ c. search needs) (λ c. search needs) returns-2 put-machine-requires (λ c. search needs)
+    (λ c. search needs) (λ c. search needs) returns-3)

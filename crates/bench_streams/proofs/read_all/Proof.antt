@@ -15,9 +15,6 @@ Inv-loop stream buffer₀ n₀ buffer n = (length buffer ≡ length buffer₀) �
 abbrev μ-loop : tie.MeasureT-loop
 μ-loop stream buffer₀ n₀ buffer n = length buffer - n
 
-read-some-requires : tie.Need-read-some-requires Inv-loop μ-loop
-read-some-requires c κs = search needs
-
 returns : tie.Need-returns Inv-loop μ-loop
 returns c = failed-within
 
@@ -57,5 +54,5 @@ pub read-all-spec : {M : Type 1} → statement M
 read-all-spec =
     tie.close
     (tie.spec Inv-loop μ-loop (λ c. search needs) (λ c. search needs) (λ c. search needs) (λ c. search needs)
-    read-some-requires (λ c. search needs) (λ c. search needs) (λ c. search needs) returns (λ c. search needs) returns-2
-    add-n loop-less loop-again (λ c. search needs) returns-3)
+    (λ c κs. search needs) (λ c. search needs) (λ c. search needs) (λ c. search needs) returns (λ c. search needs)
+    returns-2 add-n loop-less loop-again (λ c. search needs) returns-3)

@@ -5,14 +5,8 @@ use borrow.Author.Needs.{needs}
 use Rattle.bench_streams.proofs.read_some.Statement.{statement}
 use Rattle.bench_streams.proofs.read_some.Tie as tie
 
-read-requires : tie.Need-read-requires
-read-requires c κs = search needs
-
 returns : tie.Need-returns
 returns c = failed-within
-
-count-requires : tie.Need-count-requires
-count-requires c κs = search needs
 
 returns-2 : tie.Need-returns-2
 returns-2 c = bytes-within (c .count .ensures .0 .0)
@@ -20,4 +14,4 @@ returns-2 c = bytes-within (c .count .ensures .0 .0)
 pub read-some-spec : {M : Type 1} → statement M
 read-some-spec =
     tie.close
-    (tie.spec read-requires (λ c. search needs) returns count-requires (λ c. search needs) returns-2)
+    (tie.spec (λ c κs. search needs) (λ c. search needs) returns (λ c κs. search needs) (λ c. search needs) returns-2)

@@ -24,9 +24,6 @@ right-starts c = omega (arith, c .put2 .ensures .0, left-ends (c .before .before
 right-ends : (c : tie.After-put-signed2) → c .put-signed2 .result ≤ 50
 right-ends c = omega (arith, lines.signed-end _ _ (c .put-signed2 .ensures .0), right-starts (c .before .before))
 
-put-named-requires : tie.Need-put-named-requires
-put-named-requires c κs = search needs
-
 put-requires : tie.Need-put-requires
 put-requires c κs = omega (arith, counter-ends (c .before .before))
 
@@ -70,5 +67,5 @@ returns c =
 pub pass-line-spec : {M : Type 1} → statement M
 pass-line-spec =
     tie.close
-    (tie.spec (λ c. search needs) put-named-requires (λ c. search needs) put-requires put-signed-requires
+    (tie.spec (λ c. search needs) (λ c κs. search needs) (λ c. search needs) put-requires put-signed-requires
     (λ c. search needs) put-requires-2 put-signed-requires-2 (λ c. search needs) put-requires-3 returns)

@@ -6,12 +6,6 @@ use borrow.Author.Needs.{needs}
 use Rattle.bench_text.proofs.put_named.Statement.{statement}
 use Rattle.bench_text.proofs.put_named.Tie as tie
 
-put-requires : tie.Need-put-requires
-put-requires c κs = search needs
-
-put-digits-requires : tie.Need-put-digits-requires
-put-digits-requires c κs = search needs
-
 returns : tie.Need-returns
 returns c =
     let name = c .before .before in
@@ -19,4 +13,4 @@ returns c =
     lines.put-named (a .line .now) (a .at) (a .name .now) (a .n) (done (name .put .ensures)) (done (c .put-digits .ensures))
 
 pub put-named-spec : {M : Type 1} → statement M
-put-named-spec = tie.close (tie.spec put-requires put-digits-requires returns)
+put-named-spec = tie.close (tie.spec (λ c κs. search needs) (λ c κs. search needs) returns)

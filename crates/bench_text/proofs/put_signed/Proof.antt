@@ -6,18 +6,9 @@ use borrow.Author.Needs.{needs}
 use Rattle.bench_text.proofs.put_signed.Statement.{statement}
 use Rattle.bench_text.proofs.put_signed.Tie as tie
 
-put-digits-requires : tie.Need-put-digits-requires
-put-digits-requires c κs = search needs
-
 returns : tie.Need-returns
 returns c = let a = c .before .before .before .args in
     lines.put-positive (a .line .now) (a .at) (a .n) (c .before .before .if1 .taken) (c .put-digits .ensures)
-
-put-requires : tie.Need-put-requires
-put-requires c κs = search needs
-
-put-digits-requires-2 : tie.Need-put-digits-requires-2
-put-digits-requires-2 c κs = search needs
 
 returns-2 : tie.Need-returns-2
 returns-2 c =
@@ -29,5 +20,5 @@ returns-2 c =
 pub put-signed-spec : {M : Type 1} → statement M
 put-signed-spec =
     tie.close
-    (tie.spec put-digits-requires returns (λ c. search needs) put-requires (λ c. search needs) put-digits-requires-2
-    returns-2)
+    (tie.spec (λ c κs. search needs) returns (λ c. search needs) (λ c κs. search needs) (λ c. search needs)
+    (λ c κs. search needs) returns-2)

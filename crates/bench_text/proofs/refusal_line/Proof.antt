@@ -7,9 +7,6 @@ use borrow.Author.Needs.{needs}
 use Rattle.bench_text.proofs.refusal_line.Statement.{statement}
 use Rattle.bench_text.proofs.refusal_line.Tie as tie
 
-put-named-requires : tie.Need-put-named-requires
-put-named-requires c κs = search needs
-
 put-requires : tie.Need-put-requires
 put-requires c κs = omega (arith, lines.named-end _ _ _ (c .before .before .put-named .ensures .0))
 
@@ -22,4 +19,4 @@ returns c =
 pub refusal-line-spec : {M : Type 1} → statement M
 refusal-line-spec =
     tie.close
-    (tie.spec (λ c. search needs) put-named-requires (λ c. search needs) put-requires returns)
+    (tie.spec (λ c. search needs) (λ c κs. search needs) (λ c. search needs) put-requires returns)

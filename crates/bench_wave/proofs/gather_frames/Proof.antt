@@ -6,9 +6,6 @@ use borrow.Author.Needs.{needs}
 use Rattle.bench_wave.proofs.gather_frames.Statement.{statement}
 use Rattle.bench_wave.proofs.gather_frames.Tie as tie
 
-gather-requires : tie.Need-gather-requires
-gather-requires c κs = search needs
-
 returns : tie.Need-returns
 returns c =
     let called = c .before .before .before .before .before .before in
@@ -20,5 +17,5 @@ returns c =
 pub gather-frames-spec : {M : Type 1} → statement M
 gather-frames-spec =
     tie.close
-    (tie.spec (λ c. search needs) (λ c. search needs) (λ c. search needs) gather-requires (λ c. search needs)
+    (tie.spec (λ c. search needs) (λ c. search needs) (λ c. search needs) (λ c κs. search needs) (λ c. search needs)
     (λ c. search needs) (λ c. search needs) returns)

@@ -37,9 +37,6 @@ put-header-requires c κs =
     let s = sound-controls Of1978 (a .m .now) (is-sound Of1978 (a .m .now) [] (start .pre .0)) in
     (search needs, (rw (c .before .rate .ensures) (rate-below (getD (a .m .now) nAt 0) (omega (arith, s .nLow))), omega (arith, start .pre .1)))
 
-gather-frames-requires : tie.Need-gather-frames-requires
-gather-frames-requires c κs = search needs
-
 returns : tie.Need-returns
 returns c =
     let called = c .before .before .before .before .before .before in
@@ -79,5 +76,5 @@ returns-2 c =
 pub sound-spec : {M : Type 1} → statement M
 sound-spec =
     tie.close
-    (tie.spec slice-read-n rate-requires (λ c. search needs) put-header-requires gather-frames-requires
+    (tie.spec slice-read-n rate-requires (λ c. search needs) put-header-requires (λ c κs. search needs)
     (λ c. search needs) (λ c. search needs) returns add-t23 (λ c. search needs) (λ c. search needs) returns-2)

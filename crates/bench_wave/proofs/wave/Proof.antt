@@ -12,9 +12,6 @@ use borrow.Author.Needs.{needs}
 use Rattle.bench_wave.proofs.wave.Statement.{statement}
 use Rattle.bench_wave.proofs.wave.Tie as tie
 
-read-requires : tie.Need-read-requires
-read-requires c κs = search needs
-
 returns : tie.Need-returns
 returns c =
     let reading = c .before .before in
@@ -24,9 +21,6 @@ slice-aggregate-refusal : tie.Need-slice-aggregate-refusal
 slice-aggregate-refusal c =
     let reading = c .before .before .before in
     read-whole (reading .before .before .before .before .args .file .now) (replicate machineLength 0) (replicate commandPlaces 0) (length-replicate {A = ℕ} machineLength 0) (reading .read .ensures)
-
-refusal-requires : tie.Need-refusal-requires
-refusal-requires c κs = search needs
 
 returns-2 : tie.Need-returns-2
 returns-2 c =
@@ -65,5 +59,6 @@ returns-3 c =
 pub wave-spec : {M : Type 1} → statement M
 wave-spec =
     tie.close
-    (tie.spec read-requires returns slice-aggregate-refusal refusal-requires returns-2 slice-aggregate-sound
-    (λ c. search needs) (λ c. search needs) part-sound-end (λ c. search needs) sound-requires returns-3)
+    (tie.spec (λ c κs. search needs) returns slice-aggregate-refusal (λ c κs. search needs) returns-2
+    slice-aggregate-sound (λ c. search needs) (λ c. search needs) part-sound-end (λ c. search needs) sound-requires
+    returns-3)

@@ -5,12 +5,6 @@ use borrow.Author.Needs.{needs}
 use Rattle.command.proofs.perform.Statement.{statement}
 use Rattle.command.proofs.perform.Tie as tie
 
-field-requires : tie.Need-field-requires
-field-requires c κs = search needs
-
-miscellany-requires : tie.Need-miscellany-requires
-miscellany-requires c κs = search needs
-
 returns : tie.Need-returns
 returns c =
     let done = c .before .before in
@@ -18,9 +12,6 @@ returns c =
     let code = arm .before in
     let a = code .before .before .args in
     does-misc (a .m .now) (a .c) (code .field .ensures) (arm .if1 .taken) (done .miscellany .ensures)
-
-load-requires : tie.Need-load-requires
-load-requires c κs = search needs
 
 returns-2 : tie.Need-returns-2
 returns-2 c =
@@ -30,9 +21,6 @@ returns-2 c =
     let a = code .before .before .args in
     does-delay (a .m .now) (a .c) (code .field .ensures) (arm .if2 .taken) (done .load .ensures)
 
-timer-requires : tie.Need-timer-requires
-timer-requires c κs = search needs
-
 returns-3 : tie.Need-returns-3
 returns-3 c =
     let done = c .before .before in
@@ -41,9 +29,6 @@ returns-3 c =
     let a = code .before .before .args in
     does-timer (a .m .now) (a .c) (code .field .ensures) (arm .if3 .taken) (done .timer .ensures)
 
-ticks-requires : tie.Need-ticks-requires
-ticks-requires c κs = search needs
-
 returns-4 : tie.Need-returns-4
 returns-4 c =
     let done = c .before .before in
@@ -51,9 +36,6 @@ returns-4 c =
     let code = arm .before .before .before .before in
     let a = code .before .before .args in
     does-ticks (a .m .now) (a .c) (code .field .ensures) (arm .if4 .taken) (done .ticks .ensures)
-
-load-requires-2 : tie.Need-load-requires-2
-load-requires-2 c κs = search needs
 
 returns-5 : tie.Need-returns-5
 returns-5 c =
@@ -66,9 +48,6 @@ returns-5 c =
     let code = misc .before in
     let a = code .before .before .args in
     does-generator-load (a .m .now) (a .c) (code .field .ensures) (misc .if1 .left) (delay .if2 .left) (timer .if3 .left) (ticks .if4 .left) (arm .if5 .taken) (done .load2 .ensures)
-
-load-requires-3 : tie.Need-load-requires-3
-load-requires-3 c κs = search needs
 
 returns-6 : tie.Need-returns-6
 returns-6 c =
@@ -85,6 +64,7 @@ returns-6 c =
 pub perform-spec : {M : Type 1} → statement M
 perform-spec =
     tie.close
-    (tie.spec field-requires miscellany-requires (λ c. search needs) returns load-requires (λ c. search needs) returns-2
-    timer-requires (λ c. search needs) returns-3 ticks-requires (λ c. search needs) returns-4 load-requires-2
-    (λ c. search needs) returns-5 load-requires-3 (λ c. search needs) returns-6)
+    (tie.spec (λ c κs. search needs) (λ c κs. search needs) (λ c. search needs) returns (λ c κs. search needs)
+    (λ c. search needs) returns-2 (λ c κs. search needs) (λ c. search needs) returns-3 (λ c κs. search needs)
+    (λ c. search needs) returns-4 (λ c κs. search needs) (λ c. search needs) returns-5 (λ c κs. search needs)
+    (λ c. search needs) returns-6)

@@ -8,18 +8,12 @@ use borrow.Author.Needs.{needs}
 use Rattle.command.proofs.take.Statement.{statement}
 use Rattle.command.proofs.take.Tie as tie
 
-refusal-requires : tie.Need-refusal-requires
-refusal-requires c κs = search needs
-
 returns : tie.Need-returns
 returns c =
     let a = c .before .before .before .args in
     let q = c .before .refusal .ensures in
     let e : commandRefusal (a .c) ≢ 0 = λ p. c .if1 .taken (q ∙ p) in
     (q, sym (refused-waits (a .m .now) (a .c) e), sym (refused-leaves (a .m .now) (a .c) e))
-
-perform-requires : tie.Need-perform-requires
-perform-requires c κs = search needs
 
 returns-2 : tie.Need-returns-2
 returns-2 c =
@@ -30,5 +24,4 @@ returns-2 c =
     (sym e, p .perform .ensures .0 ∙ sym (passed-waits (a .m .now) (a .c) e), p .perform .ensures .1 ∙ sym (passed-does (a .m .now) (a .c) e))
 
 pub take-spec : {M : Type 1} → statement M
-take-spec = tie.close
-    (tie.spec refusal-requires returns perform-requires (λ c. search needs) returns-2)
+take-spec = tie.close (tie.spec (λ c κs. search needs) returns (λ c κs. search needs) (λ c. search needs) returns-2)

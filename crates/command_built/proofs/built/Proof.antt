@@ -8,30 +8,6 @@ use borrow.Author.Needs.{needs}
 use Rattle.command_built.proofs.built.Statement.{statement}
 use Rattle.command_built.proofs.built.Tie as tie
 
-field-requires : tie.Need-field-requires
-field-requires c κs = search needs
-
-field-requires-2 : tie.Need-field-requires-2
-field-requires-2 c κs = search needs
-
-flag-requires : tie.Need-flag-requires
-flag-requires c κs = search needs
-
-built-dly-requires : tie.Need-built-dly-requires
-built-dly-requires c κs = search needs
-
-flag-requires-2 : tie.Need-flag-requires-2
-flag-requires-2 c κs = search needs
-
-built-mmode-requires : tie.Need-built-mmode-requires
-built-mmode-requires c κs = search needs
-
-built-mrm-requires : tie.Need-built-mrm-requires
-built-mrm-requires c κs = search needs
-
-built-gmode-requires : tie.Need-built-gmode-requires
-built-gmode-requires c κs = search needs
-
 returns : tie.Need-returns
 returns c =
     let rr = c .before in
@@ -87,20 +63,6 @@ returns-8 c =
 pub built-spec : {M : Type 1} → statement M
 built-spec =
     tie.close
-    (tie.spec
-    field-requires
-    field-requires-2
-    flag-requires
-    built-dly-requires
-    flag-requires-2
-    built-mmode-requires
-    built-mrm-requires
-    built-gmode-requires
-    returns
-    returns-2
-    returns-3
-    returns-4
-    returns-5
-    returns-6
-    returns-7
-    returns-8)
+    (tie.spec (λ c κs. search needs) (λ c κs. search needs) (λ c κs. search needs) (λ c κs. search needs)
+    (λ c κs. search needs) (λ c κs. search needs) (λ c κs. search needs) (λ c κs. search needs) returns returns-2
+    returns-3 returns-4 returns-5 returns-6 returns-7 returns-8)

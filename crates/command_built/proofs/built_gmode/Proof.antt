@@ -5,18 +5,6 @@ use borrow.Author.Needs.{needs}
 use Rattle.command_built.proofs.built_gmode.Statement.{statement}
 use Rattle.command_built.proofs.built_gmode.Tie as tie
 
-field-requires : tie.Need-field-requires
-field-requires c κs = search needs
-
-flag-requires : tie.Need-flag-requires
-flag-requires c κs = search needs
-
-built-run-requires : tie.Need-built-run-requires
-built-run-requires c κs = search needs
-
-built-oscillator-requires : tie.Need-built-oscillator-requires
-built-oscillator-requires c κs = search needs
-
 returns : tie.Need-returns
 returns c =
     let run = c .before in
@@ -27,4 +15,4 @@ returns c =
 pub built-gmode-spec : {M : Type 1} → statement M
 built-gmode-spec =
     tie.close
-    (tie.spec field-requires flag-requires built-run-requires built-oscillator-requires returns)
+    (tie.spec (λ c κs. search needs) (λ c κs. search needs) (λ c κs. search needs) (λ c κs. search needs) returns)

@@ -5,24 +5,6 @@ use borrow.Author.Needs.{needs}
 use Rattle.command_built.proofs.built_mrm.Statement.{statement}
 use Rattle.command_built.proofs.built_mrm.Tie as tie
 
-flag-requires : tie.Need-flag-requires
-flag-requires c κs = search needs
-
-field-requires : tie.Need-field-requires
-field-requires c κs = search needs
-
-built-address-requires : tie.Need-built-address-requires
-built-address-requires c κs = search needs
-
-flag-requires-2 : tie.Need-flag-requires-2
-flag-requires-2 c κs = search needs
-
-field-requires-2 : tie.Need-field-requires-2
-field-requires-2 c κs = search needs
-
-built-address-requires-2 : tie.Need-built-address-requires-2
-built-address-requires-2 c κs = search needs
-
 returns : tie.Need-returns
 returns c =
     let min = c .before in
@@ -33,11 +15,5 @@ returns c =
 pub built-mrm-spec : {M : Type 1} → statement M
 built-mrm-spec =
     tie.close
-    (tie.spec
-    flag-requires
-    field-requires
-    built-address-requires
-    flag-requires-2
-    field-requires-2
-    built-address-requires-2
-    returns)
+    (tie.spec (λ c κs. search needs) (λ c κs. search needs) (λ c κs. search needs) (λ c κs. search needs)
+    (λ c κs. search needs) (λ c κs. search needs) returns)

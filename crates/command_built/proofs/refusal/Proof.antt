@@ -9,17 +9,11 @@ use borrow.Author.Needs.{needs}
 use Rattle.command_built.proofs.refusal.Statement.{statement}
 use Rattle.command_built.proofs.refusal.Tie as tie
 
-built-requires : tie.Need-built-requires
-built-requires c κs = search needs
-
 returns : tie.Need-returns
 unfolding commandRefusal asked
 returns c =
     let b : built (c .before .before .args .c) ≡ false = sym (c .before .built .ensures) ∙ not-true _ (c .if1 .taken) in
     rw b refl
-
-ticks-fit-requires : tie.Need-ticks-fit-requires
-ticks-fit-requires c κs = search needs
 
 returns-2 : tie.Need-returns-2
 unfolding commandRefusal asked
@@ -38,4 +32,4 @@ returns-3 c =
     rw (b, f) refl
 
 pub refusal-spec : {M : Type 1} → statement M
-refusal-spec = tie.close (tie.spec built-requires returns ticks-fit-requires returns-2 returns-3)
+refusal-spec = tie.close (tie.spec (λ c κs. search needs) returns (λ c κs. search needs) returns-2 returns-3)

@@ -6,18 +6,9 @@ use borrow.Author.Needs.{needs}
 use Rattle.command_built.proofs.ticks_fit.Statement.{statement}
 use Rattle.command_built.proofs.ticks_fit.Tie as tie
 
-field-requires : tie.Need-field-requires
-field-requires c κs = search needs
-
-flag-requires : tie.Need-flag-requires
-flag-requires c κs = search needs
-
-field-requires-2 : tie.Need-field-requires-2
-field-requires-2 c κs = search needs
-
 returns : tie.Need-returns
 unfolding ticksFit
 returns c = rw (c .before .before .field .ensures, c .before .flag .ensures, c .field2 .ensures) refl
 
 pub ticks-fit-spec : {M : Type 1} → statement M
-ticks-fit-spec = tie.close (tie.spec field-requires flag-requires field-requires-2 returns)
+ticks-fit-spec = tie.close (tie.spec (λ c κs. search needs) (λ c κs. search needs) (λ c κs. search needs) returns)

@@ -5,15 +5,6 @@ use borrow.Author.Needs.{needs}
 use Rattle.command_delay.proofs.built_dly.Statement.{statement}
 use Rattle.command_delay.proofs.built_dly.Tie as tie
 
-field-requires : tie.Need-field-requires
-field-requires c κs = search needs
-
-field-requires-2 : tie.Need-field-requires-2
-field-requires-2 c κs = search needs
-
-built-mode-requires : tie.Need-built-mode-requires
-built-mode-requires c κs = search needs
-
 returns : tie.Need-returns
 returns c = uu-11-not-built (c .before .before .args .c) (c .before .field .ensures) (c .match .keys1)
 
@@ -31,4 +22,4 @@ returns-3 c =
 pub built-dly-spec : {M : Type 1} → statement M
 built-dly-spec =
     tie.close
-    (tie.spec field-requires field-requires-2 built-mode-requires returns returns-2 returns-3)
+    (tie.spec (λ c κs. search needs) (λ c κs. search needs) (λ c κs. search needs) returns returns-2 returns-3)

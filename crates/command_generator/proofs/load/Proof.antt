@@ -8,54 +8,6 @@ use borrow.Author.Needs.{needs}
 use Rattle.command_generator.proofs.load.Statement.{statement}
 use Rattle.command_generator.proofs.load.Tie as tie
 
-generator-at-requires : tie.Need-generator-at-requires
-generator-at-requires c κs = search needs
-
-field-requires : tie.Need-field-requires
-field-requires c κs = search needs
-
-load-data-requires : tie.Need-load-data-requires
-load-data-requires c κs = search needs
-
-field-requires-2 : tie.Need-field-requires-2
-field-requires-2 c κs = search needs
-
-field-requires-3 : tie.Need-field-requires-3
-field-requires-3 c κs = search needs
-
-load-two-requires : tie.Need-load-two-requires
-load-two-requires c κs = search needs
-
-field-requires-4 : tie.Need-field-requires-4
-field-requires-4 c κs = search needs
-
-field-requires-5 : tie.Need-field-requires-5
-field-requires-5 c κs = search needs
-
-load-two-requires-2 : tie.Need-load-two-requires-2
-load-two-requires-2 c κs = search needs
-
-load-data-requires-2 : tie.Need-load-data-requires-2
-load-data-requires-2 c κs = search needs
-
-field-requires-6 : tie.Need-field-requires-6
-field-requires-6 c κs = search needs
-
-field-requires-7 : tie.Need-field-requires-7
-field-requires-7 c κs = search needs
-
-load-then-clear-requires : tie.Need-load-then-clear-requires
-load-then-clear-requires c κs = search needs
-
-load-data-requires-3 : tie.Need-load-data-requires-3
-load-data-requires-3 c κs = search needs
-
-load-adjusted-requires : tie.Need-load-adjusted-requires
-load-adjusted-requires c κs = search needs
-
-load-adjusted-requires-2 : tie.Need-load-adjusted-requires-2
-load-adjusted-requires-2 c κs = search needs
-
 returns : tie.Need-returns
 returns c =
     let done = c .before .before in
@@ -140,11 +92,12 @@ returns-10 c =
 pub load-spec : {M : Type 1} → statement M
 load-spec =
     tie.close
-    (tie.spec generator-at-requires field-requires (λ c. search needs) load-data-requires (λ c. search needs)
-    field-requires-2 (λ c. search needs) field-requires-3 load-two-requires (λ c. search needs) field-requires-4
-    (λ c. search needs) field-requires-5 load-two-requires-2 (λ c. search needs) load-data-requires-2
-    (λ c. search needs) field-requires-6 (λ c. search needs) field-requires-7 (λ c. search needs)
-    load-then-clear-requires (λ c. search needs) load-data-requires-3 (λ c. search needs) load-adjusted-requires
-    (λ c. search needs) load-adjusted-requires-2 (λ c. search needs) returns (λ c. search needs) returns-2
-    (λ c. search needs) returns-3 (λ c. search needs) returns-4 (λ c. search needs) returns-5 (λ c. search needs)
-    returns-6 returns-7 (λ c. search needs) returns-8 (λ c. search needs) returns-9 returns-10)
+    (tie.spec (λ c κs. search needs) (λ c κs. search needs) (λ c. search needs) (λ c κs. search needs)
+    (λ c. search needs) (λ c κs. search needs) (λ c. search needs) (λ c κs. search needs) (λ c κs. search needs)
+    (λ c. search needs) (λ c κs. search needs) (λ c. search needs) (λ c κs. search needs) (λ c κs. search needs)
+    (λ c. search needs) (λ c κs. search needs) (λ c. search needs) (λ c κs. search needs) (λ c. search needs)
+    (λ c κs. search needs) (λ c. search needs) (λ c κs. search needs) (λ c. search needs) (λ c κs. search needs)
+    (λ c. search needs) (λ c κs. search needs) (λ c. search needs) (λ c κs. search needs) (λ c. search needs) returns
+    (λ c. search needs) returns-2 (λ c. search needs) returns-3 (λ c. search needs) returns-4 (λ c. search needs)
+    returns-5 (λ c. search needs) returns-6 returns-7 (λ c. search needs) returns-8 (λ c. search needs) returns-9
+    returns-10)

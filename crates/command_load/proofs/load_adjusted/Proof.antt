@@ -9,12 +9,6 @@ use borrow.Author.Needs.{needs}
 use Rattle.command_load.proofs.load_adjusted.Statement.{statement}
 use Rattle.command_load.proofs.load_adjusted.Tie as tie
 
-field-requires : tie.Need-field-requires
-field-requires c κs = search needs
-
-flag-requires : tie.Need-flag-requires
-flag-requires c κs = search needs
-
 add-m : tie.Need-add-m
 add-m c =
     let found = c .before .before .before in
@@ -29,9 +23,6 @@ returns c =
     let start = found .before .before in
     adjusted-left (start .args .width) (start .pre .1 .1) (start .pre .1 .2) (start .args .c) (found .field .ensures) (start .args .m .now) (start .args .at) (left .before .flag .ensures) (left .if1 .taken)
 
-extend20-requires : tie.Need-extend20-requires
-extend20-requires c κs = search needs
-
 rem-m : tie.Need-rem-m
 rem-m c = one-shifted-positive _ (omega arith)
 
@@ -45,7 +36,7 @@ returns-2 c =
 pub load-adjusted-spec : {M : Type 1} → statement M
 load-adjusted-spec =
     tie.close
-    (tie.spec field-requires flag-requires (λ c. search needs) (λ c. search needs) (λ c. search needs)
+    (tie.spec (λ c κs. search needs) (λ c κs. search needs) (λ c. search needs) (λ c. search needs) (λ c. search needs)
     (λ c. search needs) (λ c. search needs) add-m (λ c. search needs) (λ c. search needs)
-    (λ c. simp length-set (omega arith)) (λ c. search needs) returns extend20-requires (λ c. search needs) rem-m
+    (λ c. simp length-set (omega arith)) (λ c. search needs) returns (λ c κs. search needs) (λ c. search needs) rem-m
     (λ c. search needs) (λ c. search needs) (λ c. search needs) returns-2)

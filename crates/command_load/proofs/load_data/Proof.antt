@@ -6,13 +6,10 @@ use borrow.Author.Needs.{needs}
 use Rattle.command_load.proofs.load_data.Statement.{statement}
 use Rattle.command_load.proofs.load_data.Tie as tie
 
-field-requires : tie.Need-field-requires
-field-requires c κs = search needs
-
 returns : tie.Need-returns
 unfolding loadedData
 returns c = rw (c .field .ensures) refl
 
 pub load-data-spec : {M : Type 1} → statement M
 load-data-spec = tie.close
-    (tie.spec field-requires (λ c. search needs) (λ c. search needs) (λ c. search needs) returns)
+    (tie.spec (λ c κs. search needs) (λ c. search needs) (λ c. search needs) (λ c. search needs) returns)

@@ -5,15 +5,6 @@ use borrow.Author.Needs.{needs}
 use Rattle.command_load.proofs.load_then_clear.Statement.{statement}
 use Rattle.command_load.proofs.load_then_clear.Tie as tie
 
-load-two-requires : tie.Need-load-two-requires
-load-two-requires c κs = search needs
-
-flag-requires : tie.Need-flag-requires
-flag-requires c κs = search needs
-
-clear-if-requires : tie.Need-clear-if-requires
-clear-if-requires c κs = search needs
-
 returns : tie.Need-returns
 returns c =
     let clear = c .before .before in
@@ -24,4 +15,4 @@ returns c =
 pub load-then-clear-spec : {M : Type 1} → statement M
 load-then-clear-spec =
     tie.close
-    (tie.spec load-two-requires flag-requires clear-if-requires (λ c. search needs) returns)
+    (tie.spec (λ c κs. search needs) (λ c κs. search needs) (λ c κs. search needs) (λ c. search needs) returns)

@@ -5,18 +5,6 @@ use borrow.Author.Needs.{needs}
 use Rattle.command_load.proofs.load_two.Statement.{statement}
 use Rattle.command_load.proofs.load_two.Tie as tie
 
-flag-requires : tie.Need-flag-requires
-flag-requires c κs = search needs
-
-load-unless-requires : tie.Need-load-unless-requires
-load-unless-requires c κs = search needs
-
-flag-requires-2 : tie.Need-flag-requires-2
-flag-requires-2 c κs = search needs
-
-load-unless-requires-2 : tie.Need-load-unless-requires-2
-load-unless-requires-2 c κs = search needs
-
 returns : tie.Need-returns
 returns c =
     let second = c .before .before in
@@ -27,4 +15,5 @@ returns c =
 pub load-two-spec : {M : Type 1} → statement M
 load-two-spec =
     tie.close
-    (tie.spec flag-requires load-unless-requires flag-requires-2 load-unless-requires-2 (λ c. search needs) returns)
+    (tie.spec (λ c κs. search needs) (λ c κs. search needs) (λ c κs. search needs) (λ c κs. search needs)
+    (λ c. search needs) returns)

@@ -5,12 +5,6 @@ use borrow.Author.Needs.{needs}
 use Rattle.command_misc.proofs.load_dx.Statement.{statement}
 use Rattle.command_misc.proofs.load_dx.Tie as tie
 
-field-requires : tie.Need-field-requires
-field-requires c κs = search needs
-
-field-requires-2 : tie.Need-field-requires-2
-field-requires-2 c κs = search needs
-
 returns : tie.Need-returns
 returns c =
     let arm = c .before in
@@ -25,4 +19,4 @@ returns-2 c =
 pub load-dx-spec : {M : Type 1} → statement M
 load-dx-spec =
     tie.close
-    (tie.spec field-requires field-requires-2 (λ c. search needs) (λ c. search needs) returns returns-2)
+    (tie.spec (λ c κs. search needs) (λ c κs. search needs) (λ c. search needs) (λ c. search needs) returns returns-2)

@@ -6,36 +6,6 @@ use borrow.Author.Needs.{needs}
 use Rattle.command_modifier.proofs.load.Statement.{statement}
 use Rattle.command_modifier.proofs.load.Tie as tie
 
-modifier-at-requires : tie.Need-modifier-at-requires
-modifier-at-requires c κs = search needs
-
-field-requires : tie.Need-field-requires
-field-requires c κs = search needs
-
-load-adjusted-requires : tie.Need-load-adjusted-requires
-load-adjusted-requires c κs = search needs
-
-load-adjusted-requires-2 : tie.Need-load-adjusted-requires-2
-load-adjusted-requires-2 c κs = search needs
-
-load-data-requires : tie.Need-load-data-requires
-load-data-requires c κs = search needs
-
-load-data-requires-2 : tie.Need-load-data-requires-2
-load-data-requires-2 c κs = search needs
-
-load-mmode-msum-requires : tie.Need-load-mmode-msum-requires
-load-mmode-msum-requires c κs = search needs
-
-field-requires-2 : tie.Need-field-requires-2
-field-requires-2 c κs = search needs
-
-field-requires-3 : tie.Need-field-requires-3
-field-requires-3 c κs = search needs
-
-load-then-clear-requires : tie.Need-load-then-clear-requires
-load-then-clear-requires c κs = search needs
-
 returns : tie.Need-returns
 returns c =
     let done = c .before .before in
@@ -94,9 +64,9 @@ returns-7 c =
 pub load-spec : {M : Type 1} → statement M
 load-spec =
     tie.close
-    (tie.spec modifier-at-requires field-requires (λ c. search needs) load-adjusted-requires (λ c. search needs)
-    load-adjusted-requires-2 (λ c. search needs) load-data-requires (λ c. search needs) load-data-requires-2
-    load-mmode-msum-requires (λ c. search needs) field-requires-2 (λ c. search needs) field-requires-3
-    (λ c. search needs) load-then-clear-requires (λ c. search needs) returns (λ c. search needs) returns-2
-    (λ c. search needs) returns-3 (λ c. search needs) returns-4 (λ c. search needs) returns-5 (λ c. search needs)
-    returns-6 returns-7)
+    (tie.spec (λ c κs. search needs) (λ c κs. search needs) (λ c. search needs) (λ c κs. search needs)
+    (λ c. search needs) (λ c κs. search needs) (λ c. search needs) (λ c κs. search needs) (λ c. search needs)
+    (λ c κs. search needs) (λ c κs. search needs) (λ c. search needs) (λ c κs. search needs) (λ c. search needs)
+    (λ c κs. search needs) (λ c. search needs) (λ c κs. search needs) (λ c. search needs) returns (λ c. search needs)
+    returns-2 (λ c. search needs) returns-3 (λ c. search needs) returns-4 (λ c. search needs) returns-5
+    (λ c. search needs) returns-6 returns-7)

@@ -9,24 +9,6 @@ use borrow.Author.Needs.{needs}
 use Rattle.command_modifier.proofs.load_mmode.Statement.{statement}
 use Rattle.command_modifier.proofs.load_mmode.Tie as tie
 
-flag-requires : tie.Need-flag-requires
-flag-requires c κs = search needs
-
-field-requires : tie.Need-field-requires
-field-requires c κs = search needs
-
-chosen-requires : tie.Need-chosen-requires
-chosen-requires c κs = search needs
-
-flag-requires-2 : tie.Need-flag-requires-2
-flag-requires-2 c κs = search needs
-
-field-requires-2 : tie.Need-field-requires-2
-field-requires-2 c κs = search needs
-
-chosen-requires-2 : tie.Need-chosen-requires-2
-chosen-requires-2 c κs = search needs
-
 mul-m : tie.Need-mul-m
 mul-m c =
     let function = c .before .before .before in
@@ -51,5 +33,6 @@ returns c =
 pub load-mmode-spec : {M : Type 1} → statement M
 load-mmode-spec =
     tie.close
-    (tie.spec (λ c. search needs) (λ c. search needs) flag-requires field-requires chosen-requires flag-requires-2
-    field-requires-2 chosen-requires-2 mul-m add-m (λ c. search needs) (λ c. search needs) (λ c. search needs) returns)
+    (tie.spec (λ c. search needs) (λ c. search needs) (λ c κs. search needs) (λ c κs. search needs)
+    (λ c κs. search needs) (λ c κs. search needs) (λ c κs. search needs) (λ c κs. search needs) mul-m add-m
+    (λ c. search needs) (λ c. search needs) (λ c. search needs) returns)

@@ -7,9 +7,6 @@ use borrow.Author.Needs.{needs}
 use Rattle.command_timer.proofs.linger.Statement.{statement}
 use Rattle.command_timer.proofs.linger.Tie as tie
 
-wrapping-sub-u32-requires : tie.Need-wrapping-sub-u32-requires
-wrapping-sub-u32-requires c κs = search needs
-
 returns : tie.Need-returns
 returns c =
     let w = c .before in
@@ -31,5 +28,5 @@ returns-3 c =
 pub linger-spec : {M : Type 1} → statement M
 linger-spec =
     tie.close
-    (tie.spec (λ c. search needs) wrapping-sub-u32-requires (λ c. search needs) (λ c. simp length-set (omega arith))
+    (tie.spec (λ c. search needs) (λ c κs. search needs) (λ c. search needs) (λ c. simp length-set (omega arith))
     (λ c. search needs) returns (λ c. search needs) (λ c. search needs) returns-2 returns-3)

@@ -5,18 +5,6 @@ use borrow.Author.Needs.{needs}
 use Rattle.command_timer.proofs.ticks.Statement.{statement}
 use Rattle.command_timer.proofs.ticks.Tie as tie
 
-field-requires : tie.Need-field-requires
-field-requires c κs = search needs
-
-flag-requires : tie.Need-flag-requires
-flag-requires c κs = search needs
-
-update-ticks-requires : tie.Need-update-ticks-requires
-update-ticks-requires c κs = search needs
-
-update-ticks-requires-2 : tie.Need-update-ticks-requires-2
-update-ticks-requires-2 c κs = search needs
-
 returns : tie.Need-returns
 returns c =
     let q = c .before .before in
@@ -34,6 +22,6 @@ returns-2 c =
 pub ticks-spec : {M : Type 1} → statement M
 ticks-spec =
     tie.close
-    (tie.spec field-requires (λ c. search needs) (λ c. search needs) flag-requires (λ c. search needs)
-    (λ c. search needs) update-ticks-requires (λ c. search needs) (λ c. search needs) (λ c. search needs)
-    update-ticks-requires-2 (λ c. search needs) (λ c. search needs) returns (λ c. search needs) returns-2)
+    (tie.spec (λ c κs. search needs) (λ c. search needs) (λ c. search needs) (λ c κs. search needs) (λ c. search needs)
+    (λ c. search needs) (λ c κs. search needs) (λ c. search needs) (λ c. search needs) (λ c. search needs)
+    (λ c κs. search needs) (λ c. search needs) (λ c. search needs) returns (λ c. search needs) returns-2)

@@ -6,15 +6,6 @@ use borrow.Author.Needs.{needs}
 use Rattle.command_timer.proofs.timer.Statement.{statement}
 use Rattle.command_timer.proofs.timer.Tie as tie
 
-field-requires : tie.Need-field-requires
-field-requires c κs = search needs
-
-field-requires-2 : tie.Need-field-requires-2
-field-requires-2 c κs = search needs
-
-set-counter-requires : tie.Need-set-counter-requires
-set-counter-requires c κs = search needs
-
 returns : tie.Need-returns
 returns c =
     let done = c .before .before in
@@ -23,9 +14,6 @@ returns c =
     let a = tt .before .before .before .args in
     timer-sets (a .m .now) (a .c) (tt .before .field .ensures) (tt .field2 .ensures) (arm .if1 .taken) (done .set-counter .ensures)
 
-linger-requires : tie.Need-linger-requires
-linger-requires c κs = search needs
-
 returns-2 : tie.Need-returns-2
 returns-2 c =
     let done = c .before .before in
@@ -33,12 +21,6 @@ returns-2 c =
     let tt = arm .before .before in
     let a = tt .before .before .before .args in
     timer-lingers (a .m .now) (a .c) (tt .before .field .ensures) (tt .field2 .ensures) (arm .if2 .taken) (done .linger .ensures)
-
-set-counter-requires-2 : tie.Need-set-counter-requires-2
-set-counter-requires-2 c κs = search needs
-
-linger-requires-2 : tie.Need-linger-requires-2
-linger-requires-2 c κs = search needs
 
 same-length-3 : tie.Need-same-length-3
 same-length-3 c =
@@ -64,5 +46,6 @@ returns-4 c =
 pub timer-spec : {M : Type 1} → statement M
 timer-spec =
     tie.close
-    (tie.spec field-requires field-requires-2 set-counter-requires (λ c. search needs) returns linger-requires
-    (λ c. search needs) returns-2 set-counter-requires-2 linger-requires-2 same-length-3 returns-3 returns-4)
+    (tie.spec (λ c κs. search needs) (λ c κs. search needs) (λ c κs. search needs) (λ c. search needs) returns
+    (λ c κs. search needs) (λ c. search needs) returns-2 (λ c κs. search needs) (λ c κs. search needs) same-length-3
+    returns-3 returns-4)

@@ -7,9 +7,6 @@ use Rattle.compare.proofs.Answers.{says-no, says-agrees}
 use Rattle.compare.proofs.compare.Statement.{statement}
 use Rattle.compare.proofs.compare.Tie as tie
 
-refusal-requires : tie.Need-refusal-requires
-refusal-requires c κs = search needs
-
 returns : tie.Need-returns
 returns c =
     let asked = c .before in
@@ -31,4 +28,4 @@ returns-2 c =
     says-agrees (a .text) (a .m .now) (a .first .now) (a .second .now) (asked .refusal .ensures) (passed .if1 .left) (c .agrees .ensures)
 
 pub compare-spec : {M : Type 1} → statement M
-compare-spec = tie.close (tie.spec refusal-requires returns agrees-requires returns-2)
+compare-spec = tie.close (tie.spec (λ c κs. search needs) returns agrees-requires returns-2)

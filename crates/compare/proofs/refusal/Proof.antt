@@ -6,9 +6,6 @@ use Rattle.compare.proofs.Asked.{is-traceable, refused-first, refused-s
 use Rattle.compare.proofs.refusal.Statement.{statement}
 use Rattle.compare.proofs.refusal.Tie as tie
 
-refusal-requires : tie.Need-refusal-requires
-refusal-requires c κs = search needs
-
 returns : tie.Need-returns
 returns c =
     let machine = c .before in
@@ -61,11 +58,5 @@ returns-3 c =
 pub refusal-spec : {M : Type 1} → statement M
 refusal-spec =
     tie.close
-    (tie.spec
-    refusal-requires
-    returns
-    ticks-requires
-    order-refusal-requires
-    returns-2
-    order-refusal-requires-2
+    (tie.spec (λ c κs. search needs) returns ticks-requires order-refusal-requires returns-2 order-refusal-requires-2
     returns-3)

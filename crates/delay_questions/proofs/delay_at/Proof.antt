@@ -5,9 +5,6 @@ use Rattle.lists.proofs.Parts.{part-from}
 use Rattle.delay_questions.proofs.delay_at.Statement.{statement}
 use Rattle.delay_questions.proofs.delay_at.Tie as tie
 
-load-requires : tie.Need-load-requires
-load-requires c κs = search needs
-
 returns : tie.Need-returns
 returns c = rw (c .load .ensures, part-from)
 
@@ -15,4 +12,4 @@ pub delay-at-spec : {M : Type 1} → statement M
 delay-at-spec =
     tie.close
     (tie.spec (λ c. search needs) (λ c. search needs) (λ c. search needs) (λ c. search needs) (λ c. search needs)
-    (λ c. search needs) load-requires returns)
+    (λ c. search needs) (λ c κs. search needs) returns)

@@ -7,15 +7,9 @@ use Rattle.questions.specs.Questions.{asked}
 use Rattle.delay_questions.proofs.delay_refusal.Statement.{statement}
 use Rattle.delay_questions.proofs.delay_refusal.Tie as tie
 
-lines-good-requires : tie.Need-lines-good-requires
-lines-good-requires c κs = search needs
-
 returns : tie.Need-returns
 unfolding asked
 returns c = rw (sym (c .before .lines-good .ensures) ∙ not-true _ (c .if1 .taken))
-
-named-once-requires : tie.Need-named-once-requires
-named-once-requires c κs = search needs
 
 returns-2 : tie.Need-returns-2
 unfolding asked
@@ -26,5 +20,4 @@ unfolding asked
 returns-3 c = rw (sym (c .before .before .before .lines-good .ensures) ∙ not-false _ (c .before .before .if1 .left), sym (c .before .named-once .ensures) ∙ not-false _ (c .if2 .left))
 
 pub delay-refusal-spec : {M : Type 1} → statement M
-delay-refusal-spec =
-    tie.close (tie.spec lines-good-requires returns named-once-requires returns-2 returns-3)
+delay-refusal-spec = tie.close (tie.spec (λ c κs. search needs) returns (λ c κs. search needs) returns-2 returns-3)

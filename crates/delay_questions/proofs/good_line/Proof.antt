@@ -9,17 +9,8 @@ use Rattle.delay_questions.proofs.Lines.{none-invoked, no-line, acts-in
 use Rattle.delay_questions.proofs.good_line.Statement.{statement}
 use Rattle.delay_questions.proofs.good_line.Tie as tie
 
-invokes-requires : tie.Need-invokes-requires
-invokes-requires c κs = search needs
-
 returns : tie.Need-returns
 returns c = sym (none-invoked _ _ (sym (c .before .invokes .ensures) ∙ not-true _ (c .if1 .taken)))
-
-named-by-requires : tie.Need-named-by-requires
-named-by-requires c κs = search needs
-
-delay-at-requires : tie.Need-delay-at-requires
-delay-at-requires c κs = search needs
 
 returns-2 : tie.Need-returns-2
 returns-2 c =
@@ -27,12 +18,6 @@ returns-2 c =
     let a = unit .before .before .before .before .before .args in
     let is = unit-is (a .m .now) (a .k) (unit .before .named-by .ensures) (unit .delay-at .ensures) in
     sym (no-line (a .m .now) (a .k) (λ e. c .if2 .taken (ap (λ (d : Delay). d .p) is ∙ e)))
-
-ticks-requires : tie.Need-ticks-requires
-ticks-requires c κs = search needs
-
-runs-requires : tie.Need-runs-requires
-runs-requires c κs = search needs
 
 returns-3 : tie.Need-returns-3
 returns-3 c =
@@ -59,14 +44,5 @@ returns-4 c =
 pub good-line-spec : {M : Type 1} → statement M
 good-line-spec =
     tie.close
-    (tie.spec
-    invokes-requires
-    returns
-    named-by-requires
-    delay-at-requires
-    returns-2
-    ticks-requires
-    runs-requires
-    returns-3
-    fits-requires
-    returns-4)
+    (tie.spec (λ c κs. search needs) returns (λ c κs. search needs) (λ c κs. search needs) returns-2
+    (λ c κs. search needs) (λ c κs. search needs) returns-3 fits-requires returns-4)

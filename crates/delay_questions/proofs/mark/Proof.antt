@@ -7,15 +7,9 @@ use Rattle.delay_questions.specs.Loops.{unmarked, marked}
 use Rattle.delay_questions.proofs.mark.Statement.{statement}
 use Rattle.delay_questions.proofs.mark.Tie as tie
 
-invokes-requires : tie.Need-invokes-requires
-invokes-requires c κs = search needs
-
 returns : tie.Need-returns
 unfolding unmarked marked
 returns c = let no = sym (c .before .invokes .ensures) ∙ not-true _ (c .if1 .taken) in (rw no, rw no)
-
-named-by-requires : tie.Need-named-by-requires
-named-by-requires c κs = search needs
 
 returns-2 : tie.Need-returns-2
 unfolding unmarked marked
@@ -27,4 +21,4 @@ returns-2 c =
 pub mark-spec : {M : Type 1} → statement M
 mark-spec =
     tie.close
-    (tie.spec invokes-requires returns named-by-requires (λ c. search needs) (λ c. search needs) returns-2)
+    (tie.spec (λ c κs. search needs) returns (λ c κs. search needs) (λ c. search needs) (λ c. search needs) returns-2)

@@ -10,11 +10,8 @@ use Rattle.delay_questions.proofs.memory_good.Tie as tie
 returns : tie.Need-returns
 returns c = sym (other-length _ (ne-eqb _ _ (c .if1 .taken)))
 
-ored-requires : tie.Need-ored-requires
-ored-requires c κs = search needs
-
 returns-2 : tie.Need-returns-2
 returns-2 c = rw (c .ored .ensures) (sym (right-length _ (eq-eqb _ _ (c .before .if1 .left))))
 
 pub memory-good-spec : {M : Type 1} → statement M
-memory-good-spec = tie.close (tie.spec returns ored-requires returns-2)
+memory-good-spec = tie.close (tie.spec returns (λ c κs. search needs) returns-2)

@@ -6,12 +6,6 @@ use borrow.Author.Needs.{needs}
 use Rattle.envelope.proofs.decayed.Statement.{statement}
 use Rattle.envelope.proofs.decayed.Tie as tie
 
-overflows-requires : tie.Need-overflows-requires
-overflows-requires c κs = search needs
-
-into24-requires : tie.Need-into24-requires
-into24-requires c κs = search needs
-
 returns : tie.Need-returns
 unfolding decayed
 returns c = rw (eq-eqb _ 1 (c .before .if2 .taken), ← (c .before .before .before .overflows .ensures), c .before .before .if1 .taken) (c .into24 .ensures)
@@ -20,9 +14,6 @@ returns-2 : tie.Need-returns-2
 unfolding decayed
 returns-2 c = rw (ne-eqb _ 1 (c .if2 .left), ← (c .before .before .overflows .ensures), c .before .if1 .taken)
 
-into24-requires-2 : tie.Need-into24-requires-2
-into24-requires-2 c κs = search needs
-
 returns-3 : tie.Need-returns-3
 unfolding decayed
 returns-3 c = rw (← (c .before .before .overflows .ensures), c .before .if1 .left) (c .into242 .ensures)
@@ -30,4 +21,4 @@ returns-3 c = rw (← (c .before .before .overflows .ensures), c .before .if1 .l
 pub decayed-spec : {M : Type 1} → statement M
 decayed-spec =
     tie.close
-    (tie.spec overflows-requires into24-requires returns returns-2 into24-requires-2 returns-3)
+    (tie.spec (λ c κs. search needs) (λ c κs. search needs) returns returns-2 (λ c κs. search needs) returns-3)

@@ -15,12 +15,9 @@ mul-magnitude c = omega (arith, product-fits (c .before .pre .1) (c .before .pre
 add-magnitude : tie.Need-add-magnitude
 add-magnitude c = omega (arith, product-fits (c .before .pre .1) (c .before .pre .2))
 
-word20-requires : tie.Need-word20-requires
-word20-requires c κs = search needs
-
 returns : tie.Need-returns
 unfolding rounded
 returns c = c .word20 .ensures ∙ ap (lowBits 20) (signed-last _ _ _)
 
 pub enveloped-spec : {M : Type 1} → statement M
-enveloped-spec = tie.close (tie.spec mul-magnitude add-magnitude word20-requires returns)
+enveloped-spec = tie.close (tie.spec mul-magnitude add-magnitude (λ c κs. search needs) returns)

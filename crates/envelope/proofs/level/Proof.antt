@@ -6,9 +6,6 @@ use borrow.Author.Needs.{needs}
 use Rattle.envelope.proofs.level.Statement.{statement}
 use Rattle.envelope.proofs.level.Tie as tie
 
-q-requires : tie.Need-q-requires
-q-requires c κs = search needs
-
 level-by-requires : tie.Need-level-by-requires
 level-by-requires c κs = (c .before .pre .1 .0, rw (c .q .ensures) (q-low _ _ (c .before .pre .1 .1)))
 
@@ -17,4 +14,4 @@ unfolding level
 returns c = rw (← (c .before .q .ensures)) (c .level-by .ensures)
 
 pub level-spec : {M : Type 1} → statement M
-level-spec = tie.close (tie.spec q-requires level-by-requires returns)
+level-spec = tie.close (tie.spec (λ c κs. search needs) level-by-requires returns)

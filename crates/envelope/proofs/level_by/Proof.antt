@@ -4,17 +4,11 @@ use borrow.Author.Needs.{needs}
 use Rattle.envelope.proofs.level_by.Statement.{statement}
 use Rattle.envelope.proofs.level_by.Tie as tie
 
-add12-requires : tie.Need-add12-requires
-add12-requires c κs = search needs
-
 returns : tie.Need-returns
 returns c = rw (c .before .if1 .taken) (c .add12 .ensures)
-
-subtract12-requires : tie.Need-subtract12-requires
-subtract12-requires c κs = search needs
 
 returns-2 : tie.Need-returns-2
 returns-2 c = rw (c .before .if1 .left) (c .subtract12 .ensures)
 
 pub level-by-spec : {M : Type 1} → statement M
-level-by-spec = tie.close (tie.spec add12-requires returns subtract12-requires returns-2)
+level-by-spec = tie.close (tie.spec (λ c κs. search needs) returns (λ c κs. search needs) returns-2)

@@ -5,12 +5,9 @@ use borrow.Author.Needs.{needs}
 use Rattle.envelope.proofs.overflows.Statement.{statement}
 use Rattle.envelope.proofs.overflows.Tie as tie
 
-outside24-requires : tie.Need-outside24-requires
-outside24-requires c κs = search needs
-
 returns : tie.Need-returns
 unfolding overflows
 returns c = c .outside24 .ensures
 
 pub overflows-spec : {M : Type 1} → statement M
-overflows-spec = tie.close (tie.spec outside24-requires returns)
+overflows-spec = tie.close (tie.spec (λ c κs. search needs) returns)

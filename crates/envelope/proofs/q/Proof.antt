@@ -6,9 +6,6 @@ use borrow.Author.Needs.{needs}
 use Rattle.envelope.proofs.q.Statement.{statement}
 use Rattle.envelope.proofs.q.Tie as tie
 
-exponential-requires : tie.Need-exponential-requires
-exponential-requires c κs = search needs
-
 returns : tie.Need-returns
 unfolding qOf
 returns c = simp (le-leb 2 _ (c .before .if1 .taken)) (c .exponential .ensures)
@@ -18,4 +15,4 @@ unfolding qOf
 returns-2 c = simp (lt-leb 2 _ (c .if1 .left))
 
 pub q-spec : {M : Type 1} → statement M
-q-spec = tie.close (tie.spec exponential-requires returns returns-2)
+q-spec = tie.close (tie.spec (λ c κs. search needs) returns returns-2)

@@ -8,9 +8,6 @@ use Rattle.exponential.proofs.Entries.{exponential-at}
 use Rattle.exponential.proofs.exponential.Statement.{statement}
 use Rattle.exponential.proofs.exponential.Tie as tie
 
-wide-requires : tie.Need-wide-requires
-wide-requires c κs = search needs
-
 returns : tie.Need-returns
 returns c =
     rw (c .wide .ensures, c .before .before .pre .0)
@@ -19,4 +16,5 @@ returns c =
 pub exponential-spec : {M : Type 1} → statement M
 exponential-spec =
     tie.close
-    (tie.spec (λ c. search needs) (λ c. search needs) (λ c. search needs) wide-requires (λ c. search needs) returns)
+    (tie.spec (λ c. search needs) (λ c. search needs) (λ c. search needs) (λ c κs. search needs) (λ c. search needs)
+    returns)

@@ -7,23 +7,8 @@ use borrow.Author.Needs.{needs}
 use Rattle.invoked_delay.proofs.invoked.Statement.{statement}
 use Rattle.invoked_delay.proofs.invoked.Tie as tie
 
-unit-of-requires : tie.Need-unit-of-requires
-unit-of-requires c κs = search needs
-
-delay-at-requires : tie.Need-delay-at-requires
-delay-at-requires c κs = search needs
-
-runs-requires : tie.Need-runs-requires
-runs-requires c κs = search needs
-
 given-requires : tie.Need-given-requires
 given-requires c κs = rw (c .before .delay-at .ensures) (loaded-ranged _)
-
-invoke-delay-requires : tie.Need-invoke-delay-requires
-invoke-delay-requires c κs = search needs
-
-put-modifier-at-requires : tie.Need-put-modifier-at-requires
-put-modifier-at-requires c κs = search needs
 
 unit-turn-requires : tie.Need-unit-turn-requires
 unit-turn-requires c κs =
@@ -52,5 +37,5 @@ returns c =
 pub invoked-spec : {M : Type 1} → statement M
 invoked-spec =
     tie.close
-    (tie.spec unit-of-requires delay-at-requires runs-requires given-requires invoke-delay-requires
-    put-modifier-at-requires unit-turn-requires (λ c. search needs) (λ c. search needs) returns)
+    (tie.spec (λ c κs. search needs) (λ c κs. search needs) (λ c κs. search needs) given-requires (λ c κs. search needs)
+    (λ c κs. search needs) unit-turn-requires (λ c. search needs) (λ c. search needs) returns)

@@ -7,9 +7,6 @@ use Rattle.invoked_delay.proofs.Units.{put-back}
 use Rattle.invoked_delay.proofs.put_delay_at.Statement.{statement}
 use Rattle.invoked_delay.proofs.put_delay_at.Tie as tie
 
-store-requires : tie.Need-store-requires
-store-requires c κs = search needs
-
 returns : tie.Need-returns
 returns c =
     let s = c .before .before in
@@ -20,4 +17,4 @@ pub put-delay-at-spec : {M : Type 1} → statement M
 put-delay-at-spec =
     tie.close
     (tie.spec (λ c. search needs) (λ c. search needs) (λ c. search needs) (λ c. search needs) (λ c. search needs)
-    (λ c. search needs) store-requires (λ c. search needs) returns)
+    (λ c. search needs) (λ c κs. search needs) (λ c. search needs) returns)

@@ -9,12 +9,6 @@ use Rattle.invoked_delay.proofs.unit_turn.Tie as tie
 returns : tie.Need-returns
 returns c = rw (not-true (c .before .before .before .args .runs) (c .if1 .taken))
 
-turn-requires : tie.Need-turn-requires
-turn-requires c κs = search needs
-
-put-delay-at-requires : tie.Need-put-delay-at-requires
-put-delay-at-requires c κs = search needs
-
 returns-2 : tie.Need-returns-2
 returns-2 c =
     let p = c .before .before in
@@ -25,4 +19,4 @@ returns-2 c =
 pub unit-turn-spec : {M : Type 1} → statement M
 unit-turn-spec =
     tie.close
-    (tie.spec returns turn-requires put-delay-at-requires (λ c. search needs) (λ c. search needs) returns-2)
+    (tie.spec returns (λ c κs. search needs) (λ c κs. search needs) (λ c. search needs) (λ c. search needs) returns-2)

@@ -13,14 +13,10 @@ number : (b : Bool) → boolByte b ≡ cond b 1 0
 number true = refl
 number false = refl
 
-any-order-requires : tie.Need-any-order-requires
-any-order-requires c κs = search needs
-
 returns : tie.Need-returns
 returns c =
     let e = c .before .any-order .ensures in
     (ap (λ (x : Answer). x .number) e, number (c .before .any-order .result .alike) ∙ ap {B = ℕ} (λ (x : Answer). cond (x .alike) 1 0) e)
 
 pub karvelorn-any-order-spec : {M : Type 1} → statement M
-karvelorn-any-order-spec = tie.close
-    (tie.spec any-order-requires (λ c. search needs) returns)
+karvelorn-any-order-spec = tie.close (tie.spec (λ c κs. search needs) (λ c. search needs) returns)

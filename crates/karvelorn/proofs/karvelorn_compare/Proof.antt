@@ -13,14 +13,10 @@ number : (b : Bool) → boolByte b ≡ cond b 1 0
 number true = refl
 number false = refl
 
-compare-requires : tie.Need-compare-requires
-compare-requires c κs = search needs
-
 returns : tie.Need-returns
 returns c =
     let e = c .before .compare .ensures in
     (ap (λ (x : Comparison). x .number) e, number (c .before .compare .result .equal) ∙ ap {B = ℕ} (λ (x : Comparison). cond (x .equal) 1 0) e)
 
 pub karvelorn-compare-spec : {M : Type 1} → statement M
-karvelorn-compare-spec = tie.close
-    (tie.spec compare-requires (λ c. search needs) returns)
+karvelorn-compare-spec = tie.close (tie.spec (λ c κs. search needs) (λ c. search needs) returns)

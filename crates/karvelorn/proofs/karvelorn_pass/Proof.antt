@@ -4,9 +4,6 @@ use borrow.Author.Needs.{needs}
 use Rattle.karvelorn.proofs.karvelorn_pass.Statement.{statement}
 use Rattle.karvelorn.proofs.karvelorn_pass.Tie as tie
 
-pass-requires : tie.Need-pass-requires
-pass-requires c κs = search needs
-
 returns : tie.Need-returns
 returns c =
     let passed = c .before in
@@ -14,4 +11,4 @@ returns c =
 
 pub karvelorn-pass-spec : {M : Type 1} → statement M
 karvelorn-pass-spec = tie.close
-    (tie.spec pass-requires (λ c. search needs) (λ c. search needs) (λ c. search needs) returns)
+    (tie.spec (λ c κs. search needs) (λ c. search needs) (λ c. search needs) (λ c. search needs) returns)

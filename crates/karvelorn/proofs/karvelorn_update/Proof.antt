@@ -6,9 +6,6 @@ use Rattle.update.proofs.Updating.{left-within, count-is, tail-of}
 use Rattle.karvelorn.proofs.karvelorn_update.Statement.{statement}
 use Rattle.karvelorn.proofs.karvelorn_update.Tie as tie
 
-update-requires : tie.Need-update-requires
-update-requires c κs = search needs
-
 sub-taken : tie.Need-sub-taken
 sub-taken c =
     let u = c .before .before in
@@ -23,5 +20,4 @@ returns c =
     (tail-of (a .m .now) (a .commands .now) e, count-is (a .m .now) (a .commands .now) e)
 
 pub karvelorn-update-spec : {M : Type 1} → statement M
-karvelorn-update-spec = tie.close
-    (tie.spec update-requires sub-taken (λ c. search needs) returns)
+karvelorn-update-spec = tie.close (tie.spec (λ c κs. search needs) sub-taken (λ c. search needs) returns)

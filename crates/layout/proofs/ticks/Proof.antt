@@ -4,9 +4,5 @@ use borrow.Author.Needs.{needs}
 use Rattle.layout.proofs.ticks.Statement.{statement}
 use Rattle.layout.proofs.ticks.Tie as tie
 
-wide-requires : tie.Need-wide-requires
-wide-requires c κs = search needs
-
 pub ticks-spec : {M : Type 1} → statement M
-ticks-spec = tie.close
-    (tie.spec (λ c. search needs) wide-requires (λ c. c .wide .ensures))
+ticks-spec = tie.close (tie.spec (λ c. search needs) (λ c κs. search needs) (λ c. c .wide .ensures))

@@ -13,18 +13,6 @@ use borrow.Author.Needs.{needs}
 use Rattle.machine.proofs.delays_within.Statement.{statement}
 use Rattle.machine.proofs.delays_within.Tie as tie
 
-delay-limits-requires : tie.Need-delay-limits-requires
-delay-limits-requires c κs = search needs
-
-flags-requires : tie.Need-flags-requires
-flags-requires c κs = search needs
-
-swept-requires : tie.Need-swept-requires
-swept-requires c κs = search needs
-
-fields-flagged-requires : tie.Need-fields-flagged-requires
-fields-flagged-requires c κs = search needs
-
 returns : tie.Need-returns
 unfolding delaysWithin builtMode isOneOf
 returns c =
@@ -38,5 +26,5 @@ returns c =
 pub delays-within-spec : {M : Type 1} → statement M
 delays-within-spec =
     tie.close
-    (tie.spec delay-limits-requires (λ c. search needs) flags-requires (λ c. search needs) swept-requires
-    (λ c. search needs) fields-flagged-requires returns)
+    (tie.spec (λ c κs. search needs) (λ c. search needs) (λ c κs. search needs) (λ c. search needs)
+    (λ c κs. search needs) (λ c. search needs) (λ c κs. search needs) returns)

@@ -13,24 +13,6 @@ use borrow.Author.Needs.{needs}
 use Rattle.machine.proofs.generators_within.Statement.{statement}
 use Rattle.machine.proofs.generators_within.Tie as tie
 
-generator-limits-requires : tie.Need-generator-limits-requires
-generator-limits-requires c κs = search needs
-
-flags-requires : tie.Need-flags-requires
-flags-requires c κs = search needs
-
-flags-requires-2 : tie.Need-flags-requires-2
-flags-requires-2 c κs = search needs
-
-swept-requires : tie.Need-swept-requires
-swept-requires c κs = search needs
-
-fields-flagged-requires : tie.Need-fields-flagged-requires
-fields-flagged-requires c κs = search needs
-
-fields-flagged-requires-2 : tie.Need-fields-flagged-requires-2
-fields-flagged-requires-2 c κs = search needs
-
 returns : tie.Need-returns
 unfolding generatorsWithin builtRun builtOscillator isOneOf
 returns c =
@@ -49,5 +31,5 @@ returns c =
 pub generators-within-spec : {M : Type 1} → statement M
 generators-within-spec =
     tie.close
-    (tie.spec generator-limits-requires flags-requires (λ c. search needs) flags-requires-2 (λ c. search needs)
-    swept-requires fields-flagged-requires fields-flagged-requires-2 returns)
+    (tie.spec (λ c κs. search needs) (λ c κs. search needs) (λ c. search needs) (λ c κs. search needs)
+    (λ c. search needs) (λ c κs. search needs) (λ c κs. search needs) (λ c κs. search needs) returns)

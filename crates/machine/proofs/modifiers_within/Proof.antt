@@ -13,24 +13,6 @@ use borrow.Author.Needs.{needs}
 use Rattle.machine.proofs.modifiers_within.Statement.{statement}
 use Rattle.machine.proofs.modifiers_within.Tie as tie
 
-modifier-limits-requires : tie.Need-modifier-limits-requires
-modifier-limits-requires c κs = search needs
-
-flags-requires : tie.Need-flags-requires
-flags-requires c κs = search needs
-
-swept-requires : tie.Need-swept-requires
-swept-requires c κs = search needs
-
-words-below-requires : tie.Need-words-below-requires
-words-below-requires c κs = search needs
-
-words-below-requires-2 : tie.Need-words-below-requires-2
-words-below-requires-2 c κs = search needs
-
-fields-flagged-requires : tie.Need-fields-flagged-requires
-fields-flagged-requires c κs = search needs
-
 returns : tie.Need-returns
 unfolding modifiersWithin builtFunction builtFunctions isOneOf
 returns c =
@@ -51,5 +33,6 @@ returns c =
 pub modifiers-within-spec : {M : Type 1} → statement M
 modifiers-within-spec =
     tie.close
-    (tie.spec modifier-limits-requires flags-requires (λ c. search needs) swept-requires (λ c. search needs)
-    words-below-requires (λ c. search needs) words-below-requires-2 (λ c. search needs) fields-flagged-requires returns)
+    (tie.spec (λ c κs. search needs) (λ c κs. search needs) (λ c. search needs) (λ c κs. search needs)
+    (λ c. search needs) (λ c κs. search needs) (λ c. search needs) (λ c κs. search needs) (λ c. search needs)
+    (λ c κs. search needs) returns)

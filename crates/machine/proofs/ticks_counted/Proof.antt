@@ -4,11 +4,8 @@ use borrow.Author.Needs.{needs}
 use Rattle.machine.proofs.ticks_counted.Statement.{statement}
 use Rattle.machine.proofs.ticks_counted.Tie as tie
 
-update-ticks-requires : tie.Need-update-ticks-requires
-update-ticks-requires c κs = search needs
-
 pub ticks-counted-spec : {M : Type 1} → statement M
 ticks-counted-spec =
     tie.close
-    (tie.spec (λ c. search needs) (λ c. search needs) (λ c. search needs) update-ticks-requires
+    (tie.spec (λ c. search needs) (λ c. search needs) (λ c. search needs) (λ c κs. search needs)
     (λ c. rw (c .update-ticks .ensures)))

@@ -6,11 +6,8 @@ use Rattle.modifier.proofs.Low.{word-of}
 use Rattle.modifier.proofs.added.Statement.{statement}
 use Rattle.modifier.proofs.added.Tie as tie
 
-add20-requires : tie.Need-add20-requires
-add20-requires c κs = search needs
-
 returns : tie.Need-returns
 returns c = word-of (c .add20 .ensures) (sum-low 20 _ _)
 
 pub added-spec : {M : Type 1} → statement M
-added-spec = tie.close (tie.spec add20-requires returns)
+added-spec = tie.close (tie.spec (λ c κs. search needs) returns)

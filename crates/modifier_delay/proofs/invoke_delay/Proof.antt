@@ -6,21 +6,6 @@ use Rattle.modifier_delay.specs.Invoke.{invokeDelay}
 use Rattle.modifier_delay.proofs.invoke_delay.Statement.{statement}
 use Rattle.modifier_delay.proofs.invoke_delay.Tie as tie
 
-times-m0-requires : tie.Need-times-m0-requires
-times-m0-requires c κs = search needs
-
-added-requires : tie.Need-added-requires
-added-requires c κs = search needs
-
-times-m1-requires : tie.Need-times-m1-requires
-times-m1-requires c κs = search needs
-
-added-requires-2 : tie.Need-added-requires-2
-added-requires-2 c κs = search needs
-
-gives-requires : tie.Need-gives-requires
-gives-requires c κs = search needs
-
 returns : tie.Need-returns
 unfolding invokeDelay
 returns c =
@@ -31,10 +16,5 @@ returns c =
 pub invoke-delay-spec : {M : Type 1} → statement M
 invoke-delay-spec =
     tie.close
-    (tie.spec
-    times-m0-requires
-    added-requires
-    times-m1-requires
-    added-requires-2
-    gives-requires
-    returns)
+    (tie.spec (λ c κs. search needs) (λ c κs. search needs) (λ c κs. search needs) (λ c κs. search needs)
+    (λ c κs. search needs) returns)

@@ -6,18 +6,6 @@ use Rattle.modifier_filters.specs.Filters.{onePole}
 use Rattle.modifier_filters.proofs.one_pole.Statement.{statement}
 use Rattle.modifier_filters.proofs.one_pole.Tie as tie
 
-times-m1-requires : tie.Need-times-m1-requires
-times-m1-requires c κs = search needs
-
-times-signal-requires : tie.Need-times-signal-requires
-times-signal-requires c κs = search needs
-
-added-requires : tie.Need-added-requires
-added-requires c κs = search needs
-
-gives-requires : tie.Need-gives-requires
-gives-requires c κs = search needs
-
 returns : tie.Need-returns
 unfolding onePole
 returns c = rw (c .gives .ensures, c .before .added .ensures .is, c .before .before .times-signal .ensures .is, c .before .before .before .times-m1 .ensures .is) refl
@@ -25,4 +13,4 @@ returns c = rw (c .gives .ensures, c .before .added .ensures .is, c .before .bef
 pub one-pole-spec : {M : Type 1} → statement M
 one-pole-spec =
     tie.close
-    (tie.spec times-m1-requires times-signal-requires added-requires gives-requires returns)
+    (tie.spec (λ c κs. search needs) (λ c κs. search needs) (λ c κs. search needs) (λ c κs. search needs) returns)

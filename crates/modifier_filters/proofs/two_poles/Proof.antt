@@ -5,19 +5,9 @@ use Rattle.modifier_filters.specs.Filters.{twoPoles}
 use Rattle.modifier_filters.proofs.two_poles.Statement.{statement}
 use Rattle.modifier_filters.proofs.two_poles.Tie as tie
 
-added-requires : tie.Need-added-requires
-added-requires c κs = search needs
-
-shift-requires : tie.Need-shift-requires
-shift-requires c κs = search needs
-
-gives-requires : tie.Need-gives-requires
-gives-requires c κs = search needs
-
 returns : tie.Need-returns
 unfolding twoPoles
 returns c = rw (c .gives .ensures, c .before .shift .ensures, c .before .before .added .ensures .is)
 
 pub two-poles-spec : {M : Type 1} → statement M
-two-poles-spec =
-    tie.close (tie.spec added-requires shift-requires gives-requires returns)
+two-poles-spec = tie.close (tie.spec (λ c κs. search needs) (λ c κs. search needs) (λ c κs. search needs) returns)

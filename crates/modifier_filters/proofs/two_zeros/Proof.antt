@@ -5,19 +5,9 @@ use Rattle.modifier_filters.specs.Filters.{twoZeros}
 use Rattle.modifier_filters.proofs.two_zeros.Statement.{statement}
 use Rattle.modifier_filters.proofs.two_zeros.Tie as tie
 
-added-requires : tie.Need-added-requires
-added-requires c κs = search needs
-
-shift-requires : tie.Need-shift-requires
-shift-requires c κs = search needs
-
-gives-requires : tie.Need-gives-requires
-gives-requires c κs = search needs
-
 returns : tie.Need-returns
 unfolding twoZeros
 returns c = rw (c .gives .ensures, c .before .shift .ensures, c .before .before .added .ensures .is)
 
 pub two-zeros-spec : {M : Type 1} → statement M
-two-zeros-spec =
-    tie.close (tie.spec added-requires shift-requires gives-requires returns)
+two-zeros-spec = tie.close (tie.spec (λ c κs. search needs) (λ c κs. search needs) (λ c κs. search needs) returns)

@@ -6,9 +6,6 @@ use Rattle.modifier_filters.specs.Filters.{twoZeros, m0Variable, twoZero
 use Rattle.modifier_filters.proofs.two_zeros_m0_variable.Statement.{statement}
 use Rattle.modifier_filters.proofs.two_zeros_m0_variable.Tie as tie
 
-two-zeros-requires : tie.Need-two-zeros-requires
-two-zeros-requires c κs = search needs
-
 m0-variable-requires : tie.Need-m0-variable-requires
 unfolding twoZeros
 m0-variable-requires c κs = (rw (c .two-zeros .ensures) (c .before .pre .0 .m0-low), c .before .pre .1 .2)
@@ -18,4 +15,4 @@ unfolding twoZeros m0Variable twoZerosM0Variable
 returns c = rw (c .m0-variable .ensures, c .before .two-zeros .ensures) refl
 
 pub two-zeros-m0-variable-spec : {M : Type 1} → statement M
-two-zeros-m0-variable-spec = tie.close (tie.spec two-zeros-requires m0-variable-requires returns)
+two-zeros-m0-variable-spec = tie.close (tie.spec (λ c κs. search needs) m0-variable-requires returns)

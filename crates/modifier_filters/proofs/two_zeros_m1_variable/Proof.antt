@@ -6,9 +6,6 @@ use Rattle.modifier_filters.specs.Filters.{twoZeros, m1Variable, twoZero
 use Rattle.modifier_filters.proofs.two_zeros_m1_variable.Statement.{statement}
 use Rattle.modifier_filters.proofs.two_zeros_m1_variable.Tie as tie
 
-two-zeros-requires : tie.Need-two-zeros-requires
-two-zeros-requires c κs = search needs
-
 m1-variable-requires : tie.Need-m1-variable-requires
 unfolding twoZeros
 m1-variable-requires c κs = (rw (c .two-zeros .ensures) (c .before .pre .0 .m1-low), c .before .pre .1 .2)
@@ -18,4 +15,4 @@ unfolding twoZeros m1Variable twoZerosM1Variable
 returns c = rw (c .m1-variable .ensures, c .before .two-zeros .ensures) refl
 
 pub two-zeros-m1-variable-spec : {M : Type 1} → statement M
-two-zeros-m1-variable-spec = tie.close (tie.spec two-zeros-requires m1-variable-requires returns)
+two-zeros-m1-variable-spec = tie.close (tie.spec (λ c κs. search needs) m1-variable-requires returns)

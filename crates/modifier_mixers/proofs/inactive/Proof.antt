@@ -6,12 +6,9 @@ use Rattle.modifier_mixers.specs.Mixers.{inactive}
 use Rattle.modifier_mixers.proofs.inactive.Statement.{statement}
 use Rattle.modifier_mixers.proofs.inactive.Tie as tie
 
-gives-requires : tie.Need-gives-requires
-gives-requires c κs = search needs
-
 returns : tie.Need-returns
 unfolding inactive
 returns c = rw (c .gives .ensures) refl
 
 pub inactive-spec : {M : Type 1} → statement M
-inactive-spec = tie.close (tie.spec gives-requires returns)
+inactive-spec = tie.close (tie.spec (λ c κs. search needs) returns)

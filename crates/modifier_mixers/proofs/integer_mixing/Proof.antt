@@ -6,18 +6,6 @@ use Rattle.modifier_mixers.specs.Mixers.{integerMixing}
 use Rattle.modifier_mixers.proofs.integer_mixing.Statement.{statement}
 use Rattle.modifier_mixers.proofs.integer_mixing.Tie as tie
 
-integer-m0-requires : tie.Need-integer-m0-requires
-integer-m0-requires c κs = search needs
-
-integer-m1-requires : tie.Need-integer-m1-requires
-integer-m1-requires c κs = search needs
-
-added-requires : tie.Need-added-requires
-added-requires c κs = search needs
-
-gives-requires : tie.Need-gives-requires
-gives-requires c κs = search needs
-
 returns : tie.Need-returns
 unfolding integerMixing
 returns c = rw (c .gives .ensures, c .before .added .ensures .is, c .before .before .integer-m1 .ensures .is, c .before .before .before .integer-m0 .ensures .is) refl
@@ -25,4 +13,4 @@ returns c = rw (c .gives .ensures, c .before .added .ensures .is, c .before .bef
 pub integer-mixing-spec : {M : Type 1} → statement M
 integer-mixing-spec =
     tie.close
-    (tie.spec integer-m0-requires integer-m1-requires added-requires gives-requires returns)
+    (tie.spec (λ c κs. search needs) (λ c κs. search needs) (λ c κs. search needs) (λ c κs. search needs) returns)

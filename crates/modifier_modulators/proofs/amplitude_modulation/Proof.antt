@@ -7,17 +7,8 @@ use Rattle.modifier_modulators.specs.Modulators.{amplitudeModulation}
 use Rattle.modifier_modulators.proofs.amplitude_modulation.Statement.{statement}
 use Rattle.modifier_modulators.proofs.amplitude_modulation.Tie as tie
 
-times-m1-requires : tie.Need-times-m1-requires
-times-m1-requires c κs = search needs
-
-half20-requires : tie.Need-half20-requires
-half20-requires c κs = search needs
-
 times-signal-requires : tie.Need-times-signal-requires
 times-signal-requires c κs = (search needs, rw (c .half20 .ensures) (half-low _))
-
-gives-requires : tie.Need-gives-requires
-gives-requires c κs = search needs
 
 returns : tie.Need-returns
 unfolding amplitudeModulation
@@ -26,4 +17,4 @@ returns c = rw (c .gives .ensures, c .before .times-signal .ensures .is, c .befo
 pub amplitude-modulation-spec : {M : Type 1} → statement M
 amplitude-modulation-spec =
     tie.close
-    (tie.spec times-m1-requires half20-requires times-signal-requires gives-requires returns)
+    (tie.spec (λ c κs. search needs) (λ c κs. search needs) times-signal-requires (λ c κs. search needs) returns)

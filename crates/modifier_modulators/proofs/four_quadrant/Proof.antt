@@ -6,19 +6,9 @@ use Rattle.modifier_modulators.specs.Modulators.{fourQuadrant}
 use Rattle.modifier_modulators.proofs.four_quadrant.Statement.{statement}
 use Rattle.modifier_modulators.proofs.four_quadrant.Tie as tie
 
-times-m1-requires : tie.Need-times-m1-requires
-times-m1-requires c κs = search needs
-
-times-signal-requires : tie.Need-times-signal-requires
-times-signal-requires c κs = search needs
-
-gives-requires : tie.Need-gives-requires
-gives-requires c κs = search needs
-
 returns : tie.Need-returns
 unfolding fourQuadrant
 returns c = rw (c .gives .ensures, c .before .times-signal .ensures .is, c .before .before .times-m1 .ensures .is) refl
 
 pub four-quadrant-spec : {M : Type 1} → statement M
-four-quadrant-spec =
-    tie.close (tie.spec times-m1-requires times-signal-requires gives-requires returns)
+four-quadrant-spec = tie.close (tie.spec (λ c κs. search needs) (λ c κs. search needs) (λ c κs. search needs) returns)

@@ -7,23 +7,13 @@ use Rattle.modifier_modulators.specs.Modulators.{latch}
 use Rattle.modifier_modulators.proofs.latch.Statement.{statement}
 use Rattle.modifier_modulators.proofs.latch.Tie as tie
 
-times-m1-requires : tie.Need-times-m1-requires
-times-m1-requires c κs = search needs
-
-gives-requires : tie.Need-gives-requires
-gives-requires c κs = search needs
-
 returns : tie.Need-returns
 unfolding latch
 returns c = rw (c .gives .ensures, ← (c .before .before .times-m1 .ensures .is), eq-eqb _ _ (c .before .if1 .taken)) refl
-
-gives-requires-2 : tie.Need-gives-requires-2
-gives-requires-2 c κs = search needs
 
 returns-2 : tie.Need-returns-2
 unfolding latch
 returns-2 c = rw (c .gives2 .ensures, ← (c .before .before .times-m1 .ensures .is), ne-eqb _ _ (c .before .if1 .left)) refl
 
 pub latch-spec : {M : Type 1} → statement M
-latch-spec =
-    tie.close (tie.spec times-m1-requires gives-requires returns gives-requires-2 returns-2)
+latch-spec = tie.close (tie.spec (λ c κs. search needs) (λ c κs. search needs) returns (λ c κs. search needs) returns-2)

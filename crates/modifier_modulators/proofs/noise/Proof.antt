@@ -6,15 +6,9 @@ use Rattle.modifier_modulators.specs.Modulators.{noise}
 use Rattle.modifier_modulators.proofs.noise.Statement.{statement}
 use Rattle.modifier_modulators.proofs.noise.Tie as tie
 
-integer-m0-requires : tie.Need-integer-m0-requires
-integer-m0-requires c κs = search needs
-
-added-requires : tie.Need-added-requires
-added-requires c κs = search needs
-
 returns : tie.Need-returns
 unfolding noise
 returns c = record { is = rw (c .added .ensures .is, c .before .integer-m0 .ensures .is) refl; low = c .added .ensures .low }
 
 pub noise-spec : {M : Type 1} → statement M
-noise-spec = tie.close (tie.spec integer-m0-requires added-requires returns)
+noise-spec = tie.close (tie.spec (λ c κs. search needs) (λ c κs. search needs) returns)

@@ -7,21 +7,9 @@ use Rattle.modifier_modulators.specs.Modulators.{triggeredNoise}
 use Rattle.modifier_modulators.proofs.triggered_noise.Statement.{statement}
 use Rattle.modifier_modulators.proofs.triggered_noise.Tie as tie
 
-noise-requires : tie.Need-noise-requires
-noise-requires c κs = search needs
-
-integer-m1-requires : tie.Need-integer-m1-requires
-integer-m1-requires c κs = search needs
-
-gives-requires : tie.Need-gives-requires
-gives-requires c κs = search needs
-
 returns : tie.Need-returns
 unfolding triggeredNoise
 returns c = rw (c .gives .ensures, ← (c .before .before .integer-m1 .ensures .is), eq-eqb _ _ (c .before .if1 .taken), ← (c .before .before .before .noise .ensures .is)) refl
-
-gives-requires-2 : tie.Need-gives-requires-2
-gives-requires-2 c κs = search needs
 
 returns-2 : tie.Need-returns-2
 unfolding triggeredNoise
@@ -30,4 +18,5 @@ returns-2 c = rw (c .gives2 .ensures, ← (c .before .before .integer-m1 .ensure
 pub triggered-noise-spec : {M : Type 1} → statement M
 triggered-noise-spec =
     tie.close
-    (tie.spec noise-requires integer-m1-requires gives-requires returns gives-requires-2 returns-2)
+    (tie.spec (λ c κs. search needs) (λ c κs. search needs) (λ c κs. search needs) returns (λ c κs. search needs)
+    returns-2)

@@ -6,12 +6,9 @@ use Rattle.modifier_modulators.specs.Modulators.{uniformNoise}
 use Rattle.modifier_modulators.proofs.uniform_noise.Statement.{statement}
 use Rattle.modifier_modulators.proofs.uniform_noise.Tie as tie
 
-gives-requires : tie.Need-gives-requires
-gives-requires c κs = search needs
-
 returns : tie.Need-returns
 unfolding uniformNoise
 returns c = rw (c .gives .ensures) refl
 
 pub uniform-noise-spec : {M : Type 1} → statement M
-uniform-noise-spec = tie.close (tie.spec gives-requires returns)
+uniform-noise-spec = tie.close (tie.spec (λ c κs. search needs) returns)

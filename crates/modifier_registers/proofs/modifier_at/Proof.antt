@@ -5,12 +5,6 @@ use borrow.Author.Needs.{needs}
 use Rattle.modifier_registers.proofs.modifier_at.Statement.{statement}
 use Rattle.modifier_registers.proofs.modifier_at.Tie as tie
 
-place-requires : tie.Need-place-requires
-place-requires c κs = search needs
-
-load-requires : tie.Need-load-requires
-load-requires c κs = search needs
-
 returns : tie.Need-returns
 unfolding modifierOf
 returns c = rw (c .load .ensures, part-from, c .before .before .place .ensures)
@@ -18,5 +12,5 @@ returns c = rw (c .load .ensures, part-from, c .before .before .place .ensures)
 pub modifier-at-spec : {M : Type 1} → statement M
 modifier-at-spec =
     tie.close
-    (tie.spec place-requires (λ c. search needs) (λ c. search needs) (λ c. search needs) (λ c. search needs)
-    load-requires returns)
+    (tie.spec (λ c κs. search needs) (λ c. search needs) (λ c. search needs) (λ c. search needs) (λ c. search needs)
+    (λ c κs. search needs) returns)

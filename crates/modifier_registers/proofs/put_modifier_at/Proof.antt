@@ -5,12 +5,6 @@ use borrow.Author.Needs.{needs}
 use Rattle.modifier_registers.proofs.put_modifier_at.Statement.{statement}
 use Rattle.modifier_registers.proofs.put_modifier_at.Tie as tie
 
-place-requires : tie.Need-place-requires
-place-requires c κs = search needs
-
-store-requires : tie.Need-store-requires
-store-requires c κs = search needs
-
 returns : tie.Need-returns
 returns c =
     let s = c .before .before in
@@ -21,5 +15,5 @@ returns c =
 pub put-modifier-at-spec : {M : Type 1} → statement M
 put-modifier-at-spec =
     tie.close
-    (tie.spec place-requires (λ c. search needs) (λ c. search needs) (λ c. search needs) (λ c. search needs)
-    store-requires (λ c. search needs) returns)
+    (tie.spec (λ c κs. search needs) (λ c. search needs) (λ c. search needs) (λ c. search needs) (λ c. search needs)
+    (λ c κs. search needs) (λ c. search needs) returns)

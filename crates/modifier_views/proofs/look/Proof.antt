@@ -5,22 +5,13 @@ use borrow.Author.Needs.{needs}
 use Rattle.modifier_views.proofs.look.Statement.{statement}
 use Rattle.modifier_views.proofs.look.Tie as tie
 
-quadrant-word-requires : tie.Need-quadrant-word-requires
-quadrant-word-requires c κs = search needs
-
 returns : tie.Need-returns
 unfolding seen
 returns c = rw (eq-eqb _ 0 (c .before .if1 .taken)) (c .quadrant-word .ensures)
 
-quadrant-word-requires-2 : tie.Need-quadrant-word-requires-2
-quadrant-word-requires-2 c κs = search needs
-
 returns-2 : tie.Need-returns-2
 unfolding seen
 returns-2 c = rw (ne-eqb _ 0 (c .before .before .if1 .left), eq-eqb _ 1 (c .before .if2 .taken)) (c .quadrant-word2 .ensures)
-
-word-at-requires : tie.Need-word-at-requires
-word-at-requires c κs = search needs
 
 returns-3 : tie.Need-returns-3
 unfolding seen
@@ -29,5 +20,5 @@ returns-3 c = rw (ne-eqb _ 0 (c .before .before .if1 .left), ne-eqb _ 1 (c .befo
 pub look-spec : {M : Type 1} → statement M
 look-spec =
     tie.close
-    (tie.spec (λ c. search needs) quadrant-word-requires returns quadrant-word-requires-2 returns-2 word-at-requires
+    (tie.spec (λ c. search needs) (λ c κs. search needs) returns (λ c κs. search needs) returns-2 (λ c κs. search needs)
     returns-3)

@@ -7,12 +7,6 @@ use borrow.Author.Needs.{needs}
 use Rattle.modifier_views.proofs.put.Statement.{statement}
 use Rattle.modifier_views.proofs.put.Tie as tie
 
-quadrant-word-requires : tie.Need-quadrant-word-requires
-quadrant-word-requires c κs = search needs
-
-add20-requires : tie.Need-add20-requires
-add20-requires c κs = search needs
-
 returns : tie.Need-returns
 unfolding withWrite wordLeft
 returns c =
@@ -27,5 +21,5 @@ returns-2 c = rw (ne-eqb _ 0 (c .if1 .left)) (refl, refl)
 pub put-spec : {M : Type 1} → statement M
 put-spec =
     tie.close
-    (tie.spec (λ c. search needs) quadrant-word-requires add20-requires (λ c. search needs) (λ c. search needs)
+    (tie.spec (λ c. search needs) (λ c κs. search needs) (λ c κs. search needs) (λ c. search needs) (λ c. search needs)
     (λ c. search needs) returns (λ c. search needs) (λ c. search needs) (λ c. search needs) returns-2)

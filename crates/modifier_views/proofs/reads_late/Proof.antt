@@ -5,11 +5,8 @@ use Rattle.texts.proofs.One.{one}
 use Rattle.modifier_views.proofs.reads_late.Statement.{statement}
 use Rattle.modifier_views.proofs.reads_late.Tie as tie
 
-reads-late-requires : tie.Need-reads-late-requires
-reads-late-requires c κs = search needs
-
 returns : tie.Need-returns
 returns c = rw (one (c .before .args .text)) (c .reads-late .ensures)
 
 pub reads-late-spec : {M : Type 1} → statement M
-reads-late-spec = tie.close (tie.spec reads-late-requires returns)
+reads-late-spec = tie.close (tie.spec (λ c κs. search needs) returns)

@@ -6,9 +6,6 @@ use borrow.Author.Needs.{needs}
 use Rattle.old_generator.proofs.ended.Statement.{statement}
 use Rattle.old_generator.proofs.ended.Tie as tie
 
-with-run-requires : tie.Need-with-run-requires
-with-run-requires c κs = search needs
-
 returns : tie.Need-returns
 unfolding oldEndedOf
 returns c = rw (eq-eqb _ 0b101 (c .before .if1 .taken)) (c .with-run .ensures)
@@ -18,4 +15,4 @@ unfolding oldEndedOf
 returns-2 c = rw (ne-eqb _ 0b101 (c .if1 .left))
 
 pub ended-spec : {M : Type 1} → statement M
-ended-spec = tie.close (tie.spec with-run-requires returns returns-2)
+ended-spec = tie.close (tie.spec (λ c κs. search needs) returns returns-2)

@@ -9,9 +9,6 @@ use borrow.Author.Needs.{needs}
 use Rattle.old_generator.proofs.level.Statement.{statement}
 use Rattle.old_generator.proofs.level.Tie as tie
 
-q-requires : tie.Need-q-requires
-q-requires c κs = search needs
-
 level-by-requires : tie.Need-level-by-requires
 level-by-requires c κs = (c .before .pre .1 .0, rw (c .q .ensures) (q-low _ _ (omega (arith, c .before .pre .1 .1))))
 
@@ -20,4 +17,4 @@ unfolding oldLevel
 returns c = rw (← (c .before .q .ensures ∙ q-is _ _)) (c .level-by .ensures)
 
 pub level-spec : {M : Type 1} → statement M
-level-spec = tie.close (tie.spec (λ c. search needs) q-requires level-by-requires returns)
+level-spec = tie.close (tie.spec (λ c. search needs) (λ c κs. search needs) level-by-requires returns)

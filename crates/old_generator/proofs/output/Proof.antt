@@ -7,12 +7,6 @@ use borrow.Author.Needs.{needs}
 use Rattle.old_generator.proofs.output.Statement.{statement}
 use Rattle.old_generator.proofs.output.Tie as tie
 
-level-requires : tie.Need-level-requires
-level-requires c κs = search needs
-
-wave-requires : tie.Need-wave-requires
-wave-requires c κs = search needs
-
 enveloped-requires : tie.Need-enveloped-requires
 enveloped-requires c κs = (c .wave .ensures .bit, c .wave .ensures .low, rw (c .before .level .ensures) (old-level-low _ _ _))
 
@@ -21,4 +15,4 @@ unfolding oldOutputBy oldV
 returns c = rw (← (c .before .wave .ensures .is), ← (c .before .before .level .ensures)) (c .enveloped .ensures)
 
 pub output-spec : {M : Type 1} → statement M
-output-spec = tie.close (tie.spec level-requires wave-requires enveloped-requires returns)
+output-spec = tie.close (tie.spec (λ c κs. search needs) (λ c κs. search needs) enveloped-requires returns)

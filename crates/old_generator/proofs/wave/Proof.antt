@@ -8,9 +8,6 @@ use borrow.Author.Needs.{needs}
 use Rattle.old_generator.proofs.wave.Statement.{statement}
 use Rattle.old_generator.proofs.wave.Tie as tie
 
-angle-by-requires : tie.Need-angle-by-requires
-angle-by-requires c κs = search needs
-
 square-requires : tie.Need-square-requires
 square-requires c κs =
     let angled = c .before .before in
@@ -22,12 +19,6 @@ sawtooth-requires c κs =
     let angled = c .before .before in
     let start = angled .before in
     omega (arith, angled .angle-by .ensures, e-by-low (start .args .unit) (start .args .j) (start .pre .0) (start .pre .1 .1))
-
-left-range-requires : tie.Need-left-range-requires
-left-range-requires c κs = search needs
-
-pulse-requires : tie.Need-pulse-requires
-pulse-requires c κs = search needs
 
 cosine-requires : tie.Need-cosine-requires
 cosine-requires c κs =
@@ -56,14 +47,5 @@ returns-4 c =
 pub wave-spec : {M : Type 1} → statement M
 wave-spec =
     tie.close
-    (tie.spec
-    angle-by-requires
-    square-requires
-    sawtooth-requires
-    left-range-requires
-    pulse-requires
-    cosine-requires
-    returns
-    returns-2
-    returns-3
-    returns-4)
+    (tie.spec (λ c κs. search needs) square-requires sawtooth-requires (λ c κs. search needs) (λ c κs. search needs)
+    cosine-requires returns returns-2 returns-3 returns-4)

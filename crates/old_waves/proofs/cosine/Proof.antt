@@ -5,9 +5,6 @@ use borrow.Author.Needs.{needs}
 use Rattle.old_waves.proofs.cosine.Statement.{statement}
 use Rattle.old_waves.proofs.cosine.Tie as tie
 
-sine-wave-requires : tie.Need-sine-wave-requires
-sine-wave-requires c κs = search needs
-
 returns : tie.Need-returns
 unfolding cosine
 returns c = c .sine-wave .ensures
@@ -15,4 +12,4 @@ returns c = c .sine-wave .ensures
 pub cosine-spec : {M : Type 1} → statement M
 cosine-spec =
     tie.close
-    (tie.spec (λ c. search needs) (λ c. search needs) (λ c. search needs) sine-wave-requires returns)
+    (tie.spec (λ c. search needs) (λ c. search needs) (λ c. search needs) (λ c κs. search needs) returns)

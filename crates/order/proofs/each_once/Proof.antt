@@ -24,9 +24,6 @@ loop-holds c =
     let s = c .before in
     (omega arith, marks-once (s .args .t) (s .args .order .now) (s .pre .0) (s .pre .1))
 
-mark-requires : tie.Need-mark-requires Inv-loop μ-loop
-mark-requires c κs = omega arith
-
 returns : tie.Need-returns Inv-loop μ-loop
 returns c =
     let z = c .before .before .before .before .before in
@@ -52,5 +49,5 @@ returns-2 c =
 pub each-once-spec : {M : Type 1} → statement M
 each-once-spec =
     tie.close
-    (tie.spec Inv-loop μ-loop loop-holds (λ c. omega arith) (λ c. omega arith) mark-requires returns (λ c. omega arith)
-    (λ c. omega arith) loop-again returns-2)
+    (tie.spec Inv-loop μ-loop loop-holds (λ c. omega arith) (λ c. omega arith) (λ c κs. omega arith) returns
+    (λ c. omega arith) (λ c. omega arith) loop-again returns-2)

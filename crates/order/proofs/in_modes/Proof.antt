@@ -47,9 +47,6 @@ run-mode-requires c κs =
     let begun = c .before .before in
     (begun .before .before .pre .0, omega (arith, begun .ticks .ensures, begun .before .before .pre .1))
 
-is-mode-requires : tie.Need-is-mode-requires Inv-loop μ-loop
-is-mode-requires c κs = tt
-
 add-reads : tie.Need-add-reads Inv-loop μ-loop
 add-reads c =
     let z = c .before .before .before in
@@ -57,9 +54,6 @@ add-reads c =
     let m = a .m .now in
     let counted = one (a .text) m (z .loop .g) readData (c .before .run-mode .ensures) (c .is-mode .ensures) in
     omega (arith, fits (a .text) m readData (z .loop .g + 1) _ (next (a .text) m readData (z .loop .g) _ _ (z .loop .inv .1) counted))
-
-is-mode-requires-2 : tie.Need-is-mode-requires-2 Inv-loop μ-loop
-is-mode-requires-2 c κs = tt
 
 add-writes : tie.Need-add-writes Inv-loop μ-loop
 add-writes c =
@@ -91,5 +85,5 @@ returns c =
 pub in-modes-spec : {M : Type 1} → statement M
 in-modes-spec =
     tie.close
-    (tie.spec Inv-loop μ-loop ticks-requires loop-holds run-mode-requires is-mode-requires add-reads is-mode-requires-2
-    add-writes (λ c. omega arith) (λ c. omega arith) loop-again returns)
+    (tie.spec Inv-loop μ-loop ticks-requires loop-holds run-mode-requires (λ c κs. tt) add-reads (λ c κs. tt) add-writes
+    (λ c. omega arith) (λ c. omega arith) loop-again returns)

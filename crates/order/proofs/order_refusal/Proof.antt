@@ -13,9 +13,6 @@ returns : tie.Need-returns
 unfolding asked
 returns c = rw (ne-eqb _ _ (c .if1 .taken)) refl
 
-each-once-requires : tie.Need-each-once-requires
-each-once-requires c κs = search needs
-
 returns-2 : tie.Need-returns-2
 unfolding asked
 returns-2 c =
@@ -31,4 +28,4 @@ returns-3 c =
     rw (eq-eqb _ _ (c .before .before .if1 .left), o) refl
 
 pub order-refusal-spec : {M : Type 1} → statement M
-order-refusal-spec = tie.close (tie.spec returns each-once-requires returns-2 returns-3)
+order-refusal-spec = tie.close (tie.spec returns (λ c κs. search needs) returns-2 returns-3)

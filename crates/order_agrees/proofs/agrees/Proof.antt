@@ -5,9 +5,6 @@ use Rattle.order_agrees.proofs.Agreeing.{none-named}
 use Rattle.order_agrees.proofs.agrees.Statement.{statement}
 use Rattle.order_agrees.proofs.agrees.Tie as tie
 
-first-point-requires : tie.Need-first-point-requires
-first-point-requires c κs = search needs
-
 returns : tie.Need-returns
 returns c =
     let named = c .before in
@@ -15,4 +12,4 @@ returns c =
     none-named (a .text) (a .m .now) (a .first .now) (a .second .now) (named .first-point .ensures)
 
 pub agrees-spec : {M : Type 1} → statement M
-agrees-spec = tie.close (tie.spec first-point-requires returns)
+agrees-spec = tie.close (tie.spec (λ c κs. search needs) returns)

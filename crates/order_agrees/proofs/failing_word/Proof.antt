@@ -6,9 +6,6 @@ use Rattle.order_agrees.proofs.Agreeing.{no-word, failing-at, some-word
 use Rattle.order_agrees.proofs.failing_word.Statement.{statement}
 use Rattle.order_agrees.proofs.failing_word.Tie as tie
 
-word-point-requires : tie.Need-word-point-requires
-word-point-requires c κs = search needs
-
 returns : tie.Need-returns
 returns c =
     let word = c .before in
@@ -38,5 +35,4 @@ returns-2 c =
     some-word (a .text) (a .m .now) (a .first .now) (a .second .now) (word .word-point .ensures) (fails .if1 .left) (c .sounding .ensures)
 
 pub failing-word-spec : {M : Type 1} → statement M
-failing-word-spec =
-    tie.close (tie.spec word-point-requires returns sounding-requires cast-t14 returns-2)
+failing-word-spec = tie.close (tie.spec (λ c κs. search needs) returns sounding-requires cast-t14 returns-2)

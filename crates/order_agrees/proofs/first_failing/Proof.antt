@@ -6,12 +6,6 @@ use Rattle.order_agrees.proofs.Agreeing.{neighbour-within, first-fails,
 use Rattle.order_agrees.proofs.first_failing.Statement.{statement}
 use Rattle.order_agrees.proofs.first_failing.Tie as tie
 
-neighbour-point-requires : tie.Need-neighbour-point-requires
-neighbour-point-requires c κs = search needs
-
-ticks-requires : tie.Need-ticks-requires
-ticks-requires c κs = search needs
-
 cast-t21 : tie.Need-cast-t21
 cast-t21 c =
     let ticks = c .before in
@@ -27,9 +21,6 @@ returns c =
     let b = neighbour .before .before .before .before in
     let a = b .args in
     first-fails (a .text) (a .m .now) (a .first .now) (a .second .now) (neighbour .neighbour-point .ensures) (ticks .ticks .ensures) (c .if1 .taken)
-
-feeder-point-requires : tie.Need-feeder-point-requires
-feeder-point-requires c κs = search needs
 
 cast-t22 : tie.Need-cast-t22
 cast-t22 c =
@@ -122,16 +113,5 @@ returns-4 c =
 pub first-failing-spec : {M : Type 1} → statement M
 first-failing-spec =
     tie.close
-    (tie.spec
-    neighbour-point-requires
-    ticks-requires
-    cast-t21
-    returns
-    feeder-point-requires
-    cast-t22
-    returns-2
-    writer-point-requires
-    cast-t23
-    returns-3
-    failing-word-requires
-    returns-4)
+    (tie.spec (λ c κs. search needs) (λ c κs. search needs) cast-t21 returns (λ c κs. search needs) cast-t22 returns-2
+    writer-point-requires cast-t23 returns-3 failing-word-requires returns-4)

@@ -6,24 +6,6 @@ use borrow.Author.Needs.{needs}
 use Rattle.order_counts.proofs.count_generator.Statement.{statement}
 use Rattle.order_counts.proofs.count_generator.Tie as tie
 
-place-requires : tie.Need-place-requires
-place-requires c κs = search needs
-
-run-mode-requires : tie.Need-run-mode-requires
-run-mode-requires c κs = search needs
-
-awaits-requires : tie.Need-awaits-requires
-awaits-requires c κs = search needs
-
-raise-requires : tie.Need-raise-requires
-raise-requires c κs = search needs
-
-raise-if-requires : tie.Need-raise-if-requires
-raise-if-requires c κs = search needs
-
-raise-if-requires-2 : tie.Need-raise-if-requires-2
-raise-if-requires-2 c κs = search needs
-
 returns : tie.Need-returns
 returns c =
     let read = c .before .before in
@@ -38,11 +20,5 @@ returns c =
 pub count-generator-spec : {M : Type 1} → statement M
 count-generator-spec =
     tie.close
-    (tie.spec
-    place-requires
-    run-mode-requires
-    awaits-requires
-    raise-requires
-    raise-if-requires
-    raise-if-requires-2
-    returns)
+    (tie.spec (λ c κs. search needs) (λ c κs. search needs) (λ c κs. search needs) (λ c κs. search needs)
+    (λ c κs. search needs) (λ c κs. search needs) returns)

@@ -7,12 +7,6 @@ use borrow.Author.Needs.{needs}
 use Rattle.order_counts.proofs.place.Statement.{statement}
 use Rattle.order_counts.proofs.place.Tie as tie
 
-run-mode-requires : tie.Need-run-mode-requires
-run-mode-requires c κs = search needs
-
-gsum-requires : tie.Need-gsum-requires
-gsum-requires c κs = search needs
-
 returns : tie.Need-returns
 returns c =
     let taken = c .before in
@@ -22,12 +16,6 @@ returns c =
     let w = c .gsum .ensures in
     let p = reader-place (a .m .now) (a .g) (mode .run-mode .ensures) (taken .if1 .taken) w (omega (arith, w, b .pre .0 .gsums (a .g) (b .pre .1))) in
     (p .is, p .below)
-
-adding-requires : tie.Need-adding-requires
-adding-requires c κs = search needs
-
-gsum-requires-2 : tie.Need-gsum-requires-2
-gsum-requires-2 c κs = search needs
 
 add-result-2 : tie.Need-add-result-2
 add-result-2 c =
@@ -48,12 +36,6 @@ returns-2 c =
     (omega (arith, w, b .pre .0 .gsums (a .g) (b .pre .1))) in
     (p .is, p .below)
 
-gfm-requires : tie.Need-gfm-requires
-gfm-requires c κs = search needs
-
-wide-requires : tie.Need-wide-requires
-wide-requires c κs = search needs
-
 returns-3 : tie.Need-returns-3
 returns-3 c =
     let read = c .before in
@@ -69,15 +51,6 @@ returns-3 c =
     writer-place (a .m .now) (a .g) (mode .run-mode .ensures) (other .if1 .left) (sym (asked .adding .ensures) ∙ quiet .if2 .left) (writes .if3 .taken) v
     (omega (arith, v, b .pre .0 .gfms (a .g) (b .pre .1))) in
     (p .is, p .below)
-
-dac-number-requires : tie.Need-dac-number-requires
-dac-number-requires c κs = search needs
-
-gfm-requires-2 : tie.Need-gfm-requires-2
-gfm-requires-2 c κs = search needs
-
-wide-requires-2 : tie.Need-wide-requires-2
-wide-requires-2 c κs = search needs
 
 returns-4 : tie.Need-returns-4
 returns-4 c =
@@ -114,6 +87,7 @@ returns-5 c =
 pub place-spec : {M : Type 1} → statement M
 place-spec =
     tie.close
-    (tie.spec run-mode-requires gsum-requires (λ c. search needs) returns adding-requires gsum-requires-2 add-result-2
-    returns-2 gfm-requires wide-requires (λ c. search needs) returns-3 dac-number-requires (λ c. search needs)
-    (λ c. search needs) gfm-requires-2 wide-requires-2 (λ c. search needs) returns-4 returns-5)
+    (tie.spec (λ c κs. search needs) (λ c κs. search needs) (λ c. search needs) returns (λ c κs. search needs)
+    (λ c κs. search needs) add-result-2 returns-2 (λ c κs. search needs) (λ c κs. search needs) (λ c. search needs)
+    returns-3 (λ c κs. search needs) (λ c. search needs) (λ c. search needs) (λ c κs. search needs)
+    (λ c κs. search needs) (λ c. search needs) returns-4 returns-5)

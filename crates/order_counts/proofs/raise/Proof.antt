@@ -7,9 +7,6 @@ use borrow.Author.Needs.{needs}
 use Rattle.order_counts.proofs.raise.Statement.{statement}
 use Rattle.order_counts.proofs.raise.Tie as tie
 
-wrapping-add-u32-requires : tie.Need-wrapping-add-u32-requires
-wrapping-add-u32-requires c κs = search needs
-
 returns : tie.Need-returns
 unfolding raised
 returns c = let a = c .before .before .args in ap (set (a .counts .now) (a .i)) (c .wrapping-add-u32 .ensures)
@@ -17,5 +14,5 @@ returns c = let a = c .before .before .args in ap (set (a .counts .now) (a .i)) 
 pub raise-spec : {M : Type 1} → statement M
 raise-spec =
     tie.close
-    (tie.spec (λ c. search needs) (λ c. search needs) wrapping-add-u32-requires (λ c. search needs) (λ c. search needs)
+    (tie.spec (λ c. search needs) (λ c. search needs) (λ c κs. search needs) (λ c. search needs) (λ c. search needs)
     returns)

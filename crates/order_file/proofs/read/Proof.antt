@@ -7,12 +7,6 @@ use Rattle.order_file.proofs.Lines as lines
 use Rattle.order_file.proofs.read.Statement.{statement}
 use Rattle.order_file.proofs.read.Tie as tie
 
-ended-requires : tie.Need-ended-requires
-ended-requires c κs = search needs
-
-no-order-file-requires : tie.Need-no-order-file-requires
-no-order-file-requires c κs = search needs
-
 returns : tie.Need-returns
 returns c =
     let test = c .before in
@@ -25,4 +19,4 @@ read-lines-requires c κs = sym (c .before .ended .ensures) ∙ not-false _ (c .
 pub read-spec : {M : Type 1} → statement M
 read-spec =
     tie.close
-    (tie.spec ended-requires no-order-file-requires returns read-lines-requires (λ c. search needs))
+    (tie.spec (λ c κs. search needs) (λ c κs. search needs) returns read-lines-requires (λ c. search needs))

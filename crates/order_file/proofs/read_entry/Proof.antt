@@ -8,14 +8,8 @@ use borrow.Author.Needs.{needs}
 use Rattle.order_file.proofs.read_entry.Statement.{statement}
 use Rattle.order_file.proofs.read_entry.Tie as tie
 
-starts-requires : tie.Need-starts-requires
-starts-requires c κs = search needs
-
 after-requires : tie.Need-after-requires
 after-requires c κs = starts-long _ orderStart (sym (c .before .starts .ensures) ∙ c .if1 .taken)
-
-decimal-requires : tie.Need-decimal-requires
-decimal-requires c κs = search needs
 
 returns : tie.Need-returns
 returns c =
@@ -27,5 +21,4 @@ returns-2 : tie.Need-returns-2
 returns-2 c = lines.entry-none (c .before .before .before .before .before .args .line .now) (c .before .starts .ensures) (c .if1 .left)
 
 pub read-entry-spec : {M : Type 1} → statement M
-read-entry-spec =
-    tie.close (tie.spec starts-requires after-requires decimal-requires returns returns-2)
+read-entry-spec = tie.close (tie.spec (λ c κs. search needs) after-requires (λ c κs. search needs) returns returns-2)

@@ -38,23 +38,11 @@ line-end c =
 loop-holds : tie.Need-loop-holds Inv-loop μ-loop
 loop-holds c = lines.begins (c .before .args .file .now) (c .before .pre)
 
-after-requires : tie.Need-after-requires Inv-loop μ-loop
-after-requires c κs = omega arith
-
-find-requires : tie.Need-find-requires Inv-loop μ-loop
-find-requires c κs = search needs
-
 add-read-entry : tie.Need-add-read-entry Inv-loop μ-loop
 add-read-entry c = omega (arith, short (c .before .before), line-end c)
 
 part-read-entry-end : tie.Need-part-read-entry-end Inv-loop μ-loop
 part-read-entry-end c = omega (arith, line-end c)
-
-read-entry-requires : tie.Need-read-entry-requires Inv-loop μ-loop
-read-entry-requires c κs = search needs
-
-no-order-file-requires : tie.Need-no-order-file-requires Inv-loop μ-loop
-no-order-file-requires c κs = search needs
 
 returns : tie.Need-returns Inv-loop μ-loop
 returns c =
@@ -72,9 +60,6 @@ returns c =
     (found .find .ensures ∙ ap (bytesBefore (code "\n")) (found .before .after .ensures))
     (rw add-sub-cancel-left at (read .read-entry .ensures))
     (told .enum-told .given .1)
-
-no-order-file-requires-2 : tie.Need-no-order-file-requires-2 Inv-loop μ-loop
-no-order-file-requires-2 c κs = search needs
 
 returns-2 : tie.Need-returns-2 Inv-loop μ-loop
 returns-2 c =
@@ -133,7 +118,7 @@ returns-3 c = lines.ends _ (c .before .loop .inv) (c .loop-test .left)
 pub read-lines-spec : {M : Type 1} → statement M
 read-lines-spec =
     tie.close
-    (tie.spec Inv-loop μ-loop loop-holds after-requires find-requires add-read-entry (λ c. omega arith)
-    (λ c. omega arith) part-read-entry-end read-entry-requires (λ c. search needs) (λ c. search needs)
-    no-order-file-requires returns no-order-file-requires-2 returns-2 (λ c. omega arith) (λ c. omega arith)
+    (tie.spec Inv-loop μ-loop loop-holds (λ c κs. omega arith) (λ c κs. search needs) add-read-entry (λ c. omega arith)
+    (λ c. omega arith) part-read-entry-end (λ c κs. search needs) (λ c. search needs) (λ c. search needs)
+    (λ c κs. search needs) returns (λ c κs. search needs) returns-2 (λ c. omega arith) (λ c. omega arith)
     (λ c. omega arith) add-at add-at-2 loop-less loop-again returns-3)

@@ -9,12 +9,6 @@ use Rattle.order_points.proofs.Asked.{no-add, no-replaced, one-side, tw
 use Rattle.order_points.proofs.adder.Statement.{statement}
 use Rattle.order_points.proofs.adder.Tie as tie
 
-run-mode-requires : tie.Need-run-mode-requires
-run-mode-requires c κs = search needs
-
-adding-requires : tie.Need-adding-requires
-adding-requires c κs = search needs
-
 returns : tie.Need-returns
 returns c =
     let on = c .before in
@@ -22,9 +16,6 @@ returns c =
     let a = mode .before .before .args in
     let sides : Sides = record { first = a .place1 .now; second = a .place2 .now } in
     no-add (a .text) (a .m .now) sides (a .last .now) (a .marks .now) (a .g) (mode .run-mode .ensures) (sym (on .adding .ensures) ∙ not-true _ (c .if1 .taken))
-
-gsum-requires : tie.Need-gsum-requires
-gsum-requires c κs = search needs
 
 mul-wide : tie.Need-mul-wide
 mul-wide c =
@@ -35,9 +26,6 @@ element-copy-out-wide : tie.Need-element-copy-out-wide
 element-copy-out-wide c =
     let b = c .before .before .before .before .before in
     omega (arith, c .gsum .ensures, b .pre .0 .gsums (b .args .g) (b .pre .1 .1))
-
-wide-requires : tie.Need-wide-requires
-wide-requires c κs = search needs
 
 returns-2 : tie.Need-returns-2
 returns-2 c =
@@ -98,5 +86,6 @@ returns-4 c =
 pub adder-spec : {M : Type 1} → statement M
 adder-spec =
     tie.close
-    (tie.spec run-mode-requires adding-requires returns gsum-requires mul-wide element-copy-out-wide wide-requires
-    returns-2 (λ c. search needs) same-side-requires returns-3 element-write-marks returns-4)
+    (tie.spec (λ c κs. search needs) (λ c κs. search needs) returns (λ c κs. search needs) mul-wide
+    element-copy-out-wide (λ c κs. search needs) returns-2 (λ c. search needs) same-side-requires returns-3
+    element-write-marks returns-4)

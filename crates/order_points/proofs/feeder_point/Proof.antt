@@ -9,9 +9,6 @@ use Rattle.order_points.proofs.Differences.{feeders-held}
 use Rattle.order_points.proofs.feeder_point.Statement.{statement}
 use Rattle.order_points.proofs.feeder_point.Tie as tie
 
-first-difference-requires : tie.Need-first-difference-requires
-first-difference-requires c κs = search needs
-
 returns : tie.Need-returns
 returns c =
     let b = c .before .before .before .before .before .before in
@@ -20,4 +17,4 @@ returns c =
     e ∙ feeders-held (a .text) (a .m .now) (a .first .now) (a .second .now) (b .pre .0) (b .pre .1 .0) (b .pre .1 .1)
 
 pub feeder-point-spec : {M : Type 1} → statement M
-feeder-point-spec = tie.close (tie.spec first-difference-requires returns)
+feeder-point-spec = tie.close (tie.spec (λ c κs. search needs) returns)

@@ -10,9 +10,6 @@ use Rattle.order_points.proofs.Asked.{nothing-awaited, by-sides}
 use Rattle.order_points.proofs.neighbour_same.Statement.{statement}
 use Rattle.order_points.proofs.neighbour_same.Tie as tie
 
-awaits-requires : tie.Need-awaits-requires
-awaits-requires c κs = search needs
-
 returns : tie.Need-returns
 returns c =
     let asked = c .before in
@@ -20,18 +17,12 @@ returns c =
     let sides : Sides = record { first = a .place1 .now; second = a .place2 .now } in
     nothing-awaited (a .text) (a .m .now) sides (a .g) (sym (asked .awaits .ensures) ∙ not-true _ (c .if1 .taken))
 
-distance-requires : tie.Need-distance-requires
-distance-requires c κs = search needs
-
 sub-same-side : tie.Need-sub-same-side
 sub-same-side c =
     let can = c .before in
     let asked = can .before in
     let a = asked .before .before .args in
     rw (c .distance .ensures) (some-lower (a .text) (a .m .now) (a .g) (sym (asked .awaits .ensures) ∙ not-false _ (can .if1 .left)))
-
-same-side-requires : tie.Need-same-side-requires
-same-side-requires c κs = search needs
 
 returns-2 : tie.Need-returns-2
 returns-2 c =
@@ -44,4 +35,5 @@ returns-2 c =
     e ∙ by-sides (a .text) (a .m .now) sides (a .g) (sym (asked .awaits .ensures) ∙ not-false _ (can .if1 .left)) (lower .distance .ensures)
 
 pub neighbour-same-spec : {M : Type 1} → statement M
-neighbour-same-spec = tie.close (tie.spec awaits-requires returns distance-requires sub-same-side same-side-requires returns-2)
+neighbour-same-spec = tie.close
+    (tie.spec (λ c κs. search needs) returns (λ c κs. search needs) sub-same-side (λ c κs. search needs) returns-2)

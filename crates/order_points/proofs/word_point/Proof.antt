@@ -16,9 +16,6 @@ adders-requires c κs =
     let a = b .args in
     (b .pre .0, (lasts-within (a .text) (a .m .now) (a .first .now) (b .pre .0) (b .pre .1 .0 .0) (b .pre .1 .1 .1 .0), refl))
 
-words-requires : tie.Need-words-requires
-words-requires c κs = search needs
-
 returns : tie.Need-returns
 returns c =
     let marked = c .before .before in
@@ -32,4 +29,4 @@ returns c =
     (b .pre .1 .1 .0) (b .pre .1 .1 .1) (marked .adders .ensures)
 
 pub word-point-spec : {M : Type 1} → statement M
-word-point-spec = tie.close (tie.spec adders-requires words-requires returns)
+word-point-spec = tie.close (tie.spec adders-requires (λ c κs. search needs) returns)

@@ -9,13 +9,10 @@ use Rattle.order_roles.proofs.Roles.{adds-is}
 use Rattle.order_roles.proofs.adding.Statement.{statement}
 use Rattle.order_roles.proofs.adding.Tie as tie
 
-triggering-requires : tie.Need-triggering-requires
-triggering-requires c κs = search needs
-
 returns : tie.Need-returns
 returns c =
     let r = c .before .args .run in
     ap (λ (b : Bool). eqb r runningA || b) (c .triggering .ensures) ∙ sym (adds-is r)
 
 pub adding-spec : {M : Type 1} → statement M
-adding-spec = tie.close (tie.spec triggering-requires returns)
+adding-spec = tie.close (tie.spec (λ c κs. search needs) returns)

@@ -6,17 +6,11 @@ use borrow.Author.Needs.{needs}
 use Rattle.order_roles.proofs.awaits.Statement.{statement}
 use Rattle.order_roles.proofs.awaits.Tie as tie
 
-distance-requires : tie.Need-distance-requires
-distance-requires c κs = search needs
-
 returns : tie.Need-returns
 returns c =
     let lower = c .before in
     let a = lower .before .before .args in
     none-lower (a .text) (a .m .now) (a .g) (lower .distance .ensures) (c .if1 .taken)
-
-run-mode-requires : tie.Need-run-mode-requires
-run-mode-requires c κs = search needs
 
 returns-2 : tie.Need-returns-2
 returns-2 c =
@@ -25,12 +19,6 @@ returns-2 c =
     let lower = some .before in
     let a = lower .before .before .args in
     no-wait (a .text) (a .m .now) (a .g) (lower .distance .ensures) (some .if1 .left) (mode .run-mode .ensures) (c .if2 .taken)
-
-run-mode-requires-2 : tie.Need-run-mode-requires-2
-run-mode-requires-2 c κs = search needs
-
-triggering-requires : tie.Need-triggering-requires
-triggering-requires c κs = search needs
 
 returns-3 : tie.Need-returns-3
 returns-3 c =
@@ -46,4 +34,5 @@ returns-3 c =
 pub awaits-spec : {M : Type 1} → statement M
 awaits-spec =
     tie.close
-    (tie.spec distance-requires returns run-mode-requires returns-2 run-mode-requires-2 triggering-requires returns-3)
+    (tie.spec (λ c κs. search needs) returns (λ c κs. search needs) returns-2 (λ c κs. search needs)
+    (λ c κs. search needs) returns-3)

@@ -5,15 +5,6 @@ use borrow.Author.Needs.{needs}
 use Rattle.order_rule.proofs.alike.Statement.{statement}
 use Rattle.order_rule.proofs.alike.Tie as tie
 
-feeders-share-requires : tie.Need-feeders-share-requires
-feeders-share-requires c κs = search needs
-
-share-one-requires : tie.Need-share-one-requires
-share-one-requires c κs = search needs
-
-words-apart-requires : tie.Need-words-apart-requires
-words-apart-requires c κs = search needs
-
 returns : tie.Need-returns
 returns c =
     let readers = c .before in
@@ -24,5 +15,5 @@ returns c =
 pub alike-spec : {M : Type 1} → statement M
 alike-spec =
     tie.close
-    (tie.spec (λ c. search needs) feeders-share-requires share-one-requires (λ c. search needs) words-apart-requires
-    returns)
+    (tie.spec (λ c. search needs) (λ c κs. search needs) (λ c κs. search needs) (λ c. search needs)
+    (λ c κs. search needs) returns)

@@ -20,9 +20,6 @@ abbrev μ-loop : tie.MeasureT-loop
 loop-holds : tie.Need-loop-holds Inv-loop μ-loop
 loop-holds c = (omega arith, λ j l. absurd (omega arith))
 
-share-one-requires : tie.Need-share-one-requires Inv-loop μ-loop
-share-one-requires c κs = omega arith
-
 returns : tie.Need-returns Inv-loop μ-loop
 returns c =
     let asked = c .before in
@@ -42,5 +39,5 @@ returns-2 c = let z = c .before in fed-alike (z .before .args .counts .now) (z .
 pub feeders-share-spec : {M : Type 1} → statement M
 feeders-share-spec =
     tie.close
-    (tie.spec Inv-loop μ-loop loop-holds (λ c. omega arith) (λ c. omega arith) share-one-requires returns
+    (tie.spec Inv-loop μ-loop loop-holds (λ c. omega arith) (λ c. omega arith) (λ c κs. omega arith) returns
     (λ c. omega arith) (λ c. omega arith) loop-again returns-2)

@@ -8,12 +8,9 @@ use borrow.Author.Needs.{needs}
 use Rattle.order_rule.proofs.share_one.Statement.{statement}
 use Rattle.order_rule.proofs.share_one.Tie as tie
 
-used-requires : tie.Need-used-requires
-used-requires c κs = search needs
-
 returns : tie.Need-returns
 unfolding shareOne
 returns c = ap (λ (n : ℕ). leb n 1) (c .used .ensures)
 
 pub share-one-spec : {M : Type 1} → statement M
-share-one-spec = tie.close (tie.spec used-requires returns)
+share-one-spec = tie.close (tie.spec (λ c κs. search needs) returns)

@@ -8,21 +8,12 @@ use Rattle.order_sounding.proofs.Adders.{another-word, adds-none, on-si
 use Rattle.order_sounding.proofs.adder_same.Statement.{statement}
 use Rattle.order_sounding.proofs.adder_same.Tie as tie
 
-gsum-requires : tie.Need-gsum-requires
-gsum-requires c κs = search needs
-
 returns : tie.Need-returns
 returns c =
     let word = c .before in
     let a = word .before .before .args in
     let sides : Sides = record { first = a .place1 .now; second = a .place2 .now } in
     another-word (a .text) (a .m .now) sides (a .w) (a .l) (a .g) (word .gsum .ensures) (c .if1 .taken)
-
-run-mode-requires : tie.Need-run-mode-requires
-run-mode-requires c κs = search needs
-
-adding-requires : tie.Need-adding-requires
-adding-requires c κs = search needs
 
 returns-2 : tie.Need-returns-2
 returns-2 c =
@@ -31,9 +22,6 @@ returns-2 c =
     let a = mode .before .before .before .before .args in
     let sides : Sides = record { first = a .place1 .now; second = a .place2 .now } in
     adds-none (a .text) (a .m .now) sides (a .w) (a .l) (a .g) (mode .run-mode .ensures) (sym (adding .adding .ensures) ∙ not-true _ (c .if2 .taken))
-
-same-side-requires : tie.Need-same-side-requires
-same-side-requires c κs = search needs
 
 returns-3 : tie.Need-returns-3
 returns-3 c =
@@ -51,11 +39,5 @@ returns-3 c =
 pub adder-same-spec : {M : Type 1} → statement M
 adder-same-spec =
     tie.close
-    (tie.spec
-    gsum-requires
-    returns
-    run-mode-requires
-    adding-requires
-    returns-2
-    same-side-requires
-    returns-3)
+    (tie.spec (λ c κs. search needs) returns (λ c κs. search needs) (λ c κs. search needs) returns-2
+    (λ c κs. search needs) returns-3)

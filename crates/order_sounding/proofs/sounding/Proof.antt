@@ -7,9 +7,6 @@ use Rattle.order_sounding.proofs.FailingWord.{some-last, last-within, a
 use Rattle.order_sounding.proofs.sounding.Statement.{statement}
 use Rattle.order_sounding.proofs.sounding.Tie as tie
 
-wide-requires : tie.Need-wide-requires
-wide-requires c κs = search needs
-
 sub-l : tie.Need-sub-l
 sub-l c =
     let b = c .before .before .before .before .before in
@@ -65,6 +62,6 @@ returns-3 c =
 pub sounding-spec : {M : Type 1} → statement M
 sounding-spec =
     tie.close
-    (tie.spec (λ c. search needs) (λ c. search needs) wide-requires sub-l (λ c. search needs) (λ c. search needs)
-    (λ c. search needs) (λ c. search needs) returns (λ c. search needs) (λ c. search needs) (λ c. search needs)
-    (λ c. search needs) returns-2 adder-point-requires returns-3)
+    (tie.spec (λ c. search needs) (λ c. search needs) (λ c κs. search needs) sub-l (λ c. search needs)
+    (λ c. search needs) (λ c. search needs) (λ c. search needs) returns (λ c. search needs) (λ c. search needs)
+    (λ c. search needs) (λ c. search needs) returns-2 adder-point-requires returns-3)

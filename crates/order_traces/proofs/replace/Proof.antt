@@ -6,9 +6,6 @@ use borrow.Author.Needs.{needs}
 use Rattle.order_traces.proofs.replace.Statement.{statement}
 use Rattle.order_traces.proofs.replace.Tie as tie
 
-gsum-requires : tie.Need-gsum-requires
-gsum-requires c κs = search needs
-
 mul-last : tie.Need-mul-last
 mul-last c =
     let b = c .before .before in
@@ -35,5 +32,5 @@ returns c = rw (c .gsum .ensures) refl
 pub replace-spec : {M : Type 1} → statement M
 replace-spec =
     tie.close
-    (tie.spec gsum-requires (λ c. search needs) (λ c. search needs) mul-last element-write-last (λ c. search needs)
-    mul-among element-write-among returns)
+    (tie.spec (λ c κs. search needs) (λ c. search needs) (λ c. search needs) mul-last element-write-last
+    (λ c. search needs) mul-among element-write-among returns)

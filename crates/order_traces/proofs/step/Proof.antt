@@ -6,15 +6,6 @@ use Rattle.order_traces.proofs.Steps.{step-feeds, step-writes, step-rep
 use Rattle.order_traces.proofs.step.Statement.{statement}
 use Rattle.order_traces.proofs.step.Tie as tie
 
-run-mode-requires : tie.Need-run-mode-requires
-run-mode-requires c κs = search needs
-
-dac-number-requires : tie.Need-dac-number-requires
-dac-number-requires c κs = search needs
-
-source-requires : tie.Need-source-requires
-source-requires c κs = search needs
-
 returns : tie.Need-returns
 returns c =
     let dac = c .before in
@@ -24,9 +15,6 @@ returns c =
     let t : Trace = record { place = a .place .now; fed = a .fed .now; written = a .written .now; replaced = record { last = a .last .now; among = a .among .now }; counts = a .done } in
     step-feeds (a .text) (a .m .now) (a .i) (a .g) t (mode .run-mode .ensures) (taken .if1 .taken) (dac .dac-number .ensures .0) (c .source .ensures)
 
-source-requires-2 : tie.Need-source-requires-2
-source-requires-2 c κs = search needs
-
 returns-2 : tie.Need-returns-2
 returns-2 c =
     let taken = c .before in
@@ -34,9 +22,6 @@ returns-2 c =
     let a = mode .before .before .args in
     let t : Trace = record { place = a .place .now; fed = a .fed .now; written = a .written .now; replaced = record { last = a .last .now; among = a .among .now }; counts = a .done } in
     step-writes (a .text) (a .m .now) (a .i) (a .g) t (mode .run-mode .ensures) (taken .if2 .taken) (c .source2 .ensures)
-
-replace-requires : tie.Need-replace-requires
-replace-requires c κs = search needs
 
 returns-3 : tie.Need-returns-3
 returns-3 c =
@@ -58,6 +43,6 @@ returns-4 c =
 pub step-spec : {M : Type 1} → statement M
 step-spec =
     tie.close
-    (tie.spec (λ c. search needs) (λ c. search needs) run-mode-requires dac-number-requires source-requires
-    (λ c. search needs) (λ c. search needs) returns source-requires-2 (λ c. search needs) (λ c. search needs)
-    (λ c. search needs) returns-2 replace-requires (λ c. search needs) returns-3 returns-4)
+    (tie.spec (λ c. search needs) (λ c. search needs) (λ c κs. search needs) (λ c κs. search needs)
+    (λ c κs. search needs) (λ c. search needs) (λ c. search needs) returns (λ c κs. search needs) (λ c. search needs)
+    (λ c. search needs) (λ c. search needs) returns-2 (λ c κs. search needs) (λ c. search needs) returns-3 returns-4)

@@ -25,9 +25,6 @@ loop-holds c =
     let b = c .before .before in
     (omega arith, traced-none _ (b .args .m .now) (b .args .order .now) (b .pre .1 .1), omega arith, omega arith)
 
-wide-requires : tie.Need-wide-requires Inv-loop μ-loop
-wide-requires c κs = tt
-
 step-requires : tie.Need-step-requires Inv-loop μ-loop
 step-requires c κs =
     let entry = c .before .before .before .before .before in
@@ -69,5 +66,5 @@ returns c =
 pub trace-spec : {M : Type 1} → statement M
 trace-spec =
     tie.close
-    (tie.spec Inv-loop μ-loop loop-holds (λ c. omega arith) (λ c. omega arith) wide-requires step-requires
+    (tie.spec Inv-loop μ-loop loop-holds (λ c. omega arith) (λ c. omega arith) (λ c κs. tt) step-requires
     (λ c. omega arith) (λ c. omega arith) loop-again returns)

@@ -6,12 +6,6 @@ use borrow.Author.Needs.{needs}
 use Rattle.oscillator.proofs.sine_wave.Statement.{statement}
 use Rattle.oscillator.proofs.sine_wave.Tie as tie
 
-magnitude-requires : tie.Need-magnitude-requires
-magnitude-requires c κs = search needs
-
-sign-requires : tie.Need-sign-requires
-sign-requires c κs = search needs
-
 returns : tie.Need-returns
 unfolding sineWave
 returns c =
@@ -22,5 +16,4 @@ returns c =
     }
 
 pub sine-wave-spec : {M : Type 1} → statement M
-sine-wave-spec = tie.close
-    (tie.spec magnitude-requires (λ c. search needs) sign-requires returns)
+sine-wave-spec = tie.close (tie.spec (λ c κs. search needs) (λ c. search needs) (λ c κs. search needs) returns)

@@ -7,17 +7,8 @@ use Rattle.oscillator.proofs.Cosines.{index-low, shifted-exact, shifted
 use Rattle.oscillator.proofs.sum_of_cosines.Statement.{statement}
 use Rattle.oscillator.proofs.sum_of_cosines.Tie as tie
 
-multiple-index-requires : tie.Need-multiple-index-requires
-multiple-index-requires c κs = search needs
-
 magnitude-requires : tie.Need-magnitude-requires
 magnitude-requires c κs = (c .before .pre .0, rw (c .multiple-index .ensures) (index-low _ _))
-
-magnitude-requires-2 : tie.Need-magnitude-requires-2
-magnitude-requires-2 c κs = search needs
-
-smaller-requires : tie.Need-smaller-requires
-smaller-requires c κs = search needs
 
 mul-magnitude : tie.Need-mul-magnitude
 mul-magnitude c =
@@ -32,9 +23,6 @@ div-magnitude c =
 
 sign-requires : tie.Need-sign-requires
 sign-requires c κs = rw (c .before .before .before .multiple-index .ensures) (index-low _ _)
-
-sign-requires-2 : tie.Need-sign-requires-2
-sign-requires-2 c κs = search needs
 
 add-sign : tie.Need-add-sign
 add-sign c =
@@ -57,5 +45,5 @@ returns c =
 pub sum-of-cosines-spec : {M : Type 1} → statement M
 sum-of-cosines-spec =
     tie.close
-    (tie.spec multiple-index-requires magnitude-requires magnitude-requires-2 (λ c. search needs) smaller-requires
-    mul-magnitude div-magnitude sign-requires sign-requires-2 add-sign returns)
+    (tie.spec (λ c κs. search needs) magnitude-requires (λ c κs. search needs) (λ c. search needs)
+    (λ c κs. search needs) mul-magnitude div-magnitude sign-requires (λ c κs. search needs) add-sign returns)

@@ -6,9 +6,6 @@ use Rattle.parts.proofs.Answers.{is-ready, says-refused, says-equal, sa
 use Rattle.parts.proofs.parts.Statement.{statement}
 use Rattle.parts.proofs.parts.Tie as tie
 
-refusal-requires : tie.Need-refusal-requires
-refusal-requires c κs = search needs
-
 returns : tie.Need-returns
 returns c =
     let asked = c .before in
@@ -78,6 +75,6 @@ returns-3 c =
 pub parts-spec : {M : Type 1} → statement M
 parts-spec =
     tie.close
-    (tie.spec refusal-requires (λ c. search needs) (λ c. search needs) returns first-point-requires (λ c. search needs)
-    (λ c. search needs) returns-2 in-modes-requires contents-requires items-requires (λ c. search needs)
-    (λ c. search needs) returns-3)
+    (tie.spec (λ c κs. search needs) (λ c. search needs) (λ c. search needs) returns first-point-requires
+    (λ c. search needs) (λ c. search needs) returns-2 in-modes-requires contents-requires items-requires
+    (λ c. search needs) (λ c. search needs) returns-3)

@@ -7,9 +7,6 @@ use Rattle.parts.proofs.Answers.{refused-compare, refused-run, refused-
 use Rattle.parts.proofs.refusal.Statement.{statement}
 use Rattle.parts.proofs.refusal.Tie as tie
 
-refusal-requires : tie.Need-refusal-requires
-refusal-requires c κs = search needs
-
 returns : tie.Need-returns
 returns c =
     let asked = c .before in
@@ -50,5 +47,4 @@ returns-4 c =
     none-refused (a .text) (a .m .now) (a .first .now) (a .second .now) (a .contents .now) (a .items .now) (sym (asked .refusal .ensures) ∙ passed .if1 .left) (whole .if2 .left) (counted .in-modes .ensures .0) (c .if3 .left)
 
 pub refusal-spec : {M : Type 1} → statement M
-refusal-spec =
-    tie.close (tie.spec refusal-requires returns returns-2 in-modes-requires returns-3 returns-4)
+refusal-spec = tie.close (tie.spec (λ c κs. search needs) returns returns-2 in-modes-requires returns-3 returns-4)

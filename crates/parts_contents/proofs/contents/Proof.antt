@@ -6,17 +6,11 @@ use Rattle.order_contents.specs.Contents.{contentsFor}
 use Rattle.parts_contents.proofs.contents.Statement.{statement}
 use Rattle.parts_contents.proofs.contents.Tie as tie
 
-triggering-requires : tie.Need-triggering-requires
-triggering-requires c κs = search needs
-
 returns : tie.Need-returns
 unfolding contentsFor
 returns c =
     let done = c .before .before in
     rw (eq-eqb _ 1 (done .before .before .if1 .taken)) (done .triggering .ensures)
-
-sounding-requires : tie.Need-sounding-requires
-sounding-requires c κs = search needs
 
 returns-2 : tie.Need-returns-2
 unfolding contentsFor
@@ -24,9 +18,6 @@ returns-2 c =
     let done = c .before .before in
     let chosen = done .before .before in
     rw (ne-eqb _ 1 (chosen .before .if1 .left), eq-eqb _ 4 (chosen .if2 .taken)) (done .sounding .ensures)
-
-sending-requires : tie.Need-sending-requires
-sending-requires c κs = search needs
 
 returns-3 : tie.Need-returns-3
 unfolding contentsFor
@@ -38,5 +29,5 @@ returns-3 c =
 pub contents-spec : {M : Type 1} → statement M
 contents-spec =
     tie.close
-    (tie.spec triggering-requires (λ c. search needs) returns sounding-requires (λ c. search needs) returns-2
-    sending-requires (λ c. search needs) returns-3)
+    (tie.spec (λ c κs. search needs) (λ c. search needs) returns (λ c κs. search needs) (λ c. search needs) returns-2
+    (λ c κs. search needs) (λ c. search needs) returns-3)

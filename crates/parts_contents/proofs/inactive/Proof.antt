@@ -5,12 +5,6 @@ use Rattle.order_contents.specs.Contents.{inactiveModifiers}
 use Rattle.parts_contents.proofs.inactive.Statement.{statement}
 use Rattle.parts_contents.proofs.inactive.Tie as tie
 
-copy-requires : tie.Need-copy-requires
-copy-requires c κs = search needs
-
-fill-requires : tie.Need-fill-requires
-fill-requires c κs = search needs
-
 returns : tie.Need-returns
 unfolding inactiveModifiers
 returns c =
@@ -20,4 +14,4 @@ returns c =
 
 pub inactive-spec : {M : Type 1} → statement M
 inactive-spec = tie.close
-    (tie.spec copy-requires (λ c. search needs) fill-requires (λ c. search needs) returns)
+    (tie.spec (λ c κs. search needs) (λ c. search needs) (λ c κs. search needs) (λ c. search needs) returns)

@@ -6,18 +6,12 @@ use Rattle.parts_contents.proofs.Filling.{items-count, items-silent}
 use Rattle.parts_contents.proofs.items.Statement.{statement}
 use Rattle.parts_contents.proofs.items.Tie as tie
 
-number-requires : tie.Need-number-requires
-number-requires c κs = search needs
-
 returns : tie.Need-returns
 returns c =
     let numbered = c .before .before in
     let chosen = numbered .before .before in
     let a = chosen .before .before .args in
     numbered .number .ensures ∙ items-count (a .point) (a .s) (a .n) (a .run .now) (chosen .if1 .taken)
-
-fill-requires : tie.Need-fill-requires
-fill-requires c κs = search needs
 
 returns-2 : tie.Need-returns-2
 returns-2 c =
@@ -29,4 +23,4 @@ returns-2 c =
 pub items-spec : {M : Type 1} → statement M
 items-spec =
     tie.close
-    (tie.spec number-requires (λ c. search needs) returns fill-requires (λ c. search needs) returns-2)
+    (tie.spec (λ c κs. search needs) (λ c. search needs) returns (λ c κs. search needs) (λ c. search needs) returns-2)

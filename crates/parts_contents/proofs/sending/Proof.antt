@@ -6,15 +6,6 @@ use Rattle.parts_contents.proofs.Filling.{sends}
 use Rattle.parts_contents.proofs.sending.Statement.{statement}
 use Rattle.parts_contents.proofs.sending.Tie as tie
 
-inactive-requires : tie.Need-inactive-requires
-inactive-requires c κs = search needs
-
-number-requires : tie.Need-number-requires
-number-requires c κs = search needs
-
-number-requires-2 : tie.Need-number-requires-2
-number-requires-2 c κs = search needs
-
 returns : tie.Need-returns
 returns c =
     let second = c .before .before in
@@ -26,4 +17,4 @@ returns c =
 pub sending-spec : {M : Type 1} → statement M
 sending-spec =
     tie.close
-    (tie.spec inactive-requires number-requires number-requires-2 (λ c. search needs) returns)
+    (tie.spec (λ c κs. search needs) (λ c κs. search needs) (λ c κs. search needs) (λ c. search needs) returns)

@@ -6,27 +6,6 @@ use Rattle.texts.proofs.One.{one}
 use Rattle.parts_contents.proofs.sounding.Statement.{statement}
 use Rattle.parts_contents.proofs.sounding.Tie as tie
 
-ones-requires : tie.Need-ones-requires
-ones-requires c κs = search needs
-
-levels-requires : tie.Need-levels-requires
-levels-requires c κs = search needs
-
-fill-requires : tie.Need-fill-requires
-fill-requires c κs = search needs
-
-fill-requires-2 : tie.Need-fill-requires-2
-fill-requires-2 c κs = search needs
-
-fill-requires-3 : tie.Need-fill-requires-3
-fill-requires-3 c κs = search needs
-
-fill-requires-4 : tie.Need-fill-requires-4
-fill-requires-4 c κs = search needs
-
-fill-requires-5 : tie.Need-fill-requires-5
-fill-requires-5 c κs = search needs
-
 returns : tie.Need-returns
 unfolding soundingContents
 returns c =
@@ -43,5 +22,5 @@ returns c =
 pub sounding-spec : {M : Type 1} → statement M
 sounding-spec =
     tie.close
-    (tie.spec ones-requires levels-requires fill-requires fill-requires-2 fill-requires-3 fill-requires-4
-    fill-requires-5 (λ c. search needs) returns)
+    (tie.spec (λ c κs. search needs) (λ c κs. search needs) (λ c κs. search needs) (λ c κs. search needs)
+    (λ c κs. search needs) (λ c κs. search needs) (λ c κs. search needs) (λ c. search needs) returns)

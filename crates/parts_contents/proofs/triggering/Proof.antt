@@ -5,15 +5,6 @@ use Rattle.order_contents.specs.Contents.{triggeringContents}
 use Rattle.parts_contents.proofs.triggering.Statement.{statement}
 use Rattle.parts_contents.proofs.triggering.Tie as tie
 
-inactive-requires : tie.Need-inactive-requires
-inactive-requires c κs = search needs
-
-fill-requires : tie.Need-fill-requires
-fill-requires c κs = search needs
-
-fill-requires-2 : tie.Need-fill-requires-2
-fill-requires-2 c κs = search needs
-
 returns : tie.Need-returns
 unfolding triggeringContents
 returns c =
@@ -25,4 +16,5 @@ returns c =
 pub triggering-spec : {M : Type 1} → statement M
 triggering-spec =
     tie.close
-    (tie.spec inactive-requires fill-requires (λ c. search needs) fill-requires-2 (λ c. search needs) returns)
+    (tie.spec (λ c κs. search needs) (λ c κs. search needs) (λ c. search needs) (λ c κs. search needs)
+    (λ c. search needs) returns)

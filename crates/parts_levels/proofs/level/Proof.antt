@@ -6,9 +6,6 @@ use Rattle.parts_levels.proofs.SilentLevels.{sounds-here, silent-here}
 use Rattle.parts_levels.proofs.level.Statement.{statement}
 use Rattle.parts_levels.proofs.level.Tie as tie
 
-silent-level-requires : tie.Need-silent-level-requires
-silent-level-requires c κs = search needs
-
 returns : tie.Need-returns
 returns c =
     let silent = c .before in
@@ -24,5 +21,5 @@ returns-2 c =
 pub level-spec : {M : Type 1} → statement M
 level-spec =
     tie.close
-    (tie.spec (λ c. search needs) (λ c. search needs) (λ c. search needs) (λ c. search needs) silent-level-requires
+    (tie.spec (λ c. search needs) (λ c. search needs) (λ c. search needs) (λ c. search needs) (λ c κs. search needs)
     (λ c. omega (arith, c .before .silent-level .ensures .1)) returns returns-2)

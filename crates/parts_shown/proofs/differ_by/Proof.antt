@@ -10,15 +10,6 @@ use borrow.Author.Needs.{needs}
 use Rattle.parts_shown.proofs.differ_by.Statement.{statement}
 use Rattle.parts_shown.proofs.differ_by.Tie as tie
 
-pass-by-requires : tie.Need-pass-by-requires
-pass-by-requires c κs = search needs
-
-pass-by-requires-2 : tie.Need-pass-by-requires-2
-pass-by-requires-2 c κs = search needs
-
-first-different-requires : tie.Need-first-different-requires
-first-different-requires c κs = search needs
-
 returns : tie.Need-returns
 unfolding zeros
 returns c =
@@ -71,9 +62,6 @@ slice-aggregate-first-different-4 c =
     let a = lent .before .before .before .before .args in
     sym (length-take-le _ _ (left-within (a .text) (a .contents .now) (plainCall (a .second .now) (a .items .now) (zeros generators)) (other .pass-by2 .ensures)))
 
-first-different-requires-2 : tie.Need-first-different-requires-2
-first-different-requires-2 c κs = search needs
-
 returns-2 : tie.Need-returns-2
 unfolding zeros
 returns-2 c =
@@ -89,7 +77,7 @@ returns-2 c =
 pub differ-by-spec : {M : Type 1} → statement M
 differ-by-spec =
     tie.close
-    (tie.spec (λ c. search needs) (λ c. search needs) pass-by-requires (λ c. search needs) (λ c. search needs)
-    pass-by-requires-2 (λ c. search needs) (λ c. search needs) first-different-requires returns
+    (tie.spec (λ c. search needs) (λ c. search needs) (λ c κs. search needs) (λ c. search needs) (λ c. search needs)
+    (λ c κs. search needs) (λ c. search needs) (λ c. search needs) (λ c κs. search needs) returns
     array-share-prefix-places slice-aggregate-first-different-3 array-share-prefix-other-places
-    slice-aggregate-first-different-4 first-different-requires-2 returns-2)
+    slice-aggregate-first-different-4 (λ c κs. search needs) returns-2)

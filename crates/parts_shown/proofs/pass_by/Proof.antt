@@ -7,12 +7,6 @@ use borrow.Author.Needs.{needs}
 use Rattle.parts_shown.proofs.pass_by.Statement.{statement}
 use Rattle.parts_shown.proofs.pass_by.Tie as tie
 
-copy-requires : tie.Need-copy-requires
-copy-requires c κs = search needs
-
-pass-requires : tie.Need-pass-requires
-pass-requires c κs = search needs
-
 returns : tie.Need-returns
 unfolding zeros
 returns c =
@@ -25,4 +19,5 @@ returns c =
 pub pass-by-spec : {M : Type 1} → statement M
 pass-by-spec =
     tie.close
-    (tie.spec copy-requires (λ c. search needs) pass-requires (λ c. search needs) (λ c. search needs) returns)
+    (tie.spec (λ c κs. search needs) (λ c. search needs) (λ c κs. search needs) (λ c. search needs) (λ c. search needs)
+    returns)

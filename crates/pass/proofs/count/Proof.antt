@@ -7,9 +7,6 @@ use borrow.Author.Needs.{needs}
 use Rattle.pass.proofs.count.Statement.{statement}
 use Rattle.pass.proofs.count.Tie as tie
 
-next-pass-requires : tie.Need-next-pass-requires
-next-pass-requires c κs = search needs
-
 returns : tie.Need-returns
 unfolding counted
 returns c =
@@ -19,5 +16,5 @@ returns c =
 pub count-spec : {M : Type 1} → statement M
 count-spec =
     tie.close
-    (tie.spec (λ c. search needs) (λ c. search needs) next-pass-requires (λ c. search needs) (λ c. search needs)
+    (tie.spec (λ c. search needs) (λ c. search needs) (λ c κs. search needs) (λ c. search needs) (λ c. search needs)
     (λ c. search needs) returns)

@@ -9,18 +9,9 @@ use borrow.Author.Needs.{needs}
 use Rattle.pass.proofs.pass.Statement.{statement}
 use Rattle.pass.proofs.pass.Tie as tie
 
-refusal-requires : tie.Need-refusal-requires
-refusal-requires c κs = search needs
-
 returns : tie.Need-returns
 unfolding passOf refused zeros
 returns c = rw (← (c .before .refusal .ensures), ne-eqb _ 0 (c .if1 .taken))
-
-table-requires : tie.Need-table-requires
-table-requires c κs = search needs
-
-table-requires-2 : tie.Need-table-requires-2
-table-requires-2 c κs = search needs
 
 run-requires : tie.Need-run-requires
 run-requires c κs =
@@ -48,7 +39,8 @@ returns-2 c =
 pub pass-spec : {M : Type 1} → statement M
 pass-spec =
     tie.close
-    (tie.spec refusal-requires (λ c. search needs) (λ c. search needs) (λ c. search needs) returns table-requires
-    table-requires-2 run-requires (λ c. c .before .before .before .before .before .before .run .kept .1 .0)
+    (tie.spec (λ c κs. search needs) (λ c. search needs) (λ c. search needs) (λ c. search needs) returns
+    (λ c κs. search needs) (λ c κs. search needs) run-requires
+    (λ c. c .before .before .before .before .before .before .run .kept .1 .0)
     (λ c. c .before .before .before .before .before .before .run .kept .1 .1 .1 .1 .0)
     (λ c. c .before .before .before .before .before .before .run .kept .1 .1 .1 .1 .1 .0) returns-2)

@@ -8,9 +8,6 @@ use borrow.Author.Needs.{needs}
 use Rattle.pass.proofs.refusal.Statement.{statement}
 use Rattle.pass.proofs.refusal.Tie as tie
 
-refusal-requires : tie.Need-refusal-requires
-refusal-requires c κs = search needs
-
 returns : tie.Need-returns
 returns c = refused-first _ _ _ (c .before .refusal .ensures) (c .if1 .taken)
 
@@ -59,9 +56,6 @@ returns-4 c =
     refused-8 _ _ _ (sym (whole .before .refusal .ensures) ∙ whole .if1 .left) (sym (rw (ticks .ticks .ensures) at (second .order-refusal .ensures)) ∙ ordered .if2 .left)
     (omega (arith, needed .in-modes .ensures .0)) (omega (arith, needed .in-modes .ensures .1))
 
-memory-good-requires : tie.Need-memory-good-requires
-memory-good-requires c κs = search needs
-
 returns-5 : tie.Need-returns-5
 returns-5 c =
     let good = c .before in
@@ -97,16 +91,5 @@ returns-6 c =
 pub refusal-spec : {M : Type 1} → statement M
 refusal-spec =
     tie.close
-    (tie.spec
-    refusal-requires
-    returns
-    ticks-requires
-    order-refusal-requires
-    returns-2
-    in-modes-requires
-    returns-3
-    returns-4
-    memory-good-requires
-    returns-5
-    unit-refusal-requires
-    returns-6)
+    (tie.spec (λ c κs. search needs) returns ticks-requires order-refusal-requires returns-2 in-modes-requires returns-3
+    returns-4 (λ c κs. search needs) returns-5 unit-refusal-requires returns-6)

@@ -29,17 +29,11 @@ abbrev μ-loop : tie.MeasureT-loop
 μ-loop text m₀ s₀ clipped₀ order items places₀ sine decay switches triggered₀ done₀ i₀ m s clipped places triggered done i =
     length order - i
 
-table-requires : tie.Need-table-requires Inv-loop μ-loop
-table-requires c κs = search needs
-
 loop-holds : tie.Need-loop-holds Inv-loop μ-loop
 unfolding begun zeros
 loop-holds c =
     let start = c .before .before .before .before .before in
     (omega arith, refl, refl, start .pre .0, omega arith, omega arith, refl, refl)
-
-wide-requires : tie.Need-wide-requires Inv-loop μ-loop
-wide-requires c κs = search needs
 
 step-requires : tie.Need-step-requires Inv-loop μ-loop
 step-requires c κs =
@@ -95,6 +89,6 @@ returns c =
 pub generators-spec : {M : Type 1} → statement M
 generators-spec =
     tie.close
-    (tie.spec Inv-loop μ-loop table-requires loop-holds (λ c. omega arith) (λ c. omega arith) wide-requires
-    step-requires (λ c. omega arith) (λ c. omega arith) loop-again (λ c. c .before .loop .inv .1)
+    (tie.spec Inv-loop μ-loop (λ c κs. search needs) loop-holds (λ c. omega arith) (λ c. omega arith)
+    (λ c κs. search needs) step-requires (λ c. omega arith) (λ c. omega arith) loop-again (λ c. c .before .loop .inv .1)
     (λ c. c .before .loop .inv .2) returns)

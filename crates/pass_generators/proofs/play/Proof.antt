@@ -6,15 +6,6 @@ use borrow.Author.Needs.{needs}
 use Rattle.pass_generators.proofs.play.Statement.{statement}
 use Rattle.pass_generators.proofs.play.Tie as tie
 
-play-requires : tie.Need-play-requires
-play-requires c κs = search needs
-
-put-generator-at-requires : tie.Need-put-generator-at-requires
-put-generator-at-requires c κs = search needs
-
-mark-requires : tie.Need-mark-requires
-mark-requires c κs = search needs
-
 hear-requires : tie.Need-hear-requires
 unfolding soundedOf
 hear-requires c κs =
@@ -35,4 +26,5 @@ returns c =
 pub play-spec : {M : Type 1} → statement M
 play-spec =
     tie.close
-    (tie.spec play-requires put-generator-at-requires mark-requires hear-requires (λ c. search needs) returns)
+    (tie.spec (λ c κs. search needs) (λ c κs. search needs) (λ c κs. search needs) hear-requires (λ c. search needs)
+    returns)

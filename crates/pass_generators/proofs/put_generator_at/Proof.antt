@@ -5,9 +5,6 @@ use borrow.Author.Needs.{needs}
 use Rattle.pass_generators.proofs.put_generator_at.Statement.{statement}
 use Rattle.pass_generators.proofs.put_generator_at.Tie as tie
 
-store-requires : tie.Need-store-requires
-store-requires c κs = search needs
-
 returns : tie.Need-returns
 returns c =
     let store = c .before .before in
@@ -18,4 +15,4 @@ pub put-generator-at-spec : {M : Type 1} → statement M
 put-generator-at-spec =
     tie.close
     (tie.spec (λ c. search needs) (λ c. search needs) (λ c. search needs) (λ c. search needs) (λ c. search needs)
-    store-requires (λ c. search needs) returns)
+    (λ c κs. search needs) (λ c. search needs) returns)

@@ -5,9 +5,6 @@ use Rattle.texts.proofs.One.{one}
 use Rattle.pass_generators.proofs.step.Statement.{statement}
 use Rattle.pass_generators.proofs.step.Tie as tie
 
-step-1978-requires : tie.Need-step-1978-requires
-step-1978-requires c κs = search needs
-
 returns : tie.Need-returns
 returns c =
     let taken = c .before .before .before .before in
@@ -15,4 +12,4 @@ returns c =
     rw (one (lent .before .before .before .before .args .text)) (taken .step-1978 .ensures)
 
 pub step-spec : {M : Type 1} → statement M
-step-spec = tie.close (tie.spec step-1978-requires (λ c. search needs) (λ c. search needs) returns)
+step-spec = tie.close (tie.spec (λ c κs. search needs) (λ c. search needs) (λ c. search needs) returns)

@@ -10,9 +10,6 @@ use borrow.Author.Needs.{needs}
 use Rattle.pass_generators.proofs.step_1978.Statement.{statement}
 use Rattle.pass_generators.proofs.step_1978.Tie as tie
 
-generator-at-requires : tie.Need-generator-at-requires
-generator-at-requires c κs = search needs
-
 returns : tie.Need-returns
 returns c =
     let unit = c .before .before in
@@ -119,6 +116,6 @@ returns-4 c =
 pub step-1978-spec : {M : Type 1} → statement M
 step-1978-spec =
     tie.close
-    (tie.spec generator-at-requires (λ c. search needs) returns f-at-requires switches-of-requires play-requires
+    (tie.spec (λ c κs. search needs) (λ c. search needs) returns f-at-requires switches-of-requires play-requires
     (λ c. search needs) returns-2 wait-requires (λ c. search needs) returns-3 send-requires (λ c. search needs)
     (λ c. search needs) returns-4)

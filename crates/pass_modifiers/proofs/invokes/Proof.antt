@@ -8,15 +8,9 @@ use Rattle.texts.proofs.One.{one}
 use Rattle.pass_modifiers.proofs.invokes.Statement.{statement}
 use Rattle.pass_modifiers.proofs.invokes.Tie as tie
 
-function-requires : tie.Need-function-requires
-function-requires c κs = search needs
-
-invoking-requires : tie.Need-invoking-requires
-invoking-requires c κs = search needs
-
 returns : tie.Need-returns
 returns c =
     rw (one (c .before .before .args .text)) (c .invoking .ensures ∙ ap (λ (f : ℕ). eqb f 0b00111) (c .before .function .ensures))
 
 pub invokes-spec : {M : Type 1} → statement M
-invokes-spec = tie.close (tie.spec function-requires invoking-requires returns)
+invokes-spec = tie.close (tie.spec (λ c κs. search needs) (λ c κs. search needs) returns)

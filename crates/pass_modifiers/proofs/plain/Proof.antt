@@ -5,17 +5,10 @@ use borrow.Author.Needs.{needs}
 use Rattle.pass_modifiers.proofs.plain.Statement.{statement}
 use Rattle.pass_modifiers.proofs.plain.Tie as tie
 
-turned-requires : tie.Need-turned-requires
-turned-requires c κs = search needs
-
-put-modifier-at-requires : tie.Need-put-modifier-at-requires
-put-modifier-at-requires c κs = search needs
-
 returns : tie.Need-returns
 returns c =
     let p = c .before .before in
     rw (p .put-modifier-at .ensures, p .before .before .before .turned .ensures) (refl, refl)
 
 pub plain-spec : {M : Type 1} → statement M
-plain-spec = tie.close
-    (tie.spec turned-requires put-modifier-at-requires (λ c. search needs) returns)
+plain-spec = tie.close (tie.spec (λ c κs. search needs) (λ c κs. search needs) (λ c. search needs) returns)

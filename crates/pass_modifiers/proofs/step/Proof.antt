@@ -8,12 +8,6 @@ use borrow.Author.Needs.{needs}
 use Rattle.pass_modifiers.proofs.step.Statement.{statement}
 use Rattle.pass_modifiers.proofs.step.Tie as tie
 
-catch-up-requires : tie.Need-catch-up-requires
-catch-up-requires c κs = search needs
-
-modifier-at-requires : tie.Need-modifier-at-requires
-modifier-at-requires c κs = search needs
-
 taken-requires : tie.Need-taken-requires
 unfolding modifierOf
 taken-requires c κs = (search needs, (search needs, rw (c .before .before .before .before .modifier-at .ensures) (loaded-ranged _)))
@@ -34,5 +28,5 @@ returns c =
 pub step-spec : {M : Type 1} → statement M
 step-spec =
     tie.close
-    (tie.spec catch-up-requires modifier-at-requires taken-requires put-requires (λ c. search needs) (λ c. search needs)
-    (λ c. search needs) (λ c. search needs) (λ c. search needs) (λ c. search needs) returns)
+    (tie.spec (λ c κs. search needs) (λ c κs. search needs) taken-requires put-requires (λ c. search needs)
+    (λ c. search needs) (λ c. search needs) (λ c. search needs) (λ c. search needs) (λ c. search needs) returns)

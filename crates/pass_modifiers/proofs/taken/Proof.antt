@@ -6,12 +6,6 @@ use borrow.Author.Needs.{needs}
 use Rattle.pass_modifiers.proofs.taken.Statement.{statement}
 use Rattle.pass_modifiers.proofs.taken.Tie as tie
 
-invokes-requires : tie.Need-invokes-requires
-invokes-requires c κs = search needs
-
-look-requires : tie.Need-look-requires
-look-requires c κs = search needs
-
 invoked-requires : tie.Need-invoked-requires
 invoked-requires c κs =
     let l = c .before .before in
@@ -31,9 +25,6 @@ returns c =
     let a = i .before .before .before .args in
     rw (turn-invoking (a .text) _ _ _ _ _ (a .u) (sym (i .invokes .ensures) ∙ t .if1 .taken), ← (l .look .ensures .is)) (d .invoked .ensures)
 
-plain-requires : tie.Need-plain-requires
-plain-requires c κs = search needs
-
 returns-2 : tie.Need-returns-2
 returns-2 c =
     let p = c .before .before in
@@ -45,5 +36,5 @@ returns-2 c =
 pub taken-spec : {M : Type 1} → statement M
 taken-spec =
     tie.close
-    (tie.spec invokes-requires (λ c. search needs) look-requires invoked-requires (λ c. search needs)
-    (λ c. search needs) returns plain-requires (λ c. search needs) returns-2)
+    (tie.spec (λ c κs. search needs) (λ c. search needs) (λ c κs. search needs) invoked-requires (λ c. search needs)
+    (λ c. search needs) returns (λ c κs. search needs) (λ c. search needs) returns-2)

@@ -5,33 +5,12 @@ use borrow.Author.Needs.{needs}
 use Rattle.pass_outputs.proofs.hear.Statement.{statement}
 use Rattle.pass_outputs.proofs.hear.Tie as tie
 
-add-requires : tie.Need-add-requires
-add-requires c κs = search needs
-
-mark-left-requires : tie.Need-mark-left-requires
-mark-left-requires c κs = search needs
-
 returns : tie.Need-returns
 unfolding heard heardLeaves
 returns c =
     let added = c .before .before in
     let adds = eq-eqb _ 1 (added .before .before .if1 .taken) in
     (rw adds (added .add .ensures .0), rw (adds, ← (added .add .ensures .1)) (c .mark-left .ensures), rw adds)
-
-word-at-requires : tie.Need-word-at-requires
-word-at-requires c κs = search needs
-
-add20-requires : tie.Need-add20-requires
-add20-requires c κs = search needs
-
-replace-requires : tie.Need-replace-requires
-replace-requires c κs = search needs
-
-leaves20-requires : tie.Need-leaves20-requires
-leaves20-requires c κs = search needs
-
-mark-left-requires-2 : tie.Need-mark-left-requires-2
-mark-left-requires-2 c κs = search needs
 
 returns-2 : tie.Need-returns-2
 unfolding heard heardLeaves
@@ -49,5 +28,5 @@ returns-2 c =
 pub hear-spec : {M : Type 1} → statement M
 hear-spec =
     tie.close
-    (tie.spec add-requires mark-left-requires returns word-at-requires add20-requires replace-requires leaves20-requires
-    mark-left-requires-2 (λ c. search needs) returns-2)
+    (tie.spec (λ c κs. search needs) (λ c κs. search needs) returns (λ c κs. search needs) (λ c κs. search needs)
+    (λ c κs. search needs) (λ c κs. search needs) (λ c κs. search needs) (λ c. search needs) returns-2)

@@ -10,9 +10,6 @@ returns : tie.Need-returns
 unfolding sent
 returns c = rw (c .before .if1 .taken)
 
-put-requires : tie.Need-put-requires
-put-requires c κs = search needs
-
 returns-2 : tie.Need-returns-2
 unfolding sent
 returns-2 c =
@@ -27,4 +24,4 @@ pub send-spec : {M : Type 1} → statement M
 send-spec =
     tie.close
     (tie.spec (λ c. search needs) (λ c. search needs) (λ c. search needs) (λ c. search needs) (λ c. search needs)
-    returns put-requires (λ c. search needs) (λ c. search needs) returns-2 returns-3)
+    returns (λ c κs. search needs) (λ c. search needs) (λ c. search needs) returns-2 returns-3)

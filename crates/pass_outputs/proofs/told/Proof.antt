@@ -5,9 +5,6 @@ use Rattle.pass_model.specs.Generators.{told}
 use Rattle.pass_outputs.proofs.told.Statement.{statement}
 use Rattle.pass_outputs.proofs.told.Tie as tie
 
-distance-requires : tie.Need-distance-requires
-distance-requires c κs = search needs
-
 returns : tie.Need-returns
 unfolding told
 returns c = rw (← (c .before .distance .ensures), lt-leb _ _ (c .if1 .taken))
@@ -17,5 +14,4 @@ unfolding told
 returns-2 c = rw (← (c .before .before .distance .ensures), le-leb _ _ (c .before .if1 .left))
 
 pub told-spec : {M : Type 1} → statement M
-told-spec = tie.close
-    (tie.spec distance-requires returns (λ c. search needs) returns-2)
+told-spec = tie.close (tie.spec (λ c κs. search needs) returns (λ c. search needs) returns-2)

@@ -9,9 +9,6 @@ use Rattle.product.proofs.Integers.{half-difference}
 use Rattle.product.proofs.half20.Statement.{statement}
 use Rattle.product.proofs.half20.Tie as tie
 
-biased20-requires : tie.Need-biased20-requires
-biased20-requires c κs = search needs
-
 returns : tie.Need-returns
 unfolding half
 returns c =
@@ -19,4 +16,4 @@ returns c =
     (half-difference _ (is-difference (c .biased20 .result) (2 ^ 19) (c .biased20 .ensures .1)) (c .biased20 .ensures .0))
 
 pub half20-spec : {M : Type 1} → statement M
-half20-spec = tie.close (tie.spec biased20-requires returns)
+half20-spec = tie.close (tie.spec (λ c κs. search needs) returns)

@@ -9,12 +9,6 @@ use Rattle.product.proofs.Integers.{less-difference}
 use Rattle.product.proofs.less20.Statement.{statement}
 use Rattle.product.proofs.less20.Tie as tie
 
-biased20-requires : tie.Need-biased20-requires
-biased20-requires c κs = search needs
-
-biased20-requires-2 : tie.Need-biased20-requires-2
-biased20-requires-2 c κs = search needs
-
 returns : tie.Need-returns
 unfolding less
 returns c =
@@ -24,4 +18,4 @@ returns c =
     (is-difference (c .biased202 .result) (2 ^ 19) (c .biased202 .ensures .1)))
 
 pub less20-spec : {M : Type 1} → statement M
-less20-spec = tie.close (tie.spec biased20-requires biased20-requires-2 returns)
+less20-spec = tie.close (tie.spec (λ c κs. search needs) (λ c κs. search needs) returns)

@@ -8,12 +8,6 @@ use Rattle.product.proofs.multiplied.Tie as tie
 cast-k-2 : tie.Need-cast-k-2
 cast-k-2 c = is-fits (scale _ (c .pre .0)) tt
 
-value20-requires : tie.Need-value20-requires
-value20-requires c κs = search needs
-
-value20-requires-2 : tie.Need-value20-requires-2
-value20-requires-2 c κs = search needs
-
 mul-result : tie.Need-mul-result
 mul-result c =
     is-fits
@@ -34,5 +28,5 @@ returns c =
 
 pub multiplied-spec : {M : Type 1} → statement M
 multiplied-spec = tie.close
-    (tie.spec (λ c. search needs) (λ c. search needs) cast-k-2 value20-requires value20-requires-2 mul-result
+    (tie.spec (λ c. search needs) (λ c. search needs) cast-k-2 (λ c κs. search needs) (λ c κs. search needs) mul-result
     mul-result-2 returns)

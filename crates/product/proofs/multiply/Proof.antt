@@ -8,9 +8,6 @@ use Rattle.product.proofs.Integers.{is-fits, is-small, kept, raised, sh
 use Rattle.product.proofs.multiply.Statement.{statement}
 use Rattle.product.proofs.multiply.Tie as tie
 
-multiplied-requires : tie.Need-multiplied-requires
-multiplied-requires c κs = search needs
-
 add-low20 : tie.Need-add-low20
 add-low20 c = is-fits (raised _ (scaled-is _ _ _ (c .before .pre) (c .multiplied .ensures))) tt
 
@@ -24,4 +21,4 @@ returns c =
     ∙ ap (lowBits 20) (kept (shifted _ (kept (raised _ (scaled-is _ _ _ (c .before .before .pre) (c .before .multiplied .ensures))) tt)) tt .same)
 
 pub multiply-spec : {M : Type 1} → statement M
-multiply-spec = tie.close (tie.spec multiplied-requires add-low20 low20-requires returns)
+multiply-spec = tie.close (tie.spec (λ c κs. search needs) add-low20 low20-requires returns)

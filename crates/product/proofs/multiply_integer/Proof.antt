@@ -8,9 +8,6 @@ use Rattle.product.proofs.Integers.{is-small, kept, shifted, scaled-is}
 use Rattle.product.proofs.multiply_integer.Statement.{statement}
 use Rattle.product.proofs.multiply_integer.Tie as tie
 
-multiplied-requires : tie.Need-multiplied-requires
-multiplied-requires c κs = search needs
-
 low20-requires : tie.Need-low20-requires
 low20-requires c κs = is-small (kept (shifted _ (scaled-is _ _ _ (c .before .pre) (c .multiplied .ensures))) tt) tt
 
@@ -19,4 +16,4 @@ unfolding integerProduct
 returns c = c .low20 .ensures ∙ ap (lowBits 20) (kept (shifted _ (scaled-is _ _ _ (c .before .before .pre) (c .before .multiplied .ensures))) tt .same)
 
 pub multiply-integer-spec : {M : Type 1} → statement M
-multiply-integer-spec = tie.close (tie.spec multiplied-requires low20-requires returns)
+multiply-integer-spec = tie.close (tie.spec (λ c κs. search needs) low20-requires returns)

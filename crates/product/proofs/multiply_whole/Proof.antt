@@ -8,9 +8,6 @@ use Rattle.product.proofs.Integers.{is-small, scaled-is}
 use Rattle.product.proofs.multiply_whole.Statement.{statement}
 use Rattle.product.proofs.multiply_whole.Tie as tie
 
-multiplied-requires : tie.Need-multiplied-requires
-multiplied-requires c κs = search needs
-
 low20-requires : tie.Need-low20-requires
 low20-requires c κs = is-small (scaled-is _ _ _ (c .before .pre) (c .multiplied .ensures)) tt
 
@@ -19,4 +16,4 @@ unfolding wholeProduct
 returns c = c .low20 .ensures ∙ ap (lowBits 20) (scaled-is _ _ _ (c .before .before .pre) (c .before .multiplied .ensures) .same)
 
 pub multiply-whole-spec : {M : Type 1} → statement M
-multiply-whole-spec = tie.close (tie.spec multiplied-requires low20-requires returns)
+multiply-whole-spec = tie.close (tie.spec (λ c κs. search needs) low20-requires returns)

@@ -9,12 +9,6 @@ use Rattle.product.proofs.Integers.{is-fits, kept, exact}
 use Rattle.product.proofs.opposite20.Statement.{statement}
 use Rattle.product.proofs.opposite20.Tie as tie
 
-value20-requires : tie.Need-value20-requires
-value20-requires c κs = search needs
-
-value20-requires-2 : tie.Need-value20-requires-2
-value20-requires-2 c κs = search needs
-
 mul-result : tie.Need-mul-result
 mul-result c =
     is-fits
@@ -30,4 +24,4 @@ returns c =
     tt .same)
 
 pub opposite20-spec : {M : Type 1} → statement M
-opposite20-spec = tie.close (tie.spec value20-requires value20-requires-2 mul-result returns)
+opposite20-spec = tie.close (tie.spec (λ c κs. search needs) (λ c κs. search needs) mul-result returns)

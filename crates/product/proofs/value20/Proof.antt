@@ -5,9 +5,6 @@ use Rattle.product.proofs.Integers.{is-fits, kept, unbiased}
 use Rattle.product.proofs.value20.Statement.{statement}
 use Rattle.product.proofs.value20.Tie as tie
 
-biased20-requires : tie.Need-biased20-requires
-biased20-requires c κs = search needs
-
 sub-result : tie.Need-sub-result
 sub-result c = is-fits (unbiased _ _ (c .before .pre) (c .biased20 .ensures .0) (c .biased20 .ensures .1)) tt
 
@@ -15,5 +12,4 @@ returns : tie.Need-returns
 returns c = kept (unbiased _ _ (c .before .pre) (c .biased20 .ensures .0) (c .biased20 .ensures .1)) tt .same
 
 pub value20-spec : {M : Type 1} → statement M
-value20-spec = tie.close
-    (tie.spec biased20-requires (λ c. search needs) sub-result returns)
+value20-spec = tie.close (tie.spec (λ c κs. search needs) (λ c. search needs) sub-result returns)

@@ -9,12 +9,6 @@ use borrow.Author.Needs.{needs}
 use Rattle.ring.proofs.ring.Statement.{statement}
 use Rattle.ring.proofs.ring.Tie as tie
 
-read-requires : tie.Need-read-requires
-read-requires c κs = search needs
-
-refuse-requires : tie.Need-refuse-requires
-refuse-requires c κs = search needs
-
 slice-aggregate-ring-all : tie.Need-slice-aggregate-ring-all
 slice-aggregate-ring-all c =
     let reading = c .before .before .before in
@@ -25,11 +19,9 @@ part-ring-all-end c =
     let reading = c .before .before .before .before in
     read-within (reading .before .before .before .before .args .file .now) (replicate machineLength 0) (replicate commandPlaces 0) (length-replicate {A = ℕ} commandPlaces 0) (reading .read .ensures)
 
-ring-all-requires : tie.Need-ring-all-requires
-ring-all-requires c κs = search needs
-
 pub ring-spec : {M : Type 1} → statement M
 ring-spec =
     tie.close
-    (tie.spec read-requires refuse-requires (λ c. search needs) slice-aggregate-ring-all (λ c. search needs)
-    (λ c. search needs) part-ring-all-end (λ c. search needs) ring-all-requires (λ c. search needs))
+    (tie.spec (λ c κs. search needs) (λ c κs. search needs) (λ c. search needs) slice-aggregate-ring-all
+    (λ c. search needs) (λ c. search needs) part-ring-all-end (λ c. search needs) (λ c κs. search needs)
+    (λ c. search needs))

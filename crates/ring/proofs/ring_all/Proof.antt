@@ -17,9 +17,6 @@ abbrev μ-loop : tie.MeasureT-loop
 loop-holds : tie.Need-loop-holds Inv-loop μ-loop
 loop-holds c = (refl, refl)
 
-ring-part-requires : tie.Need-ring-part-requires Inv-loop μ-loop
-ring-part-requires c κs = search needs
-
 same-length : tie.Need-same-length Inv-loop μ-loop
 same-length c =
     let part = c .before .before .before .before .before .before in
@@ -48,5 +45,5 @@ loop-again c =
 pub ring-all-spec : {M : Type 1} → statement M
 ring-all-spec =
     tie.close
-    (tie.spec Inv-loop μ-loop loop-holds ring-part-requires same-length same-length-2 (λ c. search needs) loop-less
+    (tie.spec Inv-loop μ-loop loop-holds (λ c κs. search needs) same-length same-length-2 (λ c. search needs) loop-less
     loop-again (λ c. c .before .before .loop .inv .0) (λ c. c .before .before .loop .inv .1) (λ c. search needs))

@@ -7,9 +7,6 @@ use borrow.Author.Needs.{needs}
 use Rattle.ring.proofs.ring_part.Statement.{statement}
 use Rattle.ring.proofs.ring_part.Tie as tie
 
-gather-requires : tie.Need-gather-requires
-gather-requires c κs = search needs
-
 part-write-all-end : tie.Need-part-write-all-end
 part-write-all-end c =
     let part = c .before .before .before .before .before .before in
@@ -17,11 +14,8 @@ part-write-all-end c =
     let a = known .before .before .before .args in
     gathered-within (replicate 65536 0) (ringingAt (a .at) (a .m .now) (a .memory .now) (a .commands .now)) (part .gather .ensures .0) (part .gather .ensures .1 .0)
 
-write-all-requires : tie.Need-write-all-requires
-write-all-requires c κs = search needs
-
 pub ring-part-spec : {M : Type 1} → statement M
 ring-part-spec =
     tie.close
-    (tie.spec (λ c. search needs) gather-requires (λ c. search needs) (λ c. search needs) part-write-all-end
-    write-all-requires (λ c. search needs) (λ c. search needs) (λ c. search needs))
+    (tie.spec (λ c. search needs) (λ c κs. search needs) (λ c. search needs) (λ c. search needs) part-write-all-end
+    (λ c κs. search needs) (λ c. search needs) (λ c. search needs) (λ c. search needs))

@@ -6,21 +6,16 @@ use Rattle.sine.proofs.Quarter.{index-below, magnitude-at}
 use Rattle.sine.proofs.magnitude.Statement.{statement}
 use Rattle.sine.proofs.magnitude.Tie as tie
 
-index-requires : tie.Need-index-requires
-index-requires c κs = search needs
-
 mul-wide : tie.Need-mul-wide
 mul-wide c = record { fits = omega (arith, index-below (c .before .args .k)) }
 
 element-copy-out-wide : tie.Need-element-copy-out-wide
 element-copy-out-wide c = rw (c .index .ensures) (index-below (c .before .args .k))
 
-wide-requires : tie.Need-wide-requires
-wide-requires c κs = search needs
-
 returns : tie.Need-returns
 returns c = cc (magnitude-at (c .before .before .before .args .k))
 
 pub magnitude-spec : {M : Type 1} → statement M
 magnitude-spec =
-    tie.close (tie.spec index-requires mul-wide element-copy-out-wide wide-requires returns)
+    tie.close
+    (tie.spec (λ c κs. search needs) mul-wide element-copy-out-wide (λ c κs. search needs) returns)

@@ -6,12 +6,6 @@ use borrow.Author.Needs.{needs}
 use Rattle.sorted.proofs.sort.Statement.{statement}
 use Rattle.sorted.proofs.sort.Tie as tie
 
-read-all-requires : tie.Need-read-all-requires
-read-all-requires c κs = search needs
-
-write-all-requires : tie.Need-write-all-requires
-write-all-requires c κs = search needs
-
 array-share-prefix-file : tie.Need-array-share-prefix-file
 array-share-prefix-file c =
     let input = c .before .input .given in
@@ -23,15 +17,9 @@ slice-aggregate-print c =
     let read = c .before .before .before .before .before .read-all in
     sym (length-take-le (input .0 .0) (read .last .1 .0) (read .ensures (input .0 .0) (input .1)))
 
-print-requires : tie.Need-print-requires
-print-requires c κs = search needs
-
-write-all-requires-2 : tie.Need-write-all-requires-2
-write-all-requires-2 c κs = search needs
-
 pub sort-spec : {M : Type 1} → statement M
 sort-spec =
     tie.close
-    (tie.spec (λ c. search needs) read-all-requires (λ c. search needs) (λ c. search needs) (λ c. search needs)
-    write-all-requires (λ c. search needs) array-share-prefix-file slice-aggregate-print print-requires
-    (λ c. search needs) write-all-requires-2 (λ c. search needs) (λ c. search needs))
+    (tie.spec (λ c. search needs) (λ c κs. search needs) (λ c. search needs) (λ c. search needs) (λ c. search needs)
+    (λ c κs. search needs) (λ c. search needs) array-share-prefix-file slice-aggregate-print (λ c κs. search needs)
+    (λ c. search needs) (λ c κs. search needs) (λ c. search needs) (λ c. search needs))

@@ -6,21 +6,6 @@ use borrow.Author.Needs.{needs}
 use Rattle.sorted.proofs.sort_by.Statement.{statement}
 use Rattle.sorted.proofs.sort_by.Tie as tie
 
-open-read-requires : tie.Need-open-read-requires
-open-read-requires c κs = search needs
-
-write-all-requires : tie.Need-write-all-requires
-write-all-requires c κs = search needs
-
-read-all-requires : tie.Need-read-all-requires
-read-all-requires c κs = search needs
-
-close-requires : tie.Need-close-requires
-close-requires c κs = search needs
-
-write-all-requires-2 : tie.Need-write-all-requires-2
-write-all-requires-2 c κs = search needs
-
 array-share-prefix-file : tie.Need-array-share-prefix-file
 array-share-prefix-file c =
     let input = c .before .input .given in
@@ -32,12 +17,10 @@ slice-aggregate-sort c =
     let read = c .before .before .before .before .before .before .read-all in
     sym (length-take-le (input .0 .0) (read .last .1 .0) (read .ensures (input .0 .0) (input .1)))
 
-sort-requires : tie.Need-sort-requires
-sort-requires c κs = search needs
-
 pub sort-by-spec : {M : Type 1} → statement M
 sort-by-spec =
     tie.close
-    (tie.spec open-read-requires (λ c. search needs) write-all-requires (λ c. search needs) (λ c. search needs)
-    read-all-requires close-requires (λ c. search needs) (λ c. search needs) (λ c. search needs) write-all-requires-2
-    (λ c. search needs) array-share-prefix-file slice-aggregate-sort sort-requires (λ c. search needs))
+    (tie.spec (λ c κs. search needs) (λ c. search needs) (λ c κs. search needs) (λ c. search needs) (λ c. search needs)
+    (λ c κs. search needs) (λ c κs. search needs) (λ c. search needs) (λ c. search needs) (λ c. search needs)
+    (λ c κs. search needs) (λ c. search needs) array-share-prefix-file slice-aggregate-sort (λ c κs. search needs)
+    (λ c. search needs))

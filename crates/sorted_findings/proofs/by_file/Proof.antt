@@ -6,24 +6,12 @@ use borrow.Author.Needs.{needs}
 use Rattle.sorted_findings.proofs.by_file.Statement.{statement}
 use Rattle.sorted_findings.proofs.by_file.Tie as tie
 
-read-requires : tie.Need-read-requires
-read-requires c κs = search needs
-
-put-order-refusal-requires : tie.Need-put-order-refusal-requires
-put-order-refusal-requires c κs = search needs
-
 returns : tie.Need-returns
 returns c =
     let refused = c .before .before in
     let reading = refused .before .before .before in
     let a = reading .before .before .before .args in
     rw (file-refused (a .text) (a .m .now) (a .file .now) (reading .read .ensures) (refused .if1 .taken)) (c .put-order-refusal .ensures)
-
-refusal-requires : tie.Need-refusal-requires
-refusal-requires c κs = search needs
-
-put-refusal-requires : tie.Need-put-refusal-requires
-put-refusal-requires c κs = search needs
 
 returns-2 : tie.Need-returns-2
 returns-2 c =
@@ -42,9 +30,6 @@ part-compared-end c =
     let a = reading .before .before .before .args in
     file-within (a .text) (a .m .now) (a .file .now) (reading .read .ensures)
 
-compared-requires : tie.Need-compared-requires
-compared-requires c κs = search needs
-
 returns-3 : tie.Need-returns-3
 returns-3 c =
     let passed = c .before .before .before .before in
@@ -56,5 +41,5 @@ returns-3 c =
 pub by-file-spec : {M : Type 1} → statement M
 by-file-spec =
     tie.close
-    (tie.spec read-requires put-order-refusal-requires returns refusal-requires put-refusal-requires returns-2
-    (λ c. search needs) (λ c. search needs) part-compared-end compared-requires returns-3)
+    (tie.spec (λ c κs. search needs) (λ c κs. search needs) returns (λ c κs. search needs) (λ c κs. search needs)
+    returns-2 (λ c. search needs) (λ c. search needs) part-compared-end (λ c κs. search needs) returns-3)

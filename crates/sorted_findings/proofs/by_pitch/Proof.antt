@@ -9,12 +9,6 @@ use borrow.Author.Needs.{needs}
 use Rattle.sorted_findings.proofs.by_pitch.Statement.{statement}
 use Rattle.sorted_findings.proofs.by_pitch.Tie as tie
 
-refusal-requires : tie.Need-refusal-requires
-refusal-requires c κs = search needs
-
-put-refusal-requires : tie.Need-put-refusal-requires
-put-refusal-requires c κs = search needs
-
 returns : tie.Need-returns
 returns c =
     let refused = c .before .before in
@@ -52,9 +46,6 @@ part-compared-end c =
     let ready = is-traceable (a .text) m (sym (asked .refusal .ensures) ∙ passed .if1 .left) in
     pitch-within m (ready .ticks) (filled .by-pitch .ensures) (ticks .ticks .ensures)
 
-compared-requires : tie.Need-compared-requires
-compared-requires c κs = search needs
-
 returns-2 : tie.Need-returns-2
 returns-2 c =
     let ticks = c .before .before .before .before in
@@ -69,5 +60,5 @@ returns-2 c =
 pub by-pitch-spec : {M : Type 1} → statement M
 by-pitch-spec =
     tie.close
-    (tie.spec refusal-requires put-refusal-requires returns by-pitch-requires ticks-requires (λ c. search needs)
-    (λ c. search needs) part-compared-end compared-requires returns-2)
+    (tie.spec (λ c κs. search needs) (λ c κs. search needs) returns by-pitch-requires ticks-requires (λ c. search needs)
+    (λ c. search needs) part-compared-end (λ c κs. search needs) returns-2)

@@ -6,9 +6,6 @@ use borrow.Author.Needs.{needs}
 use Rattle.sorted_findings.proofs.compared.Statement.{statement}
 use Rattle.sorted_findings.proofs.compared.Tie as tie
 
-by-number-requires : tie.Need-by-number-requires
-by-number-requires c κs = search needs
-
 ticks-requires : tie.Need-ticks-requires
 ticks-requires c κs = let start = c .before .before .before .before in is-traceable _ (start .args .m .now) (start .pre) .reaches
 
@@ -33,5 +30,5 @@ put-compared-requires c κs =
 pub compared-spec : {M : Type 1} → statement M
 compared-spec =
     tie.close
-    (tie.spec by-number-requires ticks-requires (λ c. search needs) (λ c. search needs) part-put-compared-end
+    (tie.spec (λ c κs. search needs) ticks-requires (λ c. search needs) (λ c. search needs) part-put-compared-end
     put-compared-requires (λ c. search needs))

@@ -10,12 +10,6 @@ use borrow.Author.Needs.{needs}
 use Rattle.sorted_findings.proofs.findings.Statement.{statement}
 use Rattle.sorted_findings.proofs.findings.Tie as tie
 
-read-requires : tie.Need-read-requires
-read-requires c κs = search needs
-
-put-refusal-requires : tie.Need-put-refusal-requires
-put-refusal-requires c κs = search needs
-
 returns : tie.Need-returns
 returns c =
     let refused = c .before .before in
@@ -28,9 +22,6 @@ slice-aggregate-by-file c =
     let reading = c .before .before .before .before in
     let a = reading .before .before .before .before .before .args in
     read-whole (a .file .now) (replicate machineLength 0) (replicate commandPlaces 0) (length-replicate {A = ℕ} machineLength 0) (reading .read .ensures)
-
-by-file-requires : tie.Need-by-file-requires
-by-file-requires c κs = search needs
 
 returns-2 : tie.Need-returns-2
 returns-2 c =
@@ -46,9 +37,6 @@ slice-aggregate-by-pitch c =
     let a = reading .before .before .before .before .before .args in
     read-whole (a .file .now) (replicate machineLength 0) (replicate commandPlaces 0) (length-replicate {A = ℕ} machineLength 0) (reading .read .ensures)
 
-by-pitch-requires : tie.Need-by-pitch-requires
-by-pitch-requires c κs = search needs
-
 returns-3 : tie.Need-returns-3
 returns-3 c =
     let sorted = c .before .before .before in
@@ -60,13 +48,5 @@ returns-3 c =
 pub findings-spec : {M : Type 1} → statement M
 findings-spec =
     tie.close
-    (tie.spec
-    read-requires
-    put-refusal-requires
-    returns
-    slice-aggregate-by-file
-    by-file-requires
-    returns-2
-    slice-aggregate-by-pitch
-    by-pitch-requires
-    returns-3)
+    (tie.spec (λ c κs. search needs) (λ c κs. search needs) returns slice-aggregate-by-file (λ c κs. search needs)
+    returns-2 slice-aggregate-by-pitch (λ c κs. search needs) returns-3)

@@ -6,12 +6,6 @@ use borrow.Author.Needs.{needs}
 use Rattle.sorted_findings.proofs.put_compared.Statement.{statement}
 use Rattle.sorted_findings.proofs.put_compared.Tie as tie
 
-parts-requires : tie.Need-parts-requires
-parts-requires c κs = search needs
-
-put-refusal-requires : tie.Need-put-refusal-requires
-put-refusal-requires c κs = search needs
-
 returns : tie.Need-returns
 returns c =
     let refused = c .before .before in
@@ -49,5 +43,5 @@ returns-2 c =
 pub put-compared-spec : {M : Type 1} → statement M
 put-compared-spec =
     tie.close
-    (tie.spec (λ c. search needs) (λ c. search needs) parts-requires put-refusal-requires returns order-lines-requires
-    (λ c. search needs) put-found-requires returns-2)
+    (tie.spec (λ c. search needs) (λ c. search needs) (λ c κs. search needs) (λ c κs. search needs) returns
+    order-lines-requires (λ c. search needs) put-found-requires returns-2)

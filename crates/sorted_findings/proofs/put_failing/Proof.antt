@@ -8,9 +8,6 @@ use borrow.Author.Needs.{needs}
 use Rattle.sorted_findings.proofs.put_failing.Statement.{statement}
 use Rattle.sorted_findings.proofs.put_failing.Tie as tie
 
-failing-line-requires : tie.Need-failing-line-requires
-failing-line-requires c κs = search needs
-
 part-put-end : tie.Need-part-put-end
 part-put-end c =
     let made = c .before .before in
@@ -39,4 +36,4 @@ returns c =
 pub put-failing-spec : {M : Type 1} → statement M
 put-failing-spec =
     tie.close
-    (tie.spec failing-line-requires (λ c. search needs) (λ c. search needs) part-put-end put-requires returns)
+    (tie.spec (λ c κs. search needs) (λ c. search needs) (λ c. search needs) part-put-end put-requires returns)

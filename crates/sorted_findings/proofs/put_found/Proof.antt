@@ -7,18 +7,12 @@ use borrow.Author.Needs.{needs}
 use Rattle.sorted_findings.proofs.put_found.Statement.{statement}
 use Rattle.sorted_findings.proofs.put_found.Tie as tie
 
-put-requires : tie.Need-put-requires
-put-requires c κs = search needs
-
 returns : tie.Need-returns
 returns c =
     let same = c .before .before .before in
     let a = same .before .before .before .before .before .args in
     let found : Parting = record { number = a .parted .number; point = a .parted .point; place = a .parted .place; contents = a .contents .now; items = a .items .now } in
     rw (found-equal (a .text) (a .first .now) (a .second .now) found (same .if1 .taken)) (c .put .ensures)
-
-differ-by-requires : tie.Need-differ-by-requires
-differ-by-requires c κs = search needs
 
 put-failing-requires : tie.Need-put-failing-requires
 put-failing-requires c κs =
@@ -39,4 +33,4 @@ returns-2 c =
 pub put-found-spec : {M : Type 1} → statement M
 put-found-spec =
     tie.close
-    (tie.spec (λ c. search needs) put-requires returns differ-by-requires put-failing-requires returns-2)
+    (tie.spec (λ c. search needs) (λ c κs. search needs) returns (λ c κs. search needs) put-failing-requires returns-2)

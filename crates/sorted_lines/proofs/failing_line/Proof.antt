@@ -22,9 +22,6 @@ difference-ends c =
     let pointed = placed .before .before .before in
     omega (arith, difference-end _ (pointed .before .before .before .args .difference) (c .put-difference .ensures .0), place-ends placed)
 
-put-named-requires : tie.Need-put-named-requires
-put-named-requires c κs = search needs
-
 put-named-requires-2 : tie.Need-put-named-requires-2
 put-named-requires-2 c κs = omega (arith, point-ends (c .before .before))
 
@@ -56,5 +53,5 @@ returns c =
 pub failing-line-spec : {M : Type 1} → statement M
 failing-line-spec =
     tie.close
-    (tie.spec (λ c. search needs) put-named-requires (λ c. search needs) put-named-requires-2 put-difference-requires
-    (λ c. search needs) put-requires returns)
+    (tie.spec (λ c. search needs) (λ c κs. search needs) (λ c. search needs) put-named-requires-2
+    put-difference-requires (λ c. search needs) put-requires returns)

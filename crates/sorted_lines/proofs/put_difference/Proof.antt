@@ -11,17 +11,11 @@ cast-put-named c =
     let small = rw (told .difference .given .1) at (told .before .before .pre .1) in
     record { fits = omega (arith, small) }
 
-put-named-requires : tie.Need-put-named-requires
-put-named-requires c κs = search needs
-
 cast-put-named-2 : tie.Need-cast-put-named-2
 cast-put-named-2 c =
     let told = c .before .before .before in
     let small = rw (told .difference2 .given .1) at (told .before .before .pre .1) in
     record { fits = omega (arith, small) }
-
-put-named-requires-2 : tie.Need-put-named-requires-2
-put-named-requires-2 c κs = search needs
 
 returns : tie.Need-returns
 returns c = rw (c .before .before .before .before .difference .given .1) (c .put-named .ensures)
@@ -32,5 +26,5 @@ returns-2 c = rw (c .before .before .before .before .difference2 .given .1) (c .
 pub put-difference-spec : {M : Type 1} → statement M
 put-difference-spec =
     tie.close
-    (tie.spec (λ c. search needs) (λ c. search needs) cast-put-named put-named-requires (λ c. search needs)
-    (λ c. search needs) cast-put-named-2 put-named-requires-2 returns returns-2)
+    (tie.spec (λ c. search needs) (λ c. search needs) cast-put-named (λ c κs. search needs) (λ c. search needs)
+    (λ c. search needs) cast-put-named-2 (λ c κs. search needs) returns returns-2)

@@ -8,9 +8,6 @@ use borrow.Author.Needs.{needs}
 use Rattle.sorted_lines.proofs.put_entry.Statement.{statement}
 use Rattle.sorted_lines.proofs.put_entry.Tie as tie
 
-entry-line-requires : tie.Need-entry-line-requires
-entry-line-requires c κs = search needs
-
 part-put-end : tie.Need-part-put-end
 part-put-end c =
     let made = c .before .before in
@@ -34,5 +31,5 @@ returns c =
 pub put-entry-spec : {M : Type 1} → statement M
 put-entry-spec =
     tie.close
-    (tie.spec entry-line-requires (λ c. search needs) (λ c. search needs) part-put-end put-requires (λ c. search needs)
-    returns)
+    (tie.spec (λ c κs. search needs) (λ c. search needs) (λ c. search needs) part-put-end put-requires
+    (λ c. search needs) returns)

@@ -5,9 +5,6 @@ use borrow.Author.Needs.{needs}
 use Rattle.speed.proofs.generator_at.Statement.{statement}
 use Rattle.speed.proofs.generator_at.Tie as tie
 
-load-requires : tie.Need-load-requires
-load-requires c κs = search needs
-
 returns : tie.Need-returns
 returns c = rw (c .load .ensures) (ranged _)
 
@@ -15,4 +12,4 @@ pub generator-at-spec : {M : Type 1} → statement M
 generator-at-spec =
     tie.close
     (tie.spec (λ c. search needs) (λ c. search needs) (λ c. search needs) (λ c. search needs) (λ c. search needs)
-    load-requires returns)
+    (λ c κs. search needs) returns)

@@ -12,11 +12,8 @@ Inv-loop check words check₀ i₀ check' i = i ≤ length words
 abbrev μ-loop : tie.MeasureT-loop
 μ-loop check words check₀ i₀ check' i = length words - i
 
-mixed-requires : tie.Need-mixed-requires Inv-loop μ-loop
-mixed-requires c κs = search needs
-
 pub mixed-all-spec : {M : Type 1} → statement M
 mixed-all-spec =
     tie.close
-    (tie.spec Inv-loop μ-loop (λ c. search needs) (λ c. search needs) (λ c. search needs) mixed-requires
+    (tie.spec Inv-loop μ-loop (λ c. search needs) (λ c. search needs) (λ c. search needs) (λ c κs. search needs)
     (λ c. search needs) (λ c. search needs) (λ c. search needs) (λ c. search needs))

@@ -6,15 +6,6 @@ use borrow.Author.Needs.{needs}
 use Rattle.speed.proofs.multiplied.Statement.{statement}
 use Rattle.speed.proofs.multiplied.Tie as tie
 
-wrapping-add-u32-requires : tie.Need-wrapping-add-u32-requires
-wrapping-add-u32-requires c κs = search needs
-
-multiply-requires : tie.Need-multiply-requires
-multiply-requires c κs = search needs
-
-add20-requires : tie.Need-add20-requires
-add20-requires c κs = search needs
-
 returns : tie.Need-returns
 unfolding sum
 returns c = rw (c .add20 .ensures) (low-lt 20 _)
@@ -22,4 +13,4 @@ returns c = rw (c .add20 .ensures) (low-lt 20 _)
 pub multiplied-spec : {M : Type 1} → statement M
 multiplied-spec =
     tie.close
-    (tie.spec (λ c. search needs) wrapping-add-u32-requires multiply-requires add20-requires returns)
+    (tie.spec (λ c. search needs) (λ c κs. search needs) (λ c κs. search needs) (λ c κs. search needs) returns)

@@ -11,11 +11,8 @@ Inv-loop x count x₀ i₀ x' i = (x' < 2 ^ 20) × (i ≤ count)
 abbrev μ-loop : tie.MeasureT-loop
 μ-loop x count x₀ i₀ x' i = count - i
 
-multiplied-requires : tie.Need-multiplied-requires Inv-loop μ-loop
-multiplied-requires c κs = search needs
-
 pub products-spec : {M : Type 1} → statement M
 products-spec =
     tie.close
-    (tie.spec Inv-loop μ-loop (λ c. search needs) multiplied-requires (λ c. search needs) (λ c. search needs)
+    (tie.spec Inv-loop μ-loop (λ c. search needs) (λ c κs. search needs) (λ c. search needs) (λ c. search needs)
     (λ c. search needs) (λ c. search needs))

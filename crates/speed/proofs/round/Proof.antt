@@ -13,14 +13,8 @@ Inv-loop m₀ sums₀ fired sine decay modes fired₀ n₀ m sums fired' n = (le
 abbrev μ-loop : tie.MeasureT-loop
 μ-loop m₀ sums₀ fired sine decay modes fired₀ n₀ m sums fired' n = 256 - n
 
-turn-at-requires : tie.Need-turn-at-requires Inv-loop μ-loop
-turn-at-requires c κs = search needs
-
-wrapping-add-u32-requires : tie.Need-wrapping-add-u32-requires Inv-loop μ-loop
-wrapping-add-u32-requires c κs = search needs
-
 pub round-spec : {M : Type 1} → statement M
 round-spec =
     tie.close
-    (tie.spec Inv-loop μ-loop (λ c. search needs) turn-at-requires wrapping-add-u32-requires (λ c. search needs)
+    (tie.spec Inv-loop μ-loop (λ c. search needs) (λ c κs. search needs) (λ c κs. search needs) (λ c. search needs)
     (λ c. search needs) (λ c. search needs) (λ c. search needs) (λ c. search needs))

@@ -13,11 +13,8 @@ Inv-loop m₀ sums₀ count sine decay modes fired₀ r₀ m sums fired r = (len
 abbrev μ-loop : tie.MeasureT-loop
 μ-loop m₀ sums₀ count sine decay modes fired₀ r₀ m sums fired r = count - r
 
-round-requires : tie.Need-round-requires Inv-loop μ-loop
-round-requires c κs = search needs
-
 pub rounds-spec : {M : Type 1} → statement M
 rounds-spec =
     tie.close
-    (tie.spec Inv-loop μ-loop (λ c. search needs) round-requires (λ c. search needs) (λ c. search needs)
+    (tie.spec Inv-loop μ-loop (λ c. search needs) (λ c κs. search needs) (λ c. search needs) (λ c. search needs)
     (λ c. search needs) (λ c. search needs) (λ c. search needs))

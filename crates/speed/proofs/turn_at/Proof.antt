@@ -20,12 +20,6 @@ envelope-on r e n = go (envelopeOn r) refl
     go true h = refl
     go false h = absurd (n (rw e (off r h)))
 
-generator-at-requires : tie.Need-generator-at-requires
-generator-at-requires c κs = search needs
-
-switches-of-requires : tie.Need-switches-of-requires
-switches-of-requires c κs = search needs
-
 sound-at-requires : tie.Need-sound-at-requires
 sound-at-requires c κs =
     let b = c .before .before .before .before in
@@ -36,5 +30,5 @@ sound-at-requires c κs =
 pub turn-at-spec : {M : Type 1} → statement M
 turn-at-spec =
     tie.close
-    (tie.spec generator-at-requires switches-of-requires (λ c. search needs) (λ c. search needs) sound-at-requires
+    (tie.spec (λ c κs. search needs) (λ c κs. search needs) (λ c. search needs) (λ c. search needs) sound-at-requires
     (λ c. search needs) (λ c. search needs))

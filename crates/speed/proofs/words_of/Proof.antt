@@ -13,12 +13,9 @@ Inv-loop b m₀ i₀ m i = (length m ≡ 2816) × (i ≤ 2816)
 abbrev μ-loop : tie.MeasureT-loop
 μ-loop b m₀ i₀ m i = 2816 - i
 
-word-at-requires : tie.Need-word-at-requires Inv-loop μ-loop
-word-at-requires c κs = search needs
-
 pub words-of-spec : {M : Type 1} → statement M
 words-of-spec =
     tie.close
-    (tie.spec Inv-loop μ-loop (λ c. search needs) (λ c. search needs) word-at-requires (λ c. search needs)
+    (tie.spec Inv-loop μ-loop (λ c. search needs) (λ c. search needs) (λ c κs. search needs) (λ c. search needs)
     (λ c. search needs) (λ c. search needs) (λ c. search needs) (λ c. simp length-set (search needs))
     (λ c. search needs) (λ c. search needs))

@@ -5,18 +5,6 @@ use Rattle.sums.proofs.Closing.{close-code}
 use Rattle.sums.proofs.close.Statement.{statement}
 use Rattle.sums.proofs.close.Tie as tie
 
-put-quadrant-at-requires : tie.Need-put-quadrant-at-requires
-put-quadrant-at-requires c κs = search needs
-
-put-quadrant-at-requires-2 : tie.Need-put-quadrant-at-requires-2
-put-quadrant-at-requires-2 c κs = search needs
-
-put-quadrant-at-requires-3 : tie.Need-put-quadrant-at-requires-3
-put-quadrant-at-requires-3 c κs = search needs
-
-put-quadrant-at-requires-4 : tie.Need-put-quadrant-at-requires-4
-put-quadrant-at-requires-4 c κs = search needs
-
 returns : tie.Need-returns
 returns c =
     let c₄ = c .before .before in
@@ -30,5 +18,5 @@ returns c =
 pub close-spec : {M : Type 1} → statement M
 close-spec =
     tie.close
-    (tie.spec put-quadrant-at-requires (λ c. search needs) put-quadrant-at-requires-2 put-quadrant-at-requires-3
-    (λ c. search needs) put-quadrant-at-requires-4 (λ c. search needs) returns)
+    (tie.spec (λ c κs. search needs) (λ c. search needs) (λ c κs. search needs) (λ c κs. search needs)
+    (λ c. search needs) (λ c κs. search needs) (λ c. search needs) returns)

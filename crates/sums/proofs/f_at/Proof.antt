@@ -6,21 +6,13 @@ use Rattle.sums.specs.Sums.{fAt}
 use Rattle.sums.proofs.f_at.Statement.{statement}
 use Rattle.sums.proofs.f_at.Tie as tie
 
-quadrant-word-requires : tie.Need-quadrant-word-requires
-quadrant-word-requires c κs = search needs
-
 returns : tie.Need-returns
 unfolding fAt
 returns c = rw (eq-eqb _ 0 (c .before .if1 .taken)) (c .quadrant-word .ensures)
-
-quadrant-word-requires-2 : tie.Need-quadrant-word-requires-2
-quadrant-word-requires-2 c κs = search needs
 
 returns-2 : tie.Need-returns-2
 unfolding fAt
 returns-2 c = rw (ne-eqb _ 0 (c .before .if1 .left)) (c .quadrant-word2 .ensures)
 
 pub f-at-spec : {M : Type 1} → statement M
-f-at-spec =
-    tie.close
-    (tie.spec (λ c. search needs) quadrant-word-requires returns quadrant-word-requires-2 returns-2)
+f-at-spec = tie.close (tie.spec (λ c. search needs) (λ c κs. search needs) returns (λ c κs. search needs) returns-2)

@@ -5,18 +5,6 @@ use Rattle.sums.proofs.Memory.{load-code}
 use Rattle.sums.proofs.load.Statement.{statement}
 use Rattle.sums.proofs.load.Tie as tie
 
-quadrant-at-requires : tie.Need-quadrant-at-requires
-quadrant-at-requires c κs = search needs
-
-quadrant-at-requires-2 : tie.Need-quadrant-at-requires-2
-quadrant-at-requires-2 c κs = search needs
-
-quadrant-at-requires-3 : tie.Need-quadrant-at-requires-3
-quadrant-at-requires-3 c κs = search needs
-
-quadrant-at-requires-4 : tie.Need-quadrant-at-requires-4
-quadrant-at-requires-4 c κs = search needs
-
 returns : tie.Need-returns
 returns c =
     let c₃ = c .before in
@@ -28,9 +16,4 @@ returns c =
 pub load-spec : {M : Type 1} → statement M
 load-spec =
     tie.close
-    (tie.spec
-    quadrant-at-requires
-    quadrant-at-requires-2
-    quadrant-at-requires-3
-    quadrant-at-requires-4
-    returns)
+    (tie.spec (λ c κs. search needs) (λ c κs. search needs) (λ c κs. search needs) (λ c κs. search needs) returns)

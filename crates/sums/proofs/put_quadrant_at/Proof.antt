@@ -6,9 +6,6 @@ use Rattle.sums.proofs.Blocks.{part-back}
 use Rattle.sums.proofs.put_quadrant_at.Statement.{statement}
 use Rattle.sums.proofs.put_quadrant_at.Tie as tie
 
-put-quadrant-requires : tie.Need-put-quadrant-requires
-put-quadrant-requires c κs = search needs
-
 returns : tie.Need-returns
 returns c =
     let a = c .before .before .before .before .before .before .args in
@@ -17,5 +14,5 @@ returns c =
 pub put-quadrant-at-spec : {M : Type 1} → statement M
 put-quadrant-at-spec =
     tie.close
-    (tie.spec (λ c. search needs) (λ c. search needs) (λ c. search needs) (λ c. search needs) put-quadrant-requires
+    (tie.spec (λ c. search needs) (λ c. search needs) (λ c. search needs) (λ c. search needs) (λ c κs. search needs)
     (λ c. search needs) returns)

@@ -5,13 +5,11 @@ use Rattle.lists.proofs.Parts.{part-from}
 use Rattle.sums.proofs.quadrant_at.Statement.{statement}
 use Rattle.sums.proofs.quadrant_at.Tie as tie
 
-quadrant-requires : tie.Need-quadrant-requires
-quadrant-requires c κs = search needs
-
 returns : tie.Need-returns
 returns c = rw (c .quadrant .ensures, part-from)
 
 pub quadrant-at-spec : {M : Type 1} → statement M
 quadrant-at-spec =
     tie.close
-    (tie.spec (λ c. search needs) (λ c. search needs) (λ c. search needs) (λ c. search needs) quadrant-requires returns)
+    (tie.spec (λ c. search needs) (λ c. search needs) (λ c. search needs) (λ c. search needs) (λ c κs. search needs)
+    returns)

@@ -10,9 +10,6 @@ use Rattle.texts.proofs.One.{one}
 use Rattle.texts.proofs.dac_number.Statement.{statement}
 use Rattle.texts.proofs.dac_number.Tie as tie
 
-wide-requires : tie.Need-wide-requires
-wide-requires c κs = search needs
-
 returns : tie.Need-returns
 returns c =
     let b = c .before .before .before .args in
@@ -22,4 +19,5 @@ returns c =
 pub dac-number-spec : {M : Type 1} → statement M
 dac-number-spec =
     tie.close
-    (tie.spec (λ c. search needs) (λ c. search needs) (λ c. search needs) (λ c. search needs) wide-requires returns)
+    (tie.spec (λ c. search needs) (λ c. search needs) (λ c. search needs) (λ c. search needs) (λ c κs. search needs)
+    returns)

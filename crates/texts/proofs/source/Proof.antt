@@ -5,11 +5,8 @@ use Rattle.texts.proofs.One.{one}
 use Rattle.texts.proofs.source.Statement.{statement}
 use Rattle.texts.proofs.source.Tie as tie
 
-gfm-requires : tie.Need-gfm-requires
-gfm-requires c κs = search needs
-
 returns : tie.Need-returns
 returns c = rw (one (c .before .before .args .text)) (c .gfm .ensures)
 
 pub source-spec : {M : Type 1} → statement M
-source-spec = tie.close (tie.spec gfm-requires returns)
+source-spec = tie.close (tie.spec (λ c κs. search needs) returns)

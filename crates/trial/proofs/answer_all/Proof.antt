@@ -13,11 +13,8 @@ Inv-loop input output₀ count sine decay modes n₀ output n = (length output �
 abbrev μ-loop : tie.MeasureT-loop
 μ-loop input output₀ count sine decay modes n₀ output n = count - n
 
-answer-at-requires : tie.Need-answer-at-requires Inv-loop μ-loop
-answer-at-requires c κs = search needs
-
 pub answer-all-spec : {M : Type 1} → statement M
 answer-all-spec =
     tie.close
-    (tie.spec Inv-loop μ-loop (λ c. search needs) answer-at-requires (λ c. search needs) (λ c. search needs)
+    (tie.spec Inv-loop μ-loop (λ c. search needs) (λ c κs. search needs) (λ c. search needs) (λ c. search needs)
     (λ c. search needs) (λ c. search needs) (λ c. search needs))

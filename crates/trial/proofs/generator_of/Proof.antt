@@ -5,13 +5,10 @@ use borrow.Author.Needs.{needs}
 use Rattle.trial.proofs.generator_of.Statement.{statement}
 use Rattle.trial.proofs.generator_of.Tie as tie
 
-load-requires : tie.Need-load-requires
-load-requires c κs = search needs
-
 returns : tie.Need-returns
 returns c = rw (c .load .ensures) (ranged _)
 
 pub generator-of-spec : {M : Type 1} → statement M
 generator-of-spec =
     tie.close
-    (tie.spec (λ c. search needs) (λ c. search needs) (λ c. search needs) load-requires returns)
+    (tie.spec (λ c. search needs) (λ c. search needs) (λ c. search needs) (λ c κs. search needs) returns)

@@ -8,12 +8,6 @@ use borrow.Author.Needs.{needs}
 use Rattle.trial.proofs.old_generator_turn.Statement.{statement}
 use Rattle.trial.proofs.old_generator_turn.Tie as tie
 
-generator-of-requires : tie.Need-generator-of-requires
-generator-of-requires c κs = search needs
-
-run-mode-requires : tie.Need-run-mode-requires
-run-mode-requires c κs = search needs
-
 switches-of-requires : tie.Need-switches-of-requires
 switches-of-requires c κs = (c .before .before .before .pre .2, rw (c .run-mode .ensures) (switched-low _ _))
 
@@ -27,24 +21,9 @@ play-requires c κs =
     rw (← (run .run-mode .ensures))
     (loaded .generator-of .ensures, ((pre .0, pre .1), ((on, sym (envelope-tells _) ∙ rw (← on) (eq-eqb _ _ (c .if1 .taken))), search needs)))
 
-brought-requires : tie.Need-brought-requires
-brought-requires c κs = search needs
-
-wait-requires : tie.Need-wait-requires
-wait-requires c κs = search needs
-
-registers-requires : tie.Need-registers-requires
-registers-requires c κs = search needs
-
-registers-requires-2 : tie.Need-registers-requires-2
-registers-requires-2 c κs = search needs
-
-angle-requires : tie.Need-angle-requires
-angle-requires c κs = search needs
-
 pub old-generator-turn-spec : {M : Type 1} → statement M
 old-generator-turn-spec =
     tie.close
-    (tie.spec generator-of-requires run-mode-requires switches-of-requires (λ c. search needs) play-requires brought-requires
-    (λ c. search needs) (λ c. search needs) wait-requires registers-requires (λ c. search needs) registers-requires-2
-    angle-requires (λ c. search needs) (λ c. search needs))
+    (tie.spec (λ c κs. search needs) (λ c κs. search needs) switches-of-requires (λ c. search needs) play-requires
+    (λ c κs. search needs) (λ c. search needs) (λ c. search needs) (λ c κs. search needs) (λ c κs. search needs)
+    (λ c. search needs) (λ c κs. search needs) (λ c κs. search needs) (λ c. search needs) (λ c. search needs))

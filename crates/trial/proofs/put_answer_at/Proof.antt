@@ -13,12 +13,9 @@ Inv-loop output₀ n r i₀ output i = (length output ≡ length output₀) × (
 abbrev μ-loop : tie.MeasureT-loop
 μ-loop output₀ n r i₀ output i = 16 - i
 
-put-word-at-requires : tie.Need-put-word-at-requires Inv-loop μ-loop
-put-word-at-requires c κs = search needs
-
 pub put-answer-at-spec : {M : Type 1} → statement M
 put-answer-at-spec =
     tie.close
     (tie.spec Inv-loop μ-loop (λ c. search needs) (λ c. search needs) (λ c. search needs) (λ c. search needs)
-    (λ c. search needs) put-word-at-requires (λ c. search needs) (λ c. search needs) (λ c. search needs)
+    (λ c. search needs) (λ c κs. search needs) (λ c. search needs) (λ c. search needs) (λ c. search needs)
     (λ c. search needs) (λ c. search needs))

@@ -13,12 +13,9 @@ Inv-loop input n x₀ i₀ x i = (length x ≡ 16) × (i ≤ 16)
 abbrev μ-loop : tie.MeasureT-loop
 μ-loop input n x₀ i₀ x i = 16 - i
 
-word-at-requires : tie.Need-word-at-requires Inv-loop μ-loop
-word-at-requires c κs = search needs
-
 pub request-at-spec : {M : Type 1} → statement M
 request-at-spec =
     tie.close
-    (tie.spec Inv-loop μ-loop (λ c. search needs) (λ c. search needs) (λ c. search needs) word-at-requires
+    (tie.spec Inv-loop μ-loop (λ c. search needs) (λ c. search needs) (λ c. search needs) (λ c κs. search needs)
     (λ c. search needs) (λ c. search needs) (λ c. search needs) (λ c. search needs)
     (λ c. simp length-set (search needs)) (λ c. search needs))

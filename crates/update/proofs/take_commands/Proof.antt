@@ -25,9 +25,6 @@ slice-read-wide c =
     let r = passes-reach (start .args .m .now) (start .pre) in
     omega (arith, r .all)
 
-wide-requires : tie.Need-wide-requires
-wide-requires c κs = search needs
-
 slice-write-m : tie.Need-slice-write-m
 slice-write-m c =
     let going = c .before .before in
@@ -62,5 +59,5 @@ returns-2 c =
 pub take-commands-spec : {M : Type 1} → statement M
 take-commands-spec =
     tie.close
-    (tie.spec still-lingering-requires (λ c. search needs) returns slice-read-wide wide-requires slice-write-m
+    (tie.spec still-lingering-requires (λ c. search needs) returns slice-read-wide (λ c κs. search needs) slice-write-m
     run-requires same-length-2 returns-2)

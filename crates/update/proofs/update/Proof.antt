@@ -5,18 +5,12 @@ use borrow.Author.Needs.{needs}
 use Rattle.update.proofs.update.Statement.{statement}
 use Rattle.update.proofs.update.Tie as tie
 
-refusal-requires : tie.Need-refusal-requires
-refusal-requires c κs = search needs
-
 returns : tie.Need-returns
 returns c =
     let asked = c .before in
     let a = asked .before .before .before .before .args in
     let q = update-refused (a .m .now) (a .commands .now) (asked .refusal .ensures) (c .if1 .taken) in
     (q, place-whole (a .commands .ptr) (a .m .now) (a .commands .now) q)
-
-take-commands-requires : tie.Need-take-commands-requires
-take-commands-requires c κs = search needs
 
 returns-2 : tie.Need-returns-2
 returns-2 c =
@@ -28,5 +22,5 @@ returns-2 c =
 pub update-spec : {M : Type 1} → statement M
 update-spec =
     tie.close
-    (tie.spec refusal-requires (λ c. search needs) returns take-commands-requires (λ c. search needs)
+    (tie.spec (λ c κs. search needs) (λ c. search needs) returns (λ c κs. search needs) (λ c. search needs)
     (λ c. search needs) (λ c. search needs) (λ c. search needs) (λ c. search needs) returns-2)

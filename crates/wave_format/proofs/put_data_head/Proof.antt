@@ -6,12 +6,6 @@ use borrow.Author.Needs.{needs}
 use Rattle.wave_format.proofs.put_data_head.Statement.{statement}
 use Rattle.wave_format.proofs.put_data_head.Tie as tie
 
-put-requires : tie.Need-put-requires
-put-requires c κs = search needs
-
-put-number-requires : tie.Need-put-number-requires
-put-number-requires c κs = search needs
-
 returns : tie.Need-returns
 returns c =
     let size = c .before .before in
@@ -22,4 +16,4 @@ returns c =
 pub put-data-head-spec : {M : Type 1} → statement M
 put-data-head-spec =
     tie.close
-    (tie.spec (λ c. search needs) put-requires put-number-requires (λ c. search needs) returns)
+    (tie.spec (λ c. search needs) (λ c κs. search needs) (λ c κs. search needs) (λ c. search needs) returns)

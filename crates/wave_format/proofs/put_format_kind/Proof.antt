@@ -6,18 +6,6 @@ use borrow.Author.Needs.{needs}
 use Rattle.wave_format.proofs.put_format_kind.Statement.{statement}
 use Rattle.wave_format.proofs.put_format_kind.Tie as tie
 
-put-requires : tie.Need-put-requires
-put-requires c κs = search needs
-
-put-number-requires : tie.Need-put-number-requires
-put-number-requires c κs = search needs
-
-put-number-requires-2 : tie.Need-put-number-requires-2
-put-number-requires-2 c κs = search needs
-
-put-number-requires-3 : tie.Need-put-number-requires-3
-put-number-requires-3 c κs = search needs
-
 returns : tie.Need-returns
 returns c =
     let fourth = c .before .before in
@@ -30,5 +18,5 @@ returns c =
 pub put-format-kind-spec : {M : Type 1} → statement M
 put-format-kind-spec =
     tie.close
-    (tie.spec (λ c. search needs) put-requires put-number-requires put-number-requires-2 put-number-requires-3
-    (λ c. search needs) returns)
+    (tie.spec (λ c. search needs) (λ c κs. search needs) (λ c κs. search needs) (λ c κs. search needs)
+    (λ c κs. search needs) (λ c. search needs) returns)

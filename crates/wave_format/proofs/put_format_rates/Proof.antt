@@ -5,18 +5,6 @@ use borrow.Author.Needs.{needs}
 use Rattle.wave_format.proofs.put_format_rates.Statement.{statement}
 use Rattle.wave_format.proofs.put_format_rates.Tie as tie
 
-put-number-requires : tie.Need-put-number-requires
-put-number-requires c κs = search needs
-
-put-number-requires-2 : tie.Need-put-number-requires-2
-put-number-requires-2 c κs = search needs
-
-put-number-requires-3 : tie.Need-put-number-requires-3
-put-number-requires-3 c κs = search needs
-
-put-number-requires-4 : tie.Need-put-number-requires-4
-put-number-requires-4 c κs = search needs
-
 returns : tie.Need-returns
 returns c =
     let fourth = c .before .before in
@@ -29,5 +17,5 @@ returns c =
 pub put-format-rates-spec : {M : Type 1} → statement M
 put-format-rates-spec =
     tie.close
-    (tie.spec put-number-requires (λ c. search needs) put-number-requires-2 put-number-requires-3 put-number-requires-4
-    (λ c. search needs) returns)
+    (tie.spec (λ c κs. search needs) (λ c. search needs) (λ c κs. search needs) (λ c κs. search needs)
+    (λ c κs. search needs) (λ c. search needs) returns)

@@ -5,12 +5,6 @@ use borrow.Author.Needs.{needs}
 use Rattle.wave_format.proofs.put_frame.Statement.{statement}
 use Rattle.wave_format.proofs.put_frame.Tie as tie
 
-put-number-requires : tie.Need-put-number-requires
-put-number-requires c κs = search needs
-
-put-number-requires-2 : tie.Need-put-number-requires-2
-put-number-requires-2 c κs = search needs
-
 returns : tie.Need-returns
 returns c =
     let right = c .before .before in
@@ -21,5 +15,5 @@ returns c =
 pub put-frame-spec : {M : Type 1} → statement M
 put-frame-spec =
     tie.close
-    (tie.spec (λ c. search needs) put-number-requires (λ c. search needs) put-number-requires-2 (λ c. search needs)
+    (tie.spec (λ c. search needs) (λ c κs. search needs) (λ c. search needs) (λ c κs. search needs) (λ c. search needs)
     returns)

@@ -5,18 +5,6 @@ use borrow.Author.Needs.{needs}
 use Rattle.wave_format.proofs.put_header.Statement.{statement}
 use Rattle.wave_format.proofs.put_header.Tie as tie
 
-put-riff-requires : tie.Need-put-riff-requires
-put-riff-requires c κs = search needs
-
-put-format-kind-requires : tie.Need-put-format-kind-requires
-put-format-kind-requires c κs = search needs
-
-put-format-rates-requires : tie.Need-put-format-rates-requires
-put-format-rates-requires c κs = search needs
-
-put-data-head-requires : tie.Need-put-data-head-requires
-put-data-head-requires c κs = search needs
-
 returns : tie.Need-returns
 returns c =
     let fourth = c .before .before in
@@ -29,5 +17,5 @@ returns c =
 pub put-header-spec : {M : Type 1} → statement M
 put-header-spec =
     tie.close
-    (tie.spec put-riff-requires put-format-kind-requires put-format-rates-requires put-data-head-requires
+    (tie.spec (λ c κs. search needs) (λ c κs. search needs) (λ c κs. search needs) (λ c κs. search needs)
     (λ c. search needs) returns)

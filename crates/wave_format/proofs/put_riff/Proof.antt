@@ -6,15 +6,6 @@ use borrow.Author.Needs.{needs}
 use Rattle.wave_format.proofs.put_riff.Statement.{statement}
 use Rattle.wave_format.proofs.put_riff.Tie as tie
 
-put-requires : tie.Need-put-requires
-put-requires c κs = search needs
-
-put-number-requires : tie.Need-put-number-requires
-put-number-requires c κs = search needs
-
-put-requires-2 : tie.Need-put-requires-2
-put-requires-2 c κs = search needs
-
 returns : tie.Need-returns
 returns c =
     let end = c .before .before in
@@ -26,5 +17,5 @@ returns c =
 pub put-riff-spec : {M : Type 1} → statement M
 put-riff-spec =
     tie.close
-    (tie.spec (λ c. search needs) put-requires (λ c. search needs) put-number-requires (λ c. search needs)
-    put-requires-2 (λ c. search needs) returns)
+    (tie.spec (λ c. search needs) (λ c κs. search needs) (λ c. search needs) (λ c κs. search needs) (λ c. search needs)
+    (λ c κs. search needs) (λ c. search needs) returns)

@@ -6,11 +6,8 @@ use Rattle.words.proofs.Residues.{plus-code}
 use Rattle.words.proofs.add12.Statement.{statement}
 use Rattle.words.proofs.add12.Tie as tie
 
-wrapping-add-u32-requires : tie.Need-wrapping-add-u32-requires
-wrapping-add-u32-requires c κs = search needs
-
 returns : tie.Need-returns
 returns c = plus-code 12 _ (lit≤ tt) (c .wrapping-add-u32 .ensures)
 
 pub add12-spec : {M : Type 1} → statement M
-add12-spec = tie.close (tie.spec wrapping-add-u32-requires returns)
+add12-spec = tie.close (tie.spec (λ c κs. search needs) returns)

@@ -6,11 +6,8 @@ use Rattle.words.proofs.Residues.{sum-code}
 use Rattle.words.proofs.add20.Statement.{statement}
 use Rattle.words.proofs.add20.Tie as tie
 
-wrapping-add-u32-requires : tie.Need-wrapping-add-u32-requires
-wrapping-add-u32-requires c κs = search needs
-
 returns : tie.Need-returns
 returns c = sum-code 20 _ _ (lit≤ tt) (c .before .pre .0) (c .before .pre .1) (c .wrapping-add-u32 .ensures)
 
 pub add20-spec : {M : Type 1} → statement M
-add20-spec = tie.close (tie.spec wrapping-add-u32-requires returns)
+add20-spec = tie.close (tie.spec (λ c κs. search needs) returns)

@@ -6,11 +6,8 @@ use Rattle.words.proofs.Ranges.{beyond-code}
 use Rattle.words.proofs.beyond20.Statement.{statement}
 use Rattle.words.proofs.beyond20.Tie as tie
 
-wrapping-add-u32-requires : tie.Need-wrapping-add-u32-requires
-wrapping-add-u32-requires c κs = search needs
-
 returns : tie.Need-returns
 returns c = beyond-code (c .before .args .exact) (omega arith) (c .wrapping-add-u32 .ensures)
 
 pub beyond20-spec : {M : Type 1} → statement M
-beyond20-spec = tie.close (tie.spec wrapping-add-u32-requires returns)
+beyond20-spec = tie.close (tie.spec (λ c κs. search needs) returns)

@@ -7,15 +7,6 @@ use Rattle.words.proofs.Ranges.{exact-code}
 use Rattle.words.proofs.exact20.Statement.{statement}
 use Rattle.words.proofs.exact20.Tie as tie
 
-extend20-requires : tie.Need-extend20-requires
-extend20-requires c κs = search needs
-
-extend20-requires-2 : tie.Need-extend20-requires-2
-extend20-requires-2 c κs = search needs
-
-wrapping-add-u32-requires : tie.Need-wrapping-add-u32-requires
-wrapping-add-u32-requires c κs = search needs
-
 returns : tie.Need-returns
 returns c =
     let second = c .before in
@@ -24,4 +15,4 @@ returns c =
     exact-code 20 _ _ refl (lit≤ tt) (start .pre .0) (start .pre .1) (first .extend20 .ensures) (second .extend202 .ensures) (c .wrapping-add-u32 .ensures)
 
 pub exact20-spec : {M : Type 1} → statement M
-exact20-spec = tie.close (tie.spec extend20-requires extend20-requires-2 wrapping-add-u32-requires returns)
+exact20-spec = tie.close (tie.spec (λ c κs. search needs) (λ c κs. search needs) (λ c κs. search needs) returns)

@@ -11,12 +11,6 @@ use Rattle.words.proofs.Residues.{minus-code}
 use Rattle.words.proofs.extend20.Statement.{statement}
 use Rattle.words.proofs.extend20.Tie as tie
 
-biased20-requires : tie.Need-biased20-requires
-biased20-requires c κs = search needs
-
-wrapping-sub-u32-requires : tie.Need-wrapping-sub-u32-requires
-wrapping-sub-u32-requires c κs = search needs
-
 returns : tie.Need-returns
 unfolding extended
 returns c =
@@ -25,4 +19,4 @@ returns c =
     ∙ ap (lowBits 32) (sym (c .before .biased20 .ensures .1))
 
 pub extend20-spec : {M : Type 1} → statement M
-extend20-spec = tie.close (tie.spec biased20-requires wrapping-sub-u32-requires returns)
+extend20-spec = tie.close (tie.spec (λ c κs. search needs) (λ c κs. search needs) returns)

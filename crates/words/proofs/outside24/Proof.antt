@@ -7,14 +7,8 @@ use Rattle.words.proofs.Ranges.{outside-code}
 use Rattle.words.proofs.outside24.Statement.{statement}
 use Rattle.words.proofs.outside24.Tie as tie
 
-extend20-requires : tie.Need-extend20-requires
-extend20-requires c κs = search needs
-
-wrapping-add-u32-requires : tie.Need-wrapping-add-u32-requires
-wrapping-add-u32-requires c κs = search needs
-
 returns : tie.Need-returns
 returns c = outside-code 24 20 _ _ refl (lit≤ tt) (c .before .before .pre .0) (c .before .before .pre .1) (c .before .extend20 .ensures) (c .wrapping-add-u32 .ensures)
 
 pub outside24-spec : {M : Type 1} → statement M
-outside24-spec = tie.close (tie.spec extend20-requires wrapping-add-u32-requires returns)
+outside24-spec = tie.close (tie.spec (λ c κs. search needs) (λ c κs. search needs) returns)

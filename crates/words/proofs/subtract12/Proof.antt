@@ -6,11 +6,8 @@ use Rattle.words.proofs.Residues.{minus-code}
 use Rattle.words.proofs.subtract12.Statement.{statement}
 use Rattle.words.proofs.subtract12.Tie as tie
 
-wrapping-sub-u32-requires : tie.Need-wrapping-sub-u32-requires
-wrapping-sub-u32-requires c κs = search needs
-
 returns : tie.Need-returns
 returns c = minus-code 12 _ _ _ (lit≤ tt) (c .wrapping-sub-u32 .ensures)
 
 pub subtract12-spec : {M : Type 1} → statement M
-subtract12-spec = tie.close (tie.spec wrapping-sub-u32-requires returns)
+subtract12-spec = tie.close (tie.spec (λ c κs. search needs) returns)

@@ -14,9 +14,6 @@ returns : tie.Need-returns
 unfolding lowBits valueOf
 returns c = rw (eq-eqb _ 0 (c .before .if1 .taken))
 
-wrapping-sub-u32-requires : tie.Need-wrapping-sub-u32-requires
-wrapping-sub-u32-requires c κs = search needs
-
 returns-2 : tie.Need-returns-2
 unfolding valueOf
 returns-2 c =
@@ -25,4 +22,4 @@ returns-2 c =
     ∙ ap (lowBits 20) (+ℤ-idl (negℤ (pos (c .before .before .before .args .s .magnitude)))))
 
 pub word20-spec : {M : Type 1} → statement M
-word20-spec = tie.close (tie.spec wrapping-sub-u32-requires returns returns-2)
+word20-spec = tie.close (tie.spec (λ c κs. search needs) returns returns-2)

@@ -9,19 +9,10 @@ use Rattle.delay.proofs.Rounding.{rounding-low}
 use Rattle.delay.proofs.Delay.address.Statement.{statement}
 use Rattle.delay.proofs.Delay.address.Tie as tie
 
-shifted-requires : tie.Need-shifted-requires
-shifted-requires c κs = search needs
-
-rounding-requires : tie.Need-rounding-requires
-rounding-requires c κs = search needs
-
 add-argument : tie.Need-add-argument
 add-argument c =
     let a = c .before .before .before .args in
     omega (arith, c .before .shifted .ensures, shr-le (a .w) (a .self .z % 2 ^ 4), c .rounding .ensures, rounding-low (a .self) (a .w))
-
-wide-requires : tie.Need-wide-requires
-wide-requires c κs = search needs
 
 returns : tie.Need-returns
 unfolding address
@@ -30,4 +21,5 @@ returns c = rw (c .wide .ensures, c .before .before .before .shifted .ensures, c
 pub address-spec : {M : Type 1} → statement M
 address-spec =
     tie.close
-    (tie.spec shifted-requires rounding-requires add-argument (λ c. search needs) wide-requires returns)
+    (tie.spec (λ c κs. search needs) (λ c κs. search needs) add-argument (λ c. search needs) (λ c κs. search needs)
+    returns)

@@ -5,21 +5,6 @@ use Rattle.delay.specs.Delay.{lineTurn}
 use Rattle.delay.proofs.Delay.line_turn.Statement.{statement}
 use Rattle.delay.proofs.Delay.line_turn.Tie as tie
 
-slot-requires : tie.Need-slot-requires
-slot-requires c κs = search needs
-
-word-at-requires : tie.Need-word-at-requires
-word-at-requires c κs = search needs
-
-put-requires : tie.Need-put-requires
-put-requires c κs = search needs
-
-stepped-requires : tie.Need-stepped-requires
-stepped-requires c κs = search needs
-
-updated-requires : tie.Need-updated-requires
-updated-requires c κs = search needs
-
 returns : tie.Need-returns
 unfolding lineTurn
 returns c =
@@ -30,4 +15,5 @@ returns c =
 pub line-turn-spec : {M : Type 1} → statement M
 line-turn-spec =
     tie.close
-    (tie.spec slot-requires word-at-requires put-requires stepped-requires updated-requires (λ c. search needs) returns)
+    (tie.spec (λ c κs. search needs) (λ c κs. search needs) (λ c κs. search needs) (λ c κs. search needs)
+    (λ c κs. search needs) (λ c. search needs) returns)

@@ -9,9 +9,6 @@ use Rattle.delay.proofs.Delay.rounding.Tie as tie
 returns : tie.Need-returns
 returns c = sym (nothing-out (c .before .before .args .self) (c .before .before .args .w) (c .if1 .taken))
 
-shifted-requires : tie.Need-shifted-requires
-shifted-requires c κs = search needs
-
 returns-2 : tie.Need-returns-2
 returns-2 c =
     let a = c .before .before .before .before .before .args in
@@ -21,5 +18,4 @@ returns-3 : tie.Need-returns-3
 returns-3 c = sym (not-rounded (c .before .before .before .before .args .self) (c .before .before .before .before .args .w) (c .if2 .left))
 
 pub rounding-spec : {M : Type 1} → statement M
-rounding-spec = tie.close
-    (tie.spec returns (λ c. search needs) shifted-requires returns-2 returns-3)
+rounding-spec = tie.close (tie.spec returns (λ c. search needs) (λ c κs. search needs) returns-2 returns-3)

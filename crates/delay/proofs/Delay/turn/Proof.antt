@@ -6,15 +6,9 @@ use Rattle.delay.specs.Delay.{turnOf}
 use Rattle.delay.proofs.Delay.turn.Statement.{statement}
 use Rattle.delay.proofs.Delay.turn.Tie as tie
 
-line-turn-requires : tie.Need-line-turn-requires
-line-turn-requires c κs = search needs
-
 returns : tie.Need-returns
 unfolding turnOf
 returns c = rw (eq-eqb _ _ (c .before .before .before .before .if1 .taken)) (c .before .before .line-turn .ensures)
-
-table-turn-requires : tie.Need-table-turn-requires
-table-turn-requires c κs = search needs
 
 returns-2 : tie.Need-returns-2
 unfolding turnOf
@@ -23,4 +17,4 @@ returns-2 c = rw (ne-eqb _ _ (c .before .before .if1 .left)) (c .table-turn .ens
 pub turn-spec : {M : Type 1} → statement M
 turn-spec =
     tie.close
-    (tie.spec line-turn-requires (λ c. search needs) returns table-turn-requires (λ c. search needs) returns-2)
+    (tie.spec (λ c κs. search needs) (λ c. search needs) returns (λ c κs. search needs) (λ c. search needs) returns-2)

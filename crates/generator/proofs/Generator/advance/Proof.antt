@@ -7,12 +7,6 @@ use borrow.Author.Needs.{needs}
 use Rattle.generator.proofs.Generator.advance.Statement.{statement}
 use Rattle.generator.proofs.Generator.advance.Tie as tie
 
-oscillate-requires : tie.Need-oscillate-requires
-oscillate-requires c κs = search needs
-
-overflows-requires : tie.Need-overflows-requires
-overflows-requires c κs = search needs
-
 decay-requires : tie.Need-decay-requires
 decay-requires c κs =
     let turned = c .before .before in
@@ -38,4 +32,5 @@ returns-2 c =
 
 pub advance-spec : {M : Type 1} → statement M
 advance-spec =
-    tie.close (tie.spec oscillate-requires overflows-requires decay-requires returns decay-requires-2 returns-2)
+    tie.close
+    (tie.spec (λ c κs. search needs) (λ c κs. search needs) decay-requires returns decay-requires-2 returns-2)

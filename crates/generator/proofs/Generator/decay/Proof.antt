@@ -4,9 +4,5 @@ use borrow.Author.Needs.{needs}
 use Rattle.generator.proofs.Generator.decay.Statement.{statement}
 use Rattle.generator.proofs.Generator.decay.Tie as tie
 
-decayed-requires : tie.Need-decayed-requires
-decayed-requires c κs = search needs
-
 pub decay-spec : {M : Type 1} → statement M
-decay-spec = tie.close
-    (tie.spec decayed-requires (λ c. rw (c .decayed .ensures)))
+decay-spec = tie.close (tie.spec (λ c κs. search needs) (λ c. rw (c .decayed .ensures)))

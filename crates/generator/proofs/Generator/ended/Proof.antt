@@ -6,9 +6,6 @@ use borrow.Author.Needs.{needs}
 use Rattle.generator.proofs.Generator.ended.Statement.{statement}
 use Rattle.generator.proofs.Generator.ended.Tie as tie
 
-with-run-mode-requires : tie.Need-with-run-mode-requires
-with-run-mode-requires c κs = search needs
-
 returns : tie.Need-returns
 unfolding endedOf
 returns c = rw (eq-eqb _ 13 (c .before .if1 .taken)) (c .with-run-mode .ensures)
@@ -18,4 +15,4 @@ unfolding endedOf
 returns-2 c = rw (ne-eqb _ 13 (c .if1 .left))
 
 pub ended-spec : {M : Type 1} → statement M
-ended-spec = tie.close (tie.spec with-run-mode-requires returns returns-2)
+ended-spec = tie.close (tie.spec (λ c κs. search needs) returns returns-2)

@@ -6,15 +6,9 @@ use borrow.Author.Needs.{needs}
 use Rattle.generator.proofs.Generator.left_range.Statement.{statement}
 use Rattle.generator.proofs.Generator.left_range.Tie as tie
 
-beyond20-requires : tie.Need-beyond20-requires
-beyond20-requires c κs = search needs
-
 returns : tie.Need-returns
 unfolding leftBy
 returns c = rw (← (c .before .beyond20 .ensures), c .if1 .taken)
-
-leaves20-requires : tie.Need-leaves20-requires
-leaves20-requires c κs = search needs
 
 returns-2 : tie.Need-returns-2
 unfolding leftBy
@@ -25,5 +19,4 @@ unfolding leftBy
 returns-3 c = rw (← (c .before .before .beyond20 .ensures), c .before .if1 .left, ne-eqb _ 1 (c .if2 .left))
 
 pub left-range-spec : {M : Type 1} → statement M
-left-range-spec =
-    tie.close (tie.spec beyond20-requires returns leaves20-requires returns-2 returns-3)
+left-range-spec = tie.close (tie.spec (λ c κs. search needs) returns (λ c κs. search needs) returns-2 returns-3)

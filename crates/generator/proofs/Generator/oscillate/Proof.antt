@@ -7,9 +7,6 @@ use borrow.Author.Needs.{needs}
 use Rattle.generator.proofs.Generator.oscillate.Statement.{statement}
 use Rattle.generator.proofs.Generator.oscillate.Tie as tie
 
-sweep-requires : tie.Need-sweep-requires
-sweep-requires c κs = search needs
-
 turn-requires : tie.Need-turn-requires
 turn-requires c κs = (rw (c .sweep .ensures) (c .before .before .pre .0 .gk-low), c .before .before .pre .1)
 
@@ -22,4 +19,4 @@ unfolding oscillated
 returns-2 c = rw (ne-eqb _ 1 (c .if1 .left))
 
 pub oscillate-spec : {M : Type 1} → statement M
-oscillate-spec = tie.close (tie.spec sweep-requires turn-requires returns returns-2)
+oscillate-spec = tie.close (tie.spec (λ c κs. search needs) turn-requires returns returns-2)

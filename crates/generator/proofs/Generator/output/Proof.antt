@@ -8,9 +8,6 @@ use borrow.Author.Needs.{needs}
 use Rattle.generator.proofs.Generator.output.Statement.{statement}
 use Rattle.generator.proofs.Generator.output.Tie as tie
 
-level-requires : tie.Need-level-requires
-level-requires c κs = search needs
-
 sine-under-requires : tie.Need-sine-under-requires
 sine-under-requires c κs =
     let leveled = c .before .before in
@@ -50,9 +47,6 @@ returns-3 c =
     let leveled = tested .before .before .before .before .before .before in
     output-cosines _ (leveled .before .before .args .self) _ _ _ (leveled .level .ensures) (c .cosines-under .ensures) (tested .if3 .taken)
 
-shaped-requires : tie.Need-shaped-requires
-shaped-requires c κs = search needs
-
 enveloped-requires : tie.Need-enveloped-requires
 enveloped-requires c κs =
     let tested = c .before .before .before .before in
@@ -87,16 +81,5 @@ returns-5 c =
 pub output-spec : {M : Type 1} → statement M
 output-spec =
     tie.close
-    (tie.spec
-    level-requires
-    sine-under-requires
-    returns
-    sine-under-requires-2
-    returns-2
-    cosines-under-requires
-    returns-3
-    shaped-requires
-    enveloped-requires
-    returns-4
-    sine-under-requires-3
-    returns-5)
+    (tie.spec (λ c κs. search needs) sine-under-requires returns sine-under-requires-2 returns-2 cosines-under-requires
+    returns-3 (λ c κs. search needs) enveloped-requires returns-4 sine-under-requires-3 returns-5)

@@ -5,12 +5,9 @@ use borrow.Author.Needs.{needs}
 use Rattle.generator.proofs.Generator.phase.Statement.{statement}
 use Rattle.generator.proofs.Generator.phase.Tie as tie
 
-exact20-requires : tie.Need-exact20-requires
-exact20-requires c κs = search needs
-
 returns : tie.Need-returns
 unfolding phaseOf
 returns c = c .exact20 .ensures
 
 pub phase-spec : {M : Type 1} → statement M
-phase-spec = tie.close (tie.spec exact20-requires returns)
+phase-spec = tie.close (tie.spec (λ c κs. search needs) returns)

@@ -5,21 +5,6 @@ use borrow.Author.Needs.{needs}
 use Rattle.generator.proofs.Generator.play.Statement.{statement}
 use Rattle.generator.proofs.Generator.play.Tie as tie
 
-phase-requires : tie.Need-phase-requires
-phase-requires c κs = search needs
-
-low20-requires : tie.Need-low20-requires
-low20-requires c κs = search needs
-
-output-requires : tie.Need-output-requires
-output-requires c κs = search needs
-
-advance-requires : tie.Need-advance-requires
-advance-requires c κs = search needs
-
-ended-requires : tie.Need-ended-requires
-ended-requires c κs = search needs
-
 returns : tie.Need-returns
 returns c =
     let advanced = c .before .before .before in
@@ -47,11 +32,5 @@ returns-2 c =
 pub play-spec : {M : Type 1} → statement M
 play-spec =
     tie.close
-    (tie.spec
-    phase-requires
-    low20-requires
-    output-requires
-    advance-requires
-    ended-requires
-    returns
-    returns-2)
+    (tie.spec (λ c κs. search needs) (λ c κs. search needs) (λ c κs. search needs) (λ c κs. search needs)
+    (λ c κs. search needs) returns returns-2)

@@ -8,25 +8,13 @@ use borrow.Author.Needs.{needs}
 use Rattle.generator.proofs.Generator.shaped.Statement.{statement}
 use Rattle.generator.proofs.Generator.shaped.Tie as tie
 
-sawtooth-requires : tie.Need-sawtooth-requires
-sawtooth-requires c κs = search needs
-
 returns : tie.Need-returns
 unfolding waveOf
 returns c = rw (c .before .if1 .taken) (c .sawtooth .ensures)
 
-square-requires : tie.Need-square-requires
-square-requires c κs = search needs
-
 returns-2 : tie.Need-returns-2
 unfolding waveOf
 returns-2 c = rw (c .before .if2 .taken) (c .square .ensures)
-
-left-range-requires : tie.Need-left-range-requires
-left-range-requires c κs = search needs
-
-pulse-requires : tie.Need-pulse-requires
-pulse-requires c κs = search needs
 
 returns-3 : tie.Need-returns-3
 unfolding waveOf
@@ -35,11 +23,5 @@ returns-3 c = let e : c .before .before .before .before .before .args .self .gmo
 pub shaped-spec : {M : Type 1} → statement M
 shaped-spec =
     tie.close
-    (tie.spec
-    sawtooth-requires
-    returns
-    square-requires
-    returns-2
-    left-range-requires
-    pulse-requires
-    returns-3)
+    (tie.spec (λ c κs. search needs) returns (λ c κs. search needs) returns-2 (λ c κs. search needs)
+    (λ c κs. search needs) returns-3)

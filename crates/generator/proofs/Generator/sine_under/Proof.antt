@@ -4,14 +4,8 @@ use borrow.Author.Needs.{needs}
 use Rattle.generator.proofs.Generator.sine_under.Statement.{statement}
 use Rattle.generator.proofs.Generator.sine_under.Tie as tie
 
-sine-wave-requires : tie.Need-sine-wave-requires
-sine-wave-requires c κs = search needs
-
-enveloped-requires : tie.Need-enveloped-requires
-enveloped-requires c κs = search needs
-
 returns : tie.Need-returns
 returns c = rw (← (c .before .sine-wave .ensures .is)) (c .enveloped .ensures)
 
 pub sine-under-spec : {M : Type 1} → statement M
-sine-under-spec = tie.close (tie.spec sine-wave-requires enveloped-requires returns)
+sine-under-spec = tie.close (tie.spec (λ c κs. search needs) (λ c κs. search needs) returns)

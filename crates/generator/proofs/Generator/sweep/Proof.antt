@@ -4,9 +4,5 @@ use borrow.Author.Needs.{needs}
 use Rattle.generator.proofs.Generator.sweep.Statement.{statement}
 use Rattle.generator.proofs.Generator.sweep.Tie as tie
 
-into28-requires : tie.Need-into28-requires
-into28-requires c κs = search needs
-
 pub sweep-spec : {M : Type 1} → statement M
-sweep-spec = tie.close
-    (tie.spec into28-requires (λ c. rw (c .into28 .ensures)))
+sweep-spec = tie.close (tie.spec (λ c κs. search needs) (λ c. rw (c .into28 .ensures)))

@@ -7,12 +7,9 @@ use Rattle.modifier.proofs.Low.{word-of}
 use Rattle.modifier.proofs.Modifier.integer_m1.Statement.{statement}
 use Rattle.modifier.proofs.Modifier.integer_m1.Tie as tie
 
-multiply-integer-requires : tie.Need-multiply-integer-requires
-multiply-integer-requires c κs = search needs
-
 returns : tie.Need-returns
 unfolding integerM1
 returns c = word-of (c .multiply-integer .ensures) (integer-low _ _ _)
 
 pub integer-m1-spec : {M : Type 1} → statement M
-integer-m1-spec = tie.close (tie.spec multiply-integer-requires returns)
+integer-m1-spec = tie.close (tie.spec (λ c κs. search needs) returns)

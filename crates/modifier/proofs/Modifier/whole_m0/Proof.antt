@@ -7,12 +7,9 @@ use Rattle.modifier.proofs.Low.{word-of}
 use Rattle.modifier.proofs.Modifier.whole_m0.Statement.{statement}
 use Rattle.modifier.proofs.Modifier.whole_m0.Tie as tie
 
-multiply-whole-requires : tie.Need-multiply-whole-requires
-multiply-whole-requires c κs = search needs
-
 returns : tie.Need-returns
 unfolding wholeM0
 returns c = word-of (c .multiply-whole .ensures) (whole-low _ _ _)
 
 pub whole-m0-spec : {M : Type 1} → statement M
-whole-m0-spec = tie.close (tie.spec multiply-whole-requires returns)
+whole-m0-spec = tie.close (tie.spec (λ c κs. search needs) returns)
