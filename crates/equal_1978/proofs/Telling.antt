@@ -24,7 +24,7 @@ use Rattle.equal_endings.specs.Follows.{turnAt, sendsAt, triggersAt}
 use Rattle.equal_witnesses.specs.Contents.{Contents}
 use Rattle.equal_contents.proofs.Content.{Content, last-content}
 use Rattle.equal_contents.proofs.Loaded.{f-is}
-use Rattle.equal_contents.proofs.Triggering.{triggering-content, all-overflow}
+use Rattle.equal_contents.proofs.Triggering.{choice-tells, triggering-content, same-mode, all-overflow}
 use Rattle.equal_contents.proofs.Sounding.{sounding-content}
 use Rattle.equal_1978.proofs.Sounding.{silent-output, sounding-output}
 use Rattle.order_contents.specs.Contents.{triggeringContents, sendingContents, soundingContents, byPoint, contentsFor}
@@ -32,13 +32,7 @@ use Rattle.order_contents.specs.Contents.{triggeringContents, sendingContents, 
 -- GMODE of a waiting generator tells whether it was told.
 mode-tells : (u : Generator) (a b : Bool) → runMode u ≡ wait → gmodeAfter u a ≡ gmodeAfter u b → a ≡ b
 unfolding gmodeAfter
-mode-tells u a b r e = go a b (rw r at e)
-  where
-    go : (a b : Bool) → cond a (withRunMode runningC (u .gmode)) (u .gmode) ≡ cond b (withRunMode runningC (u .gmode)) (u .gmode) → a ≡ b
-    go true true q = refl
-    go true false q = absurd (omega arith)
-    go false true q = absurd (omega arith)
-    go false false q = refl
+mode-tells u a b r e = choice-tells {x = withRunMode runningC (u .gmode)} {y = u .gmode} (λ q. omega arith) a b (rw r at e)
 
 -- GFM has 7 bits: its two halves are the words of generator-last and of modifier-last.
 either-half : (x : ℕ) → x < 128 → cond (eqb (x / 64) 0) (x % 64) (64 + x % 64) ≡ x
@@ -49,20 +43,14 @@ module _ (m : Machine) (good : Good Of1978 m) where
   few : ticksOf m ≤ 256
   few = sound-controls Of1978 m (good .is-sound) .tHigh
 
-  -- The run mode in the machine in which every envelope that is on overflows.
-  same-mode : (g : ℕ) → g < 256 → runMode (generatorOf (triggeringContents m) g) ≡ runModeAt Of1978 m g
-  same-mode g h =
-      let same = triggering-content Of1978 m good in
-      run-mode-loaded Of1978 (triggeringContents m) (same .good .is-sound) g h ∙ ap (λ (x : ℕ). x / 2 ^ 6) (same .kept GMODE (lit< tt) refl g h)
-
   triggers-free : (g : ℕ) → g < 256 → free (runModeAt Of1978 m g) ≡ true → triggersAt (generatorsOf Of1978) (triggeringContents m) g ≡ true
   unfolding turn1978 triggers
-  triggers-free g h f = rw (same-mode g h, f) (all-overflow Of1978 m good g h)
+  triggers-free g h f = rw (same-mode Of1978 m good g h, f) (all-overflow Of1978 m good g h)
 
   told-tells : (g : ℕ) → g < 256 → eqb (runModeAt Of1978 m g) wait ≡ true → (a b : Bool)
       → turnAt (generatorsOf Of1978) (triggeringContents m) g a .unit .gmode ≡ turnAt (generatorsOf Of1978) (triggeringContents m) g b .unit .gmode → a ≡ b
   unfolding turn1978 after
-  told-tells g h w a b e = mode-tells (generatorOf (triggeringContents m) g) a b (same-mode g h ∙ eqb-true (runModeAt Of1978 m g) wait w) e
+  told-tells g h w a b e = mode-tells (generatorOf (triggeringContents m) g) a b (same-mode Of1978 m good g h ∙ eqb-true (runModeAt Of1978 m g) wait w) e
 
   -- What is sent is F, which tells GFM.
   sending-content : Content Of1978 m (sendingContents Of1978 m)

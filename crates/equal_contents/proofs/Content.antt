@@ -1,18 +1,19 @@
 -- A content of a machine: a good machine of its text in which the registers that are settings are the same and every modifier is inactive.
 -- Assumes nothing.
 use mathlib.Core.Path.{_≡_, refl, sym, ap, _∙_}
-use mathlib.Core.Bool.{Bool, true, false, _||_, true≢false}
-use Prim.Native.Nat.{ℕ, zero, suc, _+_, _*_, _^_, _<_}
+use mathlib.Core.Bool.{Bool, true, false, _&&_, _||_, true≢false}
+use Prim.Native.Nat.{ℕ, zero, suc, _+_, _*_, _/_, _^_, _<_}
 use native.Mathlib.Omega.{arith}
 use borrow.Author.Tests.{lt-ltb}
 use lib.Dec.{eqb, lit<, lit≤}
 use lib.ListN.{getD}
 use Rattle.lists.specs.Lists.{isOneOf}
-use Rattle.built_codes.specs.BuiltCodes.{builtFunctions, builtFunction}
-use Rattle.layout.specs.Layout.{generatorAt, modifierAt, quadrantAt, tAt, MMODE, GO, GSUM, GFM, GMODE}
+use Rattle.built_codes.specs.BuiltCodes.{builtFunctions, builtFunction, oldBuiltFunctions, oldBuiltFunction}
+use Rattle.layout.specs.Layout.{generatorAt, modifierAt, quadrantAt, tAt, MMODE, GO, GN, GSUM, GFM, GMODE}
 use Rattle.layout.specs.Machine.{Machine, ticksOf}
+use Rattle.texts.specs.Texts.{runModeAt}
 use Rattle.texts.specs.declared.Text.{Text}
-use Rattle.texts.specs.declared.Text.the-variants.{Of1978}
+use Rattle.texts.specs.declared.Text.the-variants.{Of1978, Old}
 use Rattle.fills.specs.Fills.{filled}
 use Rattle.fills.proofs.Filled.{filled-length, filled-other, filled-at}
 use Rattle.machine.specs.Questions.{goodMmode, regions, testAt, sound}
@@ -23,9 +24,13 @@ use Rattle.pass_laws.specs.Good.{Good}
 use Rattle.order_contents.specs.Contents.{eachWord, inactiveModifiers, withLast}
 use Rattle.equal_contents.proofs.Words.{other, past, word-before, word-past}
 
--- The registers that every content keeps.
+-- The registers that every content keeps: GO, GSUM, GFM and GMODE, and in the older text GN.
+abbrev pub keepsGN : Text → Bool
+keepsGN Of1978 = false
+keepsGN Old = true
+
 abbrev pub isKept : Text → ℕ → Bool
-isKept text j = eqb j GO || eqb j GSUM || eqb j GFM || eqb j GMODE
+isKept text j = eqb j GO || eqb j GSUM || eqb j GFM || eqb j GMODE || (eqb j GN && keepsGN text)
 
 -- A content n of a machine m.
 pub record Content (text : Text) (m n : Machine) : Type 0 where
@@ -34,14 +39,20 @@ pub record Content (text : Text) (m n : Machine) : Type 0 where
   pub ticks : ticksOf n ≡ ticksOf m
   pub kept : (j : ℕ) → j < 11 → isKept text j ≡ true → (g : ℕ) → g < 256 → getD n (generatorAt g + j) 0 ≡ getD m (generatorAt g + j) 0
 
+-- Its run modes are the machine's.
+pub run-kept : (text : Text) {m n : Machine} → Content text m n → (g : ℕ) → g < 256 → runModeAt text n g ≡ runModeAt text m g
+run-kept Of1978 r g h = ap (λ (x : ℕ). x / 2 ^ 6) (r .kept GMODE (lit< tt) refl g h)
+run-kept Old r g h = rw (r .kept GMODE (lit< tt) refl g h, r .kept GN (lit< tt) refl g h)
+
 -- The test of register j of a generator.
 unfoldable pub registerTest : Text → ℕ → ℕ → Bool
 registerTest text j x = getD (region (regions text) 0 .tests) j (λ y. false) x
 
 -- MMODE 0 is inactive.
 inactive-good : (text : Text) → goodMmode text 0 ≡ true
-unfolding builtFunction builtFunctions isOneOf
+unfolding builtFunction builtFunctions oldBuiltFunction oldBuiltFunctions isOneOf
 inactive-good Of1978 = refl
+inactive-good Old = refl
 
 module _ (text : Text) where
   -- Words before T that pass the tests of their places keep a machine good.

@@ -16,7 +16,7 @@ use Rattle.layout.specs.Layout.{generatorAt, GJ, GK, GN, GM, GQ, GL, GMODE}
 use Rattle.layout.specs.Machine.{Machine, gmodeAt, gfmAt}
 use Rattle.layout.specs.Widths.{glBits}
 use Rattle.texts.specs.declared.Text.{Text}
-use Rattle.texts.specs.declared.Text.the-variants.{Of1978}
+use Rattle.texts.specs.declared.Text.the-variants.{Of1978, Old}
 use Rattle.machine.specs.Questions.{regions}
 use Rattle.sums.specs.Sums.{fAt, sumsOf}
 use Rattle.envelope.specs.Envelope.{rounded, enveloped}
@@ -46,10 +46,12 @@ step-1-leaves = refl
 -- The columns by which the texts differ.
 waves-registers : (text : Text) → registers (waveColumns text) ≡ true
 waves-registers Of1978 = refl
+waves-registers Old = refl
 
 waves-content : (text : Text) {m n : Machine} → Content text m n → Content text m (withColumns (waveColumns text) n)
 unfolding registerTest regions
 waves-content Of1978 r = register-content Of1978 (register-content Of1978 r GN (λ g. 1) (lit< tt) refl (λ g h. refl)) GK (λ g. 128) (lit< tt) refl (λ g h. refl)
+waves-content Old r = register-content Old r GK (λ g. 256) (lit< tt) refl (λ g h. refl)
 
 level-fits : (text : Text) (m : Machine) (s g : ℕ) → registerTest text GL (soundingLevel text m s g) ≡ true
 unfolding soundingLevel registerTest regions

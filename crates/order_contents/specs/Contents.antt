@@ -1,6 +1,6 @@
 -- Contents that tell two orders of the generators apart: machines that have the settings of a machine and other words, and read lists.
 -- Assumes nothing.
-use Prim.Native.Nat.{ℕ, _+_, _/_, _%_, _^_}
+use Prim.Native.Nat.{ℕ, _+_, _*_, _/_, _%_, _^_}
 use mathlib.Core.Bool.{cond, _&&_}
 use mathlib.Core.List.{List, [], _∷_}
 use lib.Dec.{eqb}
@@ -10,7 +10,8 @@ use Rattle.layout.specs.Layout.{generators, generatorWords, modifierAt, modifie
 use Rattle.layout.specs.Machine.{Machine, Items, gmodeAt}
 use Rattle.layout.specs.Widths.{glBits}
 use Rattle.texts.specs.declared.Text.{Text}
-use Rattle.texts.specs.declared.Text.the-variants.{Of1978}
+use Rattle.texts.specs.declared.Text.the-variants.{Of1978, Old}
+use Rattle.old_modes.specs.OldModes.{oldEnvelope}
 use Rattle.modes.specs.Modes.{readData}
 use Rattle.order.specs.Order.{inMode}
 use Rattle.sums.specs.Sums.{generatorLast, modifierLast}
@@ -44,21 +45,28 @@ unfoldable pub triggeringContents : Machine → Machine
 triggeringContents m = withColumns overflowing (inactiveModifiers m)
 
 -- What is sent tells its source. In 1978's text it is F: the word at each GFM is that GFM, generator-last word w is w, modifier-last word w is 64 + w.
+-- In the older text it is E, GK or J: with every F 0 both are the generator's number, since GK and the high 20 bits of GJ are.
+abbrev pub ownNumbers : List Column
+ownNumbers = column GJ (λ g. 256 * g) ∷ column GK (λ g. g) ∷ []
+
 unfoldable pub sendingContents : Text → Machine → Machine
 sendingContents Of1978 m = withLast (λ w. w) (λ w. 64 + w) m
+sendingContents Old m = withColumns ownNumbers (withLast (λ w. 0) (λ w. 0) m)
 
--- GL at which V is 0 where GQ is 0, by the envelope mode in GMODE: the exponential of 0 is 4,093.
+-- GL at which V is 0 where GQ is 0, by the envelope mode in GMODE: the exponential of 0 is 4,093; the older text adds it in 10 and takes it away in 11.
 abbrev pub silentLevel : Text → ℕ → ℕ
 silentLevel Of1978 gmode = getD (0 ∷ 0 ∷ 4093 ∷ 3 ∷ []) (gmode / 2 ^ 4 % 2 ^ 2) 0
+silentLevel Old gmode = getD (0 ∷ 0 ∷ 3 ∷ 4093 ∷ []) (oldEnvelope gmode) 0
 
 -- GL of generator g where only generator s sounds: V is 64 at s and 0 at every other.
 unfoldable pub soundingLevel : Text → Machine → ℕ → ℕ → ℕ
 soundingLevel text m s g = (silentLevel text (gmodeAt m g) + cond (eqb g s) 64 0) % 2 ^ glBits
 
 -- With every F 1, registers with which W is not 0 in any oscillator mode: the high 20 bits of GJ are the largest signed number, so that step 1 leaves its range;
--- K is 1 unless it comes from J; GM is 0; in 1978's text GN is 1.
+-- K, the high 13 bits of GK or in the older text 12, is 1 unless it comes from J; GM is 0; GN is 1. The older text has no use for GN in a wave: there it is a setting, and stays.
 abbrev pub waveColumns : Text → List Column
 waveColumns Of1978 = column GK (λ g. 128) ∷ column GN (λ g. 1) ∷ []
+waveColumns Old = column GK (λ g. 256) ∷ []
 
 abbrev pub soundingColumns : Text → Machine → ℕ → List Column
 soundingColumns text m s = column GL (soundingLevel text m s) ∷ column GQ (λ g. 0) ∷ column GM (λ g. 0) ∷ column GJ (λ g. 134217472) ∷ waveColumns text

@@ -6,21 +6,18 @@ use mathlib.Core.List.{List}
 use Prim.Native.Nat.{ℕ, _+_, _*_}
 use native.Mathlib.Omega.{arith}
 use lib.Dec.{eqb}
-use Rattle.layout.specs.Layout.{quadrantAt, generators}
-use Rattle.layout.specs.Machine.{Machine}
+use Rattle.layout.specs.Layout.{generators}
 use Rattle.fills.specs.Fills.{filled}
 use Rattle.fills.proofs.Filled.{filled-same}
-use Rattle.sums.specs.Sums.{generatorLast, modifierLast}
-use Rattle.order_contents.specs.Contents.{inactiveModifiers, withLast, itemFor}
+use Rattle.order_contents.specs.Contents.{itemFor}
 
--- The word at each GFM is that GFM.
-pub numbered : (m : Machine) {run first second : List ℕ} → run ≡ inactiveModifiers m → first ≡ filled (quadrantAt generatorLast) 1 64 (λ w. 0 + 1 * w) run
-    → second ≡ filled (quadrantAt modifierLast) 1 64 (λ w. 64 + 1 * w) first → second ≡ withLast (λ w. w) (λ w. 64 + w) m
-unfolding withLast
-numbered m {run} {first} e f g =
-    let inner : first ≡ filled (quadrantAt generatorLast) 1 64 (λ w. w) (inactiveModifiers m)
-    = f ∙ rw e (filled-same (quadrantAt generatorLast) 1 64 (λ w. 0 + 1 * w) (λ w. w) (inactiveModifiers m) (λ k h. omega arith)) in
-    g ∙ filled-same (quadrantAt modifierLast) 1 64 (λ w. 64 + 1 * w) (λ w. 64 + w) first (λ k h. omega arith) ∙ rw inner
+-- Two counts, one after the other.
+pub counted : (first-at second-at step n a b c d : ℕ) (f g : ℕ → ℕ) {base run first second : List ℕ} → ((k : ℕ) → a + b * k ≡ f k) → ((k : ℕ) → c + d * k ≡ g k)
+    → run ≡ base → first ≡ filled first-at step n (λ k. a + b * k) run → second ≡ filled second-at step n (λ k. c + d * k) first
+    → second ≡ filled second-at step n g (filled first-at step n f base)
+counted first-at second-at step n a b c d f g {base} {run} {first} is-f is-g e e₁ e₂ =
+    let inner : first ≡ filled first-at step n f base = e₁ ∙ rw e (filled-same first-at step n (λ k. a + b * k) f base (λ k h. is-f k)) in
+    e₂ ∙ filled-same second-at step n (λ k. c + d * k) g first (λ k h. is-g k) ∙ rw inner
 
 -- The items that count, and those that are 0.
 pub items-count : (point s n : ℕ) (run : List ℕ) → (eqb point 4 && eqb s generators) ≡ true → filled 0 1 n (λ k. 0 + 1 * k) run ≡ filled 0 1 n (itemFor point s) run

@@ -4,7 +4,7 @@ ghost use Prim.Native.Nat.{_+_, _≤_};
 ghost use lib.ListN.{length};
 ghost use Rattle.layout.specs.Layout.{machineLength, generators};
 ghost use Rattle.fills.specs.Fills.{filled};
-ghost use Rattle.order_contents.specs.Contents.{withColumns, inactiveModifiers, withLast, triggeringContents, sendingContents, waveColumns, soundingContents, contentsFor, itemFor};
+ghost use Rattle.order_contents.specs.Contents.{withColumns, inactiveModifiers, withLast, triggeringContents, ownNumbers, sendingContents, waveColumns, soundingContents, contentsFor, itemFor};
 use texts::Text;
 
 // The machine, with every modifier inactive.
@@ -90,6 +90,18 @@ fn numbered_last(m: &[u32], run: &mut [u32])
     );
 }
 
+// GK and the high 20 bits of GJ are the generator's number, and every F is 0.
+fn own_numbers(m: &[u32], run: &mut [u32])
+    requires { ⌜ (length (now m) ≡ machineLength) × (length (now run) ≡ machineLength) ⌝ }
+    ensures { λ _. ⌜ now (run .exit) ≡ withColumns ownNumbers (withLast (λ w. 0) (λ w. 0) (now (m .entry))) ⌝ }
+{
+    let step = layout::GENERATOR_WORDS;
+    let n = layout::GENERATORS;
+    level_last(m, 0, run);
+    fills::count(run, layout::GK, step, n, 0, 1);
+    fills::count(run, layout::GJ, step, n, 0, 256);
+}
+
 // What is sent tells its source.
 fn sending(text: Text, m: &[u32], run: &mut [u32])
     requires { ⌜ (length (now m) ≡ machineLength) × (length (now run) ≡ machineLength) ⌝ }
@@ -97,6 +109,7 @@ fn sending(text: Text, m: &[u32], run: &mut [u32])
 {
     match text {
         Text::Of1978 => numbered_last(m, run),
+        Text::Old => own_numbers(m, run),
     }
 }
 
@@ -112,6 +125,7 @@ fn waves(text: Text, run: &mut [u32])
             fills::fill(run, layout::GN, step, n, 1);
             fills::fill(run, layout::GK, step, n, 128);
         }
+        Text::Old => fills::fill(run, layout::GK, step, n, 256),
     }
 }
 

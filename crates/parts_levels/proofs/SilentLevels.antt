@@ -12,13 +12,15 @@ use lib.ListN.{getD}
 use Rattle.lists.proofs.Tests.{below}
 use Rattle.layout.specs.Machine.{Machine, gmodeAt}
 use Rattle.layout.specs.Widths.{glBits}
+use Rattle.old_modes.specs.OldModes.{oldEnvelope}
 use Rattle.texts.specs.declared.Text.{Text}
-use Rattle.texts.specs.declared.Text.the-variants.{Of1978}
+use Rattle.texts.specs.declared.Text.the-variants.{Of1978, Old}
 use Rattle.order_contents.specs.Contents.{silentLevel, soundingLevel}
 
 -- It is a word of 12 bits.
 pub level-low : (text : Text) (gmode : ℕ) → silentLevel text gmode < 2 ^ glBits
 level-low Of1978 gmode = ltb-true _ _ (below (λ (e : ℕ). ltb (getD (0 ∷ 0 ∷ 4093 ∷ 3 ∷ []) e 0) (2 ^ glBits)) 4 tt (gmode / 2 ^ 4 % 2 ^ 2) (omega arith))
+level-low Old gmode = ltb-true _ _ (below (λ (e : ℕ). ltb (getD (0 ∷ 0 ∷ 3 ∷ 4093 ∷ []) e 0) (2 ^ glBits)) 4 tt (oldEnvelope gmode) (omega arith))
 
 module _ (text : Text) (m : Machine) (s g : ℕ) {silent : ℕ} (is : silent ≡ silentLevel text (gmodeAt m g)) where
   pub sounds-here : g ≡ s → (silent + 64) % 2 ^ glBits ≡ soundingLevel text m s g

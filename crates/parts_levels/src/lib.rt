@@ -18,6 +18,10 @@ fn silent_level(text: Text, gmode: u32) -> u32
             let levels: [u32; 4] = [0, 0, 4093, 3];
             levels[layout::wide(gmode / 16 % 4)]
         }
+        Text::Old => {
+            let levels: [u32; 4] = [0, 0, 3, 4093];
+            levels[layout::wide(gmode / 8 % 4)]
+        }
     }
 }
 

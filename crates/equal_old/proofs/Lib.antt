@@ -1,0 +1,3 @@
+pub mod Settings
+pub mod Sounding
+pub mod Telling
