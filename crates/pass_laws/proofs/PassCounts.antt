@@ -28,7 +28,8 @@ use Rattle.order_lists.proofs.Entries.{keep-same}
 use Rattle.order_lists.proofs.Orders.{keep-order-same, length-keep}
 use Rattle.generator.specs.declared.Generator.{Generator}
 use Rattle.pass_model.specs.Generators.{generatorsOf, State, generatorOf, told, step, steps, begun}
-use Rattle.pass_model.proofs.Keeps.{runOf, turn-keeps}
+use Rattle.generator_turn.specs.GeneratorTurn.{runOf}
+use Rattle.pass_model.proofs.Keeps.{turn-keeps}
 use Rattle.pass_model.specs.Pass.{Call, passRefusal, passOf}
 use Rattle.pass_laws.proofs.Frames.{apart-other, not-there, step-below, steps-length, steps-beyond, steps-quadrants}
 use Rattle.pass_laws.proofs.TextTurns.{sixteen, same-generator}
