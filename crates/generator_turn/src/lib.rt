@@ -81,7 +81,7 @@ pub fn sends(text: Text, unit: Generator, f: u32) -> u32
 
 // The number of the DAC to which it sends.
 pub fn dac(text: Text, unit: Generator) -> u32
-    ensures { λ r. ⌜ r ≡ dacOf text unit ⌝ }
+    ensures { λ r. ⌜ (r ≡ dacOf text unit) × (r < 16) ⌝ }
 {
     match text {
         Text::Of1978 => unit.go % 16,
