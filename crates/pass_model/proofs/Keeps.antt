@@ -115,8 +115,8 @@ unfolding gmodeAfter
 mode-after m r g u told before now =
     let x = u .gmode in
     let s = switched (λ y. y / 2 ^ 6) (λ y. y % 2 ^ 6) x (withRunMode wait x) (withRunMode runningC x) (omega arith) (omega arith) (omega arith) (omega arith)
-      (eqb (runMode u) runningC && triggers u) (eqb (runMode u) wait && told)
-      (λ e. eqb-true (runMode u) runningC (and-first (eqb (runMode u) runningC) (triggers u) e)) (λ e. eqb-true (runMode u) wait (and-first (eqb (runMode u) wait) told e)) in
+    (eqb (runMode u) runningC && triggers u) (eqb (runMode u) wait && told)
+    (λ e. eqb-true (runMode u) runningC (and-first (eqb (runMode u) runningC) (triggers u) e)) (λ e. eqb-true (runMode u) wait (and-first (eqb (runMode u) wait) told e)) in
     let k : Switched (λ y. y / 2 ^ 6) (λ y. y % 2 ^ 6) (gmodeAt m g) (gmodeAt r g) = rw (now, ← before) s in
     record { rest = k .kept; whole = k .whole; other = k .other }
 
@@ -164,10 +164,10 @@ old-mode-after m r g u told before now sign =
     let x = u .gmode in
     let n = getD m (generatorAt g + GN) 0 in
     let s = switched (λ y. oldRunMode y n) (λ y. y % 2 ^ 5) x (withOldRun 0b100 x) (withOldRun 0b101 x) (omega arith) (omega arith)
-      (as-wait (withOldRun 0b100 x) n (old-run 0b100 x (lit< tt))) (as-running (withOldRun 0b101 x) n (old-run 0b101 x (lit< tt)))
-      (eqb (oldRun x) 0b101 && triggers (asSwitched u)) (eqb (oldRun x) 0b100 && told)
-      (λ e. as-running x n (eqb-true (oldRun x) 0b101 (and-first (eqb (oldRun x) 0b101) (triggers (asSwitched u)) e)))
-      (λ e. as-wait x n (eqb-true (oldRun x) 0b100 (and-first (eqb (oldRun x) 0b100) told e))) in
+    (as-wait (withOldRun 0b100 x) n (old-run 0b100 x (lit< tt))) (as-running (withOldRun 0b101 x) n (old-run 0b101 x (lit< tt)))
+    (eqb (oldRun x) 0b101 && triggers (asSwitched u)) (eqb (oldRun x) 0b100 && told)
+    (λ e. as-running x n (eqb-true (oldRun x) 0b101 (and-first (eqb (oldRun x) 0b101) (triggers (asSwitched u)) e)))
+    (λ e. as-wait x n (eqb-true (oldRun x) 0b100 (and-first (eqb (oldRun x) 0b100) told e))) in
     let k : Switched (λ y. oldRunMode y n) (λ y. y % 2 ^ 5) (gmodeAt m g) (gmodeAt r g) = rw (now, ← before) s in
     record { rest = k .kept; whole = k .whole; other = λ mode a b. ap (λ (y : ℕ). eqb (oldRunMode (gmodeAt r g) y) mode) sign ∙ k .other mode a b }
 
