@@ -6,7 +6,8 @@ use mathlib.Core.List.{List, [], _∷_, _++_, append-nil, append-assoc}
 use mathlib.Core.Bool.{Bool, true, false}
 use Prim.Native.Nat.{ℕ}
 use native.Mathlib.Omega.{arith}
-use borrow.Author.Tests.{eq-eqb, ne-eqb}
+use borrow.Author.Tests.{eqb-true, eq-eqb, ne-eqb}
+use lib.Dec.{eqb}
 use lib.ListN.{length}
 use lib.Seq.{sets}
 use Rattle.layout.specs.Layout.{machineLength}
@@ -15,13 +16,14 @@ use Rattle.texts.specs.declared.Text.{Text}
 use Rattle.texts.specs.declared.Text.the-variants.{Of1978}
 use Rattle.questions.specs.Questions.{asked}
 use Rattle.questions.proofs.Asked.{both-yes}
+use Rattle.lists.proofs.Choices.{of-test}
 use Rattle.lists.proofs.Below.{and-first}
 use Rattle.machine.specs.Questions.{freshMachine, freshRun}
 use Rattle.machine.proofs.SoundMachine.{reaches}
 use Rattle.machine.proofs.FreshMachine.{fresh-length}
 use Rattle.bench_lines.specs.Lines.{lineOf, linesOf, ended}
 use Rattle.bench_phases.specs.Phases.{isFit}
-use Rattle.bench_file.specs.BenchFile.{commandsOf, Reading, unread, withLine, withLines, fileOf, isBenchFile, isKnown, textOf, question9, question13, fileRefusal, readOf}
+use Rattle.bench_file.specs.BenchFile.{commandsOf, Reading, unread, withLine, withLines, fileOf, isBenchFile, isKnown, textOf, question9, question13, fileRefusal, Answer, readOf}
 use Rattle.bench_file.specs.Sweeps.{outline, withWords, allCommands}
 use Rattle.bench_file.specs.declared.File.{File}
 
@@ -48,6 +50,10 @@ module _ (file : List ℕ) where
   pub bench-file-ended : isBenchFile file ≡ true → ended file ≡ true
   unfolding isBenchFile
   bench-file-ended h = and-first (ended file) (isFit (fileOf file .phase)) h
+
+  pub read-number : (m room : List ℕ) → readOf file m room .number ≡ fileRefusal file
+  unfolding readOf
+  read-number m room = of-test (λ (a : Answer). a .number ≡ fileRefusal file) (eqb (fileRefusal file) 0) (λ e. sym (eqb-true (fileRefusal file) 0 e)) (λ e. refl)
 
   pub unrefused : fileRefusal file ≡ 0 → isBenchFile file ≡ true
   unfolding fileRefusal

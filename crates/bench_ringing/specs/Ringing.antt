@@ -1,4 +1,4 @@
--- What the bench program prints (document 01, "Bench file"; document 02, Q-1).
+-- What the bench program prints (document 01, "Bench file"; document 02, Q-1 and Q-10).
 -- Assumes nothing.
 use Prim.Native.Nat.{ℕ, zero, suc}
 use mathlib.Core.Bool.{cond}
@@ -12,7 +12,7 @@ use Rattle.texts.specs.declared.Text.{Text}
 use Rattle.texts.specs.declared.Text.the-variants.{Of1978}
 use Rattle.update.specs.Update.{Outcome, updateOf}
 use Rattle.bench_text.specs.Text.{passLine, refusalLine}
-use Rattle.bench_file.specs.BenchFile.{fileOf, isBenchFile}
+use Rattle.bench_file.specs.BenchFile.{fileOf, textOf, fileRefusal}
 use Rattle.bench_pass.specs.ByNumber.{passed}
 
 -- The line of a machine after pass and update: the counter, then DAC 0 and DAC 1.
@@ -37,8 +37,9 @@ printed text (suc passes) m memory commands =
 unfoldable pub memoryAtFirst : Memory
 memoryAtFirst = zeros memoryWords
 
--- The program's whole output for every file: question 9 first.
+-- The program's whole output for every file: its questions first, then by its text.
 unfoldable pub outputOf : List ℕ → List ℕ
 outputOf file =
     let reading = fileOf file in
-    cond (isBenchFile file) (printed Of1978 (reading .passes) (reading .machine) memoryAtFirst (reading .commands)) (refusalLine 9)
+    let number = fileRefusal file in
+    cond (eqb number 0) (printed (textOf (reading .title)) (reading .passes) (reading .machine) memoryAtFirst (reading .commands)) (refusalLine number)
