@@ -1,11 +1,12 @@
 -- A line's kind, as the code finds it.
 -- Assumes nothing.
 use mathlib.Core.Path.{_≡_, ap, sym, _∙_}
+use mathlib.Core.Logic.{_≢_}
 use mathlib.Core.List.{List}
 use mathlib.Core.Bool.{Bool, true, false}
 use Prim.Native.Nat.{ℕ, _+_, _≤_, _<_, _^_}
 use Prim.Native.Char.{code}
-use borrow.Author.Tests.{lt-ltb, le-ltb}
+use borrow.Author.Tests.{eq-eqb, ne-eqb, lt-ltb, le-ltb}
 use lib.Dec.{ltb}
 use lib.ListN.{length, take, drop}
 use Rattle.layout.specs.Layout.{filePlaces}
@@ -62,6 +63,14 @@ word-kind file P o w =
     place : (a b : Number) → P (lineBy a (λ i. lineBy b (λ v. Word i v)))
     place (Is i) b = value i b
     place No b = o
+
+-- Bytes that are those of another list, or not.
+module _ (file bytes : List ℕ) where
+  pub are-not : length file ≢ length bytes → false ≡ areBytes file bytes
+  are-not h = rw (ne-eqb (length file) (length bytes) h)
+
+  pub are-by : length file ≡ length bytes → {b : Bool} → b ≡ startsWith file bytes → b ≡ areBytes file bytes
+  are-by h e = rw (eq-eqb (length file) (length bytes) h) e
 
 -- A title by its value.
 module _ (value : List ℕ) {a : Bool} (p : a ≡ areBytes value (ascii "1978")) where

@@ -1,6 +1,6 @@
 -- `bench_file::judge_line` meets its contract: each kind of line sets its part.
 -- Assumes nothing.
-use mathlib.Core.Path.{refl, sym}
+use mathlib.Core.Path.{sym}
 use native.Mathlib.Nat.{add-zero}
 use borrow.Author.Needs.{needs}
 use Rattle.bench_file.proofs.Judging.{judged}
