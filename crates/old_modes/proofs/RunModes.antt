@@ -1,19 +1,15 @@
--- The run modes by the numbers that they are switched as: one test over the eight. The generator with such a run mode in the 1978 steps.
+-- The run modes by the numbers that they are switched as: one test over the eight.
 -- Assumes nothing.
 use mathlib.Core.Path.{_≡_}
-use mathlib.Core.Bool.{Bool, Bool·beq, true, false, cond, _&&_, _||_}
+use mathlib.Core.Bool.{Bool, Bool·beq, true, false}
 use Prim.Native.Nat.{ℕ, zero, suc, _+_, _*_, _/_, _%_, _^_, _<_}
 use native.Mathlib.Omega.{arith}
 use lib.Dec.{eqb, ltb, lit<}
 use borrow.Author.Tests.{eqb-true, ltb-true}
-use Rattle.words.specs.Words.{sum, sumInto, leaves}
-use Rattle.modes.specs.Modes.{oscillatorOn, envelopeOn, free, wait}
+use Rattle.modes.specs.Modes.{wait}
 use Rattle.lists.proofs.Tests.{below}
 use Rattle.lists.proofs.Below.{beq-true}
-use Rattle.envelope.specs.Envelope.{overflows, decayed}
-use Rattle.generator.specs.declared.Generator.{Generator}
-use Rattle.generator.specs.Generator.{jOf, gjAfter, gkAfter, leftRange, gqAfter, triggers}
-use Rattle.old_generator.specs.OldGenerator.{oldRun, negativeGN, switchedAs, oldRunMode, switchedMode, switched}
+use Rattle.old_modes.specs.OldModes.{oldRun, negativeGN, switchedAs, oldRunMode}
 
 -- Digit r of the constant, with the sign of GN added for 111.
 pub digit-switched : (r n : ℕ) → r < 8 → n < 2 → 0x27D9EF10 / 2 ^ (4 * r) % 16 + (r + n) / 8 ≡ switchedAs r (eqb n 1)
@@ -59,28 +55,3 @@ loaded-mode gmode gn = rw (run, sign)
 
     sign : gn % 2 ^ 11 / 2 ^ 10 % 2 ≡ gn / 2 ^ 10 % 2
     sign = omega arith
-
--- What steps 1, 2, 4 and 7 look at in a generator with the 1978 run mode.
-within : (x : ℕ) → x * 2 ^ 6 / 2 ^ 6 ≡ x
-within x = omega arith
-
-module _ (g : Generator) where
-  pub gj-switched : gjAfter (switched g) ≡ cond (oscillatorOn (switchedMode g)) (sumInto 28 20 (g .gj) (g .go)) (g .gj)
-  unfolding gjAfter switched
-  gj-switched = rw (within (switchedMode g))
-
-  pub gk-switched : (f : ℕ) → gkAfter (switched g) f ≡ cond (oscillatorOn (switchedMode g)) (sum 20 (g .gk) (jOf g f)) (g .gk)
-  unfolding gkAfter jOf switched
-  gk-switched f = rw (within (switchedMode g))
-
-  pub left-switched : (f : ℕ) → leftRange (switched g) f ≡ (leaves 20 (g .gj / 2 ^ 8) f || (oscillatorOn (switchedMode g) && leaves 20 (g .gk) (jOf g f)))
-  unfolding leftRange jOf switched
-  left-switched f = rw (within (switchedMode g))
-
-  pub gq-switched : gqAfter (switched g) ≡ cond (envelopeOn (switchedMode g)) (decayed (free (switchedMode g)) (g .gq) (g .gp)) (g .gq)
-  unfolding gqAfter switched
-  gq-switched = rw (within (switchedMode g))
-
-  pub triggers-switched : triggers (switched g) ≡ (free (switchedMode g) && overflows (g .gq) (g .gp))
-  unfolding triggers switched
-  triggers-switched = rw (within (switchedMode g))
