@@ -8,7 +8,7 @@ use lib.ListN.{length, set}
 use lib.Seq.{sets}
 use Rattle.layout.specs.Machine.{Machine, Commands, withUpdateTicks}
 use Rattle.texts.specs.declared.Text.{Text}
-use Rattle.texts.specs.declared.Text.the-variants.{Of1978}
+use Rattle.texts.specs.declared.Text.the-variants.{Of1978, Old}
 use Rattle.questions.specs.Questions.{Question, asked}
 use Rattle.machine.specs.Questions.{freshMachine}
 use Rattle.bench_lines.specs.Lines.{lineOf, linesOf, ended}
@@ -95,12 +95,12 @@ isBenchFile file = ended file && isFit (fileOf file .phase)
 -- Whether a title names a text whose machines are rung, and which.
 abbrev pub isKnown : Title → Bool
 isKnown Text1978 = true
-isKnown TextOld = false
+isKnown TextOld = true
 isKnown Unknown = false
 
 abbrev pub textOf : Title → Text
 textOf Text1978 = Of1978
-textOf TextOld = Of1978
+textOf TextOld = Old
 textOf Unknown = Of1978
 
 -- The questions of a file: 9, is it a bench file; then 13, is its text known.

@@ -158,7 +158,7 @@ fn known(title: Title) -> bool
 {
     match title {
         Title::Text1978 => true,
-        Title::TextOld => false,
+        Title::TextOld => true,
         Title::Unknown => false,
     }
 }
@@ -169,7 +169,7 @@ fn text_of(title: Title) -> Text
 {
     match title {
         Title::Text1978 => Text::Of1978,
-        Title::TextOld => Text::Of1978,
+        Title::TextOld => Text::Old,
         Title::Unknown => Text::Of1978,
     }
 }

@@ -9,7 +9,7 @@ use Rattle.lists.specs.Lists.{zeros}
 use Rattle.layout.specs.Layout.{counterAt, dacAt, memoryWords}
 use Rattle.layout.specs.Machine.{Machine, Memory, Commands}
 use Rattle.texts.specs.declared.Text.{Text}
-use Rattle.texts.specs.declared.Text.the-variants.{Of1978}
+use Rattle.texts.specs.declared.Text.the-variants.{Of1978, Old}
 use Rattle.update.specs.Update.{Outcome, updateOf}
 use Rattle.bench_text.specs.Text.{passLine, refusalLine}
 use Rattle.bench_file.specs.BenchFile.{fileOf, textOf, fileRefusal}
@@ -19,9 +19,10 @@ use Rattle.bench_pass.specs.ByNumber.{passed}
 unfoldable pub lineAfter : Machine → List ℕ
 lineAfter m = passLine (getD m counterAt 0) (getD m (dacAt 0) 0) (getD m (dacAt 1) 0)
 
--- What follows a pass by a text: an update with the commands still left.
+-- What follows a pass by a text: an update with the commands still left; no update follows an old one.
 abbrev pub updateAfter : Text → Machine → Commands → Outcome
-updateAfter Of1978 = updateOf
+updateAfter Of1978 m commands = updateOf m commands
+updateAfter Old m commands = record { number = 0; machine = m; rest = commands }
 
 -- What is printed: so many passes, each followed by an update with the commands still left, a line after both; a refusal prints its number and ends. Delay memory goes from pass to pass.
 unfoldable pub printed : Text → ℕ → Machine → Memory → Commands → List ℕ
