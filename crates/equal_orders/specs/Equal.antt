@@ -15,10 +15,11 @@ use Rattle.texts.specs.declared.Text.the-variants.{Of1978, Old}
 use Rattle.pass_model.specs.Pass.{Call, by, Outcome, writtenData, passOf}
 use Rattle.pass_laws.specs.Good.{Good}
 
--- What is a setting of a generator that sends: the DAC number of a 0010. In the older text, of a 111, the sign of GN and its low 4 bits, the DAC number.
+-- GN of generator g.
 abbrev pub gnAt : Machine → ℕ → ℕ
 gnAt m g = getD m (generatorAt g + GN) 0
 
+-- What is a setting of a generator that sends: the DAC number of a 0010. In the older text, of a 111, the sign of GN and its low 4 bits, the DAC number.
 abbrev pub SameSending : Text → Machine → Machine → ℕ → Type 0
 SameSending Of1978 m n g = runModeAt Of1978 m g ≡ writeDAC → dacNumberAt Of1978 m g ≡ dacNumberAt Of1978 n g
 SameSending Old m n g = oldRun (gmodeAt m g) ≡ 0b111 → (negativeGN (gnAt m g) ≡ negativeGN (gnAt n g)) × (gnAt m g % 2 ^ 4 ≡ gnAt n g % 2 ^ 4)
