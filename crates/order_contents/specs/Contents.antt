@@ -44,11 +44,12 @@ overflowing = column GQ (λ g. 16777215) ∷ column GP (λ g. 1) ∷ []
 unfoldable pub triggeringContents : Machine → Machine
 triggeringContents m = withColumns overflowing (inactiveModifiers m)
 
--- What is sent tells its source. In 1978's text it is F: the word at each GFM is that GFM, generator-last word w is w, modifier-last word w is 64 + w.
--- In the older text it is E, GK or J: with every F 0 both are the generator's number, since GK and the high 20 bits of GJ are.
+-- GK and the high 20 bits of GJ are the generator's number.
 abbrev pub ownNumbers : List Column
 ownNumbers = column GJ (λ g. 256 * g) ∷ column GK (λ g. g) ∷ []
 
+-- What is sent tells its source. In 1978's text it is F: the word at each GFM is that GFM, generator-last word w is w, modifier-last word w is 64 + w.
+-- In the older text it is GK or J, by the oscillator mode: with every F 0 both are the generator's number.
 unfoldable pub sendingContents : Text → Machine → Machine
 sendingContents Of1978 m = withLast (λ w. w) (λ w. 64 + w) m
 sendingContents Old m = withColumns ownNumbers (withLast (λ w. 0) (λ w. 0) m)
@@ -62,12 +63,12 @@ silentLevel Old gmode = getD (0 ∷ 0 ∷ 3 ∷ 4093 ∷ []) (oldEnvelope gmode)
 unfoldable pub soundingLevel : Text → Machine → ℕ → ℕ → ℕ
 soundingLevel text m s g = (silentLevel text (gmodeAt m g) + cond (eqb g s) 64 0) % 2 ^ glBits
 
--- With every F 1, registers with which W is not 0 in any oscillator mode: the high 20 bits of GJ are the largest signed number, so that step 1 leaves its range;
--- K, the high 13 bits of GK or in the older text 12, is 1 unless it comes from J; GM is 0; GN is 1. The older text has no use for GN in a wave: there it is a setting, and stays.
+-- K, the high 13 bits of GK or in the older text 12, is 1 unless it comes from J, and GN is 1. The older text has no use for GN in a wave: there it is a setting, and stays.
 abbrev pub waveColumns : Text → List Column
 waveColumns Of1978 = column GK (λ g. 128) ∷ column GN (λ g. 1) ∷ []
 waveColumns Old = column GK (λ g. 256) ∷ []
 
+-- With these, GM 0 and every F 1, W is not 0 in any oscillator mode: the high 20 bits of GJ are the largest signed number, so that step 1 leaves its range. GQ is 0.
 abbrev pub soundingColumns : Text → Machine → ℕ → List Column
 soundingColumns text m s = column GL (soundingLevel text m s) ∷ column GQ (λ g. 0) ∷ column GM (λ g. 0) ∷ column GJ (λ g. 134217472) ∷ waveColumns text
 
