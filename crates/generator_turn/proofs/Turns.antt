@@ -11,24 +11,19 @@ use Rattle.generator.specs.declared.Generator.{Generator}
 use Rattle.generator.specs.Generator.{Ranged, triggers, soundedOf}
 use Rattle.generator.proofs.Turns.{rests, after-untold}
 use Rattle.generator.proofs.Registers.{p-low}
-use Rattle.old_modes.proofs.RunModes.{switched-low, idle-low}
+use Rattle.old_modes.proofs.RunModes.{switched-low}
 use Rattle.old_generator.specs.OldGenerator.{oldSounded}
 use Rattle.old_generator.proofs.Switched.{triggers-switched}
 use Rattle.old_generator.proofs.OldTurns.{old-rests, old-after-untold}
 use Rattle.old_generator.proofs.Registers.{old-p-low}
 use Rattle.texts.specs.declared.Text.{Text}
 use Rattle.texts.specs.declared.Text.the-variants.{Of1978, Old}
-use Rattle.generator_turn.specs.GeneratorTurn.{runOf, idleLimit, afterOf, soundedBy}
+use Rattle.generator_turn.specs.GeneratorTurn.{runOf, afterOf, soundedBy}
 
 -- A run mode in the 1978 coding has 4 bits.
 pub run-low : (text : Text) (u : Generator) → Ranged u → runOf text u < 16
 run-low Of1978 u r = omega (arith, r .gmode-low)
 run-low Old u r = switched-low (u .gmode) (u .gn)
-
--- GMODE below its limit is inactive or paused.
-pub idle-run : (text : Text) (u : Generator) → u .gmode < idleLimit text → runOf text u < 2
-idle-run Of1978 u h = omega arith
-idle-run Old u h = idle-low (u .gmode) (u .gn) h
 
 -- P is a word of 20 bits.
 pub sounded-p-low : (text : Text) (u : Generator) (f : ℕ) → soundedBy text u f .p < 2 ^ 20

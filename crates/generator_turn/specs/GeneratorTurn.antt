@@ -14,11 +14,6 @@ abbrev pub runOf : Text → Generator → ℕ
 runOf Of1978 u = runMode u
 runOf Old u = switchedMode u
 
--- The first GMODE with another run mode than inactive and pause.
-abbrev pub idleLimit : Text → ℕ
-idleLimit Of1978 = 2 ^ 7
-idleLimit Old = 2 ^ 6
-
 -- The generator after its turn, by F and what it is told.
 abbrev pub afterOf : Text → Generator → ℕ → Bool → Generator
 afterOf Of1978 = after

@@ -6,33 +6,13 @@ ghost use Rattle.sine.specs.Sine.{quarter};
 ghost use Rattle.exponential.specs.Exponential.{tableSize, entries};
 ghost use Rattle.modes.specs.Modes.{switchesOf, envelopeOn, wait};
 ghost use Rattle.generator.specs.Generator.{Ranged};
-ghost use Rattle.generator_turn.specs.GeneratorTurn.{runOf, idleLimit, afterOf, soundedBy, sendsOf, dacOf};
+ghost use Rattle.generator_turn.specs.GeneratorTurn.{runOf, afterOf, soundedBy, sendsOf, dacOf};
 use exponential::Entries;
 use generator::Generator;
 use generator::Sounded;
 use modes::Switches;
 use sine::Quarter;
 use texts::Text;
-
-// The run mode, in the 1978 coding.
-pub fn run_mode(text: Text, unit: Generator) -> u32
-    ensures { λ r. ⌜ r ≡ runOf text unit ⌝ }
-{
-    match text {
-        Text::Of1978 => unit.gmode / 64,
-        Text::Old => old_modes::run_mode(unit.gmode, unit.gn),
-    }
-}
-
-// A generator with GMODE below it is inactive or paused.
-pub fn idle_limit(text: Text) -> u32
-    ensures { λ r. ⌜ r ≡ idleLimit text ⌝ }
-{
-    match text {
-        Text::Of1978 => 128,
-        Text::Old => 64,
-    }
-}
 
 // The turn of a generator whose envelope is on; on is its run mode's switches.
 pub fn play(

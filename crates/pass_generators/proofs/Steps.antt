@@ -20,8 +20,8 @@ use Rattle.generator.specs.declared.Sounded.{Sounded}
 use Rattle.texts.specs.declared.Text.{Text}
 use Rattle.texts.specs.Texts.{distanceOf}
 use Rattle.generator.specs.Generator.{stored}
-use Rattle.generator_turn.specs.GeneratorTurn.{runOf, idleLimit, afterOf, soundedBy}
-use Rattle.generator_turn.proofs.Turns.{idle-run, untold, rests-in, no-trigger}
+use Rattle.generator_turn.specs.GeneratorTurn.{runOf, afterOf, soundedBy}
+use Rattle.generator_turn.proofs.Turns.{untold, rests-in, no-trigger}
 use Rattle.pass_model.specs.Generators.{generatorsOf, generatorOf, generatorTurn, State, told, fed, summed, step}
 use Rattle.pass_model.proofs.Turns.{partsOf, turn-parts, waits-silent}
 use Rattle.pass_model.specs.Clipped.{Marks, sumLeaves, markedAt, marked}
@@ -101,14 +101,14 @@ module _ (text : Text) (items : Items) (s : State) (g : ℕ) (u : Generator) (f 
       rw (turn-of (told (distanceOf text) (s .triggered) g), q .no-replace, q .no-add)
 
   -- Inactive or paused.
-  pub step-idle : WithinWidths (s .words) g → u .gmode < idleLimit text → s ≡ step (generatorsOf text) items s g
+  pub step-idle : WithinWidths (s .words) g → runOf text u < 2 → s ≡ step (generatorsOf text) items s g
   unfolding sent
   step-idle low h =
-      let i = idle (runOf text u) (idle-run text u h) in
+      let i = idle (runOf text u) h in
       sends-on low (i .no-envelope) (i .no-oscillator) (rw (i .no-DAC, i .no-write))
 
-  pub idle-marked : (marks : Marks) → u .gmode < idleLimit text → marks ≡ marked (generatorsOf text) items s marks g
-  idle-marked marks h = sends-marked marks (idle (runOf text u) (idle-run text u h) .no-envelope)
+  pub idle-marked : (marks : Marks) → runOf text u < 2 → marks ≡ marked (generatorsOf text) items s marks g
+  idle-marked marks h = sends-marked marks (idle (runOf text u) h .no-envelope)
 
 -- What the code does for a generator whose envelope is on: x is what it brings.
 module _ (text : Text) (items : Items) (v : Sounding) (g : ℕ) (u : Generator) (f : ℕ) {on : Switches} {x : Sounded} where

@@ -7,7 +7,7 @@ ghost use Rattle.sine.specs.Sine.{quarter};
 ghost use Rattle.exponential.specs.Exponential.{tableSize, entries};
 ghost use Rattle.modes.specs.Modes.{rows, switchesOf, envelopeOn, wait};
 ghost use Rattle.layout.specs.Layout.{generatorAt};
-ghost use Rattle.generator.specs.Generator.{Ranged, stored};
+ghost use Rattle.generator.specs.Generator.{stored};
 ghost use Rattle.generator_turn.specs.GeneratorTurn.{runOf, afterOf};
 ghost use Rattle.texts.specs.Texts.{distanceOf};
 ghost use Rattle.pass_model.specs.Generators.{generatorsOf, generatorOf, told, step, begun, takenBy};
@@ -61,17 +61,16 @@ fn play(
     items: &[u32],
     reads: usize,
     g: usize,
-    unit: Generator,
     on: Switches,
     f: u32,
 ) -> usize
     requires { ⌜ Reaches (now m) ⌝ }
-    requires { ⌜ Ranged unit ⌝ }
     requires { ⌜ (now sine ≡ quarter) × (now decay ≡ entries tableSize) ⌝ }
-    requires { ⌜ (on ≡ switchesOf (runOf text unit)) × (envelopeOn (runOf text unit) ≡ true) ⌝ }
+    requires { ⌜ (on ≡ switchesOf (runOf text (generatorOf (now m) g))) × (envelopeOn (runOf text (generatorOf (now m) g)) ≡ true) ⌝ }
     requires { ⌜ (f < 2 ^ 20) × (g < 256) × (reads < 256) ⌝ }
-    ensures { λ r. ⌜ record { words = now (m .exit); sums = now (s .exit); clipped = now (clipped .exit); triggered = now (triggered .exit); reads = r } ≡ sounded text (now (items .entry)) (record { words = now (m .entry); sums = now (s .entry); clipped = now (clipped .entry); triggered = now (triggered .entry); reads = reads }) g unit f ⌝ }
+    ensures { λ r. ⌜ record { words = now (m .exit); sums = now (s .exit); clipped = now (clipped .exit); triggered = now (triggered .exit); reads = r } ≡ sounded text (now (items .entry)) (record { words = now (m .entry); sums = now (s .entry); clipped = now (clipped .entry); triggered = now (triggered .entry); reads = reads }) g (generatorOf (now (m .entry)) g) f ⌝ }
 {
+    let unit = generator_at(m, g);
     let sounded = generator_turn::play(text, unit, sine, decay, on, f);
     let turned = sounded.unit;
     let p = sounded.p;
@@ -81,18 +80,18 @@ fn play(
 }
 
 // A generator that waits is taken.
-fn wait(text: Text, m: &mut [u32], triggered: &Triggered, g: usize, unit: Generator, f: u32)
+fn wait(text: Text, m: &mut [u32], triggered: &Triggered, g: usize, f: u32)
     requires { ⌜ Reaches (now m) ⌝ }
-    requires { ⌜ Ranged unit ⌝ }
-    requires { ⌜ (runOf text unit ≡ wait) × (f < 2 ^ 20) × (g < 256) ⌝ }
-    ensures { λ r. ⌜ now (m .exit) ≡ stored (now (m .entry)) (generatorAt g) (afterOf text unit f (told (distanceOf text) (now (triggered .entry)) g)) ⌝ }
+    requires { ⌜ (runOf text (generatorOf (now m) g) ≡ wait) × (f < 2 ^ 20) × (g < 256) ⌝ }
+    ensures { λ r. ⌜ now (m .exit) ≡ stored (now (m .entry)) (generatorAt g) (afterOf text (generatorOf (now (m .entry)) g) f (told (distanceOf text) (now (triggered .entry)) g)) ⌝ }
 {
+    let unit = generator_at(m, g);
     let told = pass_outputs::told(text, triggered, g);
     let after = generator_turn::wait(text, unit, f, told);
     put_generator_at(m, g, after);
 }
 
-// One generator is taken.
+// One generator is taken. Its registers are loaded where its way is known: inactive and paused ones are many.
 fn step(
     text: Text,
     m: &mut [u32],
@@ -114,12 +113,12 @@ fn step(
     ensures { λ r. ⌜ record { words = now (m .exit); sums = now (s .exit); triggered = now (triggered .exit); places = now (places .exit); reads = r .reads; writes = r .writes } ≡ step (generatorsOf text) (now (items .entry)) (record { words = now (m .entry); sums = now (s .entry); triggered = now (triggered .entry); places = now (places .entry); reads = done .reads; writes = done .writes }) g ⌝ }
     ensures { λ _. ⌜ now (clipped .exit) ≡ marked (generatorsOf text) (now (items .entry)) (record { words = now (m .entry); sums = now (s .entry); triggered = now (triggered .entry); places = now (places .entry); reads = done .reads; writes = done .writes }) (now (clipped .entry)) g ⌝ }
 {
-    let unit = generator_at(m, g);
-    if unit.gmode < generator_turn::idle_limit(text) {
+    let run = texts::run_mode(text, m, g);
+    if run <= modes::PAUSE {
         return done;
     }
-    let f = sums::f_at(s, unit.gfm);
-    let on = modes::switches_of(switches, generator_turn::run_mode(text, unit));
+    let f = sums::f_at(s, layout::gfm(m, g) % layout::GFM_LIMIT);
+    let on = modes::switches_of(switches, run);
     if on.envelope == 1 {
         let reads = play(
             text,
@@ -132,7 +131,6 @@ fn step(
             items,
             done.reads,
             g,
-            unit,
             on,
             f,
         );
@@ -142,10 +140,11 @@ fn step(
         };
     }
     if on.oscillator == 1 {
-        wait(text, m, triggered, g, unit, f);
+        wait(text, m, triggered, g, f);
         return done;
     }
-    let writes = pass_outputs::send(text, m, places, done.writes, unit, f);
+    let unit = generator_at(m, g);
+    let writes = pass_outputs::send(text, m, places, done.writes, run, unit, f);
     Items {
         reads: done.reads,
         writes,

@@ -1,15 +1,20 @@
 -- A generator's turn by its parts, whatever the text; and what the turn of one that waits doesn't bring: a trigger acts from the next pass on.
 -- Assumes nothing.
-use mathlib.Core.Path.{_≡_, refl}
+use mathlib.Core.Path.{_≡_, refl, ap}
 use mathlib.Core.Bool.{Bool, false}
-use Prim.Native.Nat.{ℕ}
+use Prim.Native.Nat.{ℕ, _+_, _/_, _^_}
 use lib.Dec.{eqb}
+use lib.ListN.{getD}
+use lib.Seq.{getD-drop}
 use Rattle.lists.specs.Lists.{isOneOf}
-use Rattle.layout.specs.Machine.{Machine, Sums}
+use Rattle.layout.specs.Layout.{generatorAt, GN, GMODE}
+use Rattle.layout.specs.Machine.{Machine, Sums, gmodeAt}
 use Rattle.modes.specs.Modes.{envelopeOn, adds, replaces, wait, writeData, writeDAC}
 use Rattle.generator.specs.declared.Generator.{Generator}
-use Rattle.generator.specs.Generator.{soundedOf}
+use Rattle.generator.specs.Generator.{loaded, soundedOf}
+use Rattle.old_modes.proofs.RunModes.{loaded-mode}
 use Rattle.old_generator.specs.OldGenerator.{oldSounded}
+use Rattle.texts.specs.Texts.{runModeAt}
 use Rattle.texts.specs.declared.Text.{Text}
 use Rattle.texts.specs.declared.Text.the-variants.{Of1978, Old}
 use Rattle.generator_turn.specs.GeneratorTurn.{runOf, afterOf, soundedBy, sendsOf, dacOf}
@@ -38,6 +43,12 @@ pub turn-parts : (text : Text) (words : Machine) (sums : Sums) (g : ℕ) (told :
 unfolding turn1978 turnOld soundedOf oldSounded
 turn-parts Of1978 words sums g told = refl
 turn-parts Old words sums g told = refl
+
+-- The run mode of a generator as it is loaded is that of the machine's words, where GMODE is within its width.
+pub run-loaded : (text : Text) (m : Machine) (g : ℕ) → generatorOf m g .gmode ≡ gmodeAt m g → runOf text (generatorOf m g) ≡ runModeAt text m g
+unfolding generatorOf loaded
+run-loaded Of1978 m g e = ap (λ (x : ℕ). x / 2 ^ 6) e
+run-loaded Old m g e = rw (getD-drop (generatorAt g) m GMODE 0, getD-drop (generatorAt g) m GN 0) (loaded-mode (gmodeAt m g) (getD m (generatorAt g + GN) 0))
 
 -- A turn that no other generator and no DAC hears of.
 pub record Silent (b : Brought) : Type 0 where

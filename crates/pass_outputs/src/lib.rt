@@ -7,6 +7,7 @@ ghost use lib.ListN.{getD, set};
 ghost use Rattle.layout.specs.Machine.{Reaches};
 ghost use Rattle.generator.specs.Generator.{Ranged};
 ghost use Rattle.texts.specs.Texts.{distanceOf};
+ghost use Rattle.generator_turn.specs.GeneratorTurn.{runOf};
 ghost use Rattle.pass_model.specs.Generators.{told};
 ghost use Rattle.pass_model.specs.Clipped.{markedAt};
 ghost use Rattle.pass_outputs.specs.Outputs.{heard, heardLeaves, sent};
@@ -78,21 +79,21 @@ pub fn hear(
     reads + 1
 }
 
-// A generator with nothing on is taken: 0010 feeds its DAC, 0011 writes an item. The answer is how many items were written.
+// A generator with nothing on is taken, by its run mode: 0010 feeds its DAC, 0011 writes an item. The answer is how many items were written.
 pub fn send(
     text: Text,
     m: &mut [u32],
     places: &mut [u32],
     writes: usize,
+    run: u32,
     unit: Generator,
     f: u32,
 ) -> usize
     requires { ⌜ Reaches (now m) ⌝ }
     requires { ⌜ Ranged unit ⌝ }
-    requires { ⌜ (f < 2 ^ 20) × (writes < 256) ⌝ }
+    requires { ⌜ (run ≡ runOf text unit) × (f < 2 ^ 20) × (writes < 256) ⌝ }
     ensures { λ r. ⌜ record { words = now (m .exit); places = now (places .exit); writes = r } ≡ sent text (record { words = now (m .entry); places = now (places .entry); writes = writes }) unit f ⌝ }
 {
-    let run = generator_turn::run_mode(text, unit);
     if run == modes::WRITE_DAC {
         let at = layout::DACS_AT + layout::wide(generator_turn::dac(text, unit));
         m[at] = generator_turn::sends(text, unit, f);
