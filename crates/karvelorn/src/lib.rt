@@ -8,7 +8,9 @@ ghost use mathlib.Core.Bool.{cond};
 ghost use Rattle.compare.specs.Compare.{compareOf};
 ghost use Rattle.any_order.specs.AnyOrder.{anyOrderOf};
 ghost use Rattle.parts.specs.Parts.{partsOf};
+ghost use Rattle.chain.specs.Chain.{chainOf};
 ghost use Rattle.texts.specs.declared.Text.the-variants.{Of1978};
+use chain_numbers::Numbers;
 use sums::Clipped;
 use texts::Text;
 
@@ -100,4 +102,12 @@ pub extern "C" fn karvelorn_parts(
     *point = told.point;
     *place = told.place;
     told.number
+}
+
+// Numbers for a chain of modifiers. The answer is the number of the refusing question or 0; numbers get those of the entries.
+#[no_mangle]
+pub extern "C" fn karvelorn_chain(entries: &[u32], names: &[u32], numbers: &mut Numbers) -> u32
+    ensures { λ r. ⌜ record { number = r; numbers = now (numbers .exit) } ≡ chainOf (record { entries = now (entries .entry); names = now (names .entry) }) (now (numbers .entry)) ⌝ }
+{
+    chain::chain(entries, names, numbers)
 }
