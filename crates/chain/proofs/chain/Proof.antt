@@ -15,7 +15,7 @@ returns : tie.Need-returns
 returns c =
     let r = c .before in
     let a = r .before .before .before .before .args in
-    refused (record { entries = a .entries .now; names = a .names .now }) (a .numbers .now) (r .refusal .ensures .0) (c .if1 .taken)
+    refused (record { entries = a .entries .now; names = a .names .now }) (a .numbers .now) (r .refusal .ensures .0) (omega (arith, c .if1 .taken))
 
 put-requires : tie.Need-put-requires
 put-requires c κs =
@@ -30,7 +30,7 @@ returns-2 c =
     let a = r .before .before .before .before .args in
     let e : Chain = record { entries = a .entries .now; names = a .names .now } in
     let none : chainRefusal e ≡ 0 = sym (r .refusal .ensures .0) ∙ omega (arith, i .if1 .left) in
-    numbered e (a .numbers .now) (r .refusal .ensures .0) (i .if1 .left) (few e none) (replicate 128 0) (r .refusal .last .1 .1 .0) refl
+    numbered e (a .numbers .now) (r .refusal .ensures .0) (omega (arith, i .if1 .left)) (few e none) (replicate 128 0) (r .refusal .last .1 .1 .0) refl
     (r .refusal .ensures .1 (omega (arith, i .if1 .left))) (c .put .ensures)
 
 pub chain-spec : {M : Type 1} → statement M

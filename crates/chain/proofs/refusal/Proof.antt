@@ -24,7 +24,7 @@ returns-3 : tie.Need-returns-3
 returns-3 c =
     let e = c .before .before in
     let a = e .before .before .before .before .args in
-    too-many (record { entries = a .entries .now; names = a .names .now }) (a .found .now) (sym (e .before .good2 .ensures) ∙ not-false _ (e .if1 .left)) (c .if3 .taken)
+    too-many (record { entries = a .entries .now; names = a .names .now }) (a .found .now) (sym (e .before .good2 .ensures) ∙ not-false _ (e .if1 .left)) (omega (arith, c .if3 .taken))
 
 find-requires : tie.Need-find-requires
 find-requires c κs =
@@ -38,7 +38,7 @@ returns-4 c =
     let e = f .before .before .before .before in
     let a = e .before .before .before .before .args in
     last-past (record { entries = a .entries .now; names = a .names .now }) (a .found .now) (sym (e .before .good2 .ensures) ∙ not-false _ (e .if1 .left))
-    (f .before .before .before .if2 .left) (f .find .ensures) (c .if4 .taken)
+    (f .before .before .before .if2 .left) (f .find .ensures) (omega (arith, c .if4 .taken))
 
 returns-5 : tie.Need-returns-5
 returns-5 c =
@@ -46,7 +46,7 @@ returns-5 c =
     let e = f .before .before .before .before in
     let a = e .before .before .before .before .args in
     all-low (record { entries = a .entries .now; names = a .names .now }) (a .found .now) (sym (e .before .good2 .ensures) ∙ not-false _ (e .if1 .left))
-    (f .before .before .before .if2 .left) (f .find .ensures) (c .if4 .left)
+    (f .before .before .before .if2 .left) (f .find .ensures) (omega (arith, c .if4 .left))
 
 pub refusal-spec : {M : Type 1} → statement M
 refusal-spec = tie.close (tie.spec (λ c κs. search needs) returns returns-2 returns-3 (λ c. search needs) find-requires returns-4 returns-5)
