@@ -44,7 +44,7 @@
  * A pass asks 1, 2, 5, 6, 7, 8, 10, 11 and 12 in this sequence. An update asks 1 and 2, then 3 and 4 as each command
  * has its turn; a compare asks 1 and 2, then 5 and 6 of each order, karvelorn_parts the same, then 1 of the run for the
  * contents and 7 of the read list, and karvelorn_any_order 1 and 2. These four ask none of 10 to 12. karvelorn_chain,
- * which is handed no machine, asks 14 and then 15, and no other call asks these. No call answers 9 or 13.
+ * which is handed no machine, asks 14 and then 15, and no other call asks these. No call answers 9.
  * A refused call leaves every run as it was, but for an update that refuses a command (3 or 4): what it did before that
  * command stays done.
  *

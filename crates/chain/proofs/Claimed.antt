@@ -2,23 +2,21 @@
 -- Assumes nothing.
 use mathlib.Core.Path.{_≡_, refl, sym, ap, _∙_}
 use mathlib.Core.Logic.{_↔_}
-use mathlib.Core.Bool.{Bool, true, false, cond, _&&_, true≢false}
+use mathlib.Core.Bool.{Bool, true, false, _&&_, true≢false}
 use mathlib.Core.List.{List}
 use Prim.Native.Nat.{ℕ, zero, suc, _+_, _*_, _≤_, _<_}
 use native.Mathlib.Omega.{arith}
-use borrow.Author.Tests.{ltb-true, ltb-false}
+use borrow.Author.Tests.{ltb-false}
 use lib.Dec.{ltb, lit<}
 use lib.ListN.{length, getD}
 use Rattle.lists.specs.Lists.{allBelow}
-use Rattle.lists.proofs.Below.{below-at}
 use Rattle.fills.proofs.Filled.{filled-at}
-use Rattle.questions.specs.Questions.{asked}
 use Rattle.chain_entries.specs.Entries.{Chain, size, nameOf, chainGood}
 use Rattle.chain_entries.specs.Fits.{Fits}
 use Rattle.chain_entries.proofs.Fitting.{good-chain, fits-chain}
 use Rattle.chain_numbers.specs.Earliest.{modifiers, earliest}
 use Rattle.chain_numbers.specs.Numberings.{Numbering, PassesLast}
-use Rattle.chain_numbers.proofs.Earliest.{earliest-numbering, earliest-least, earliest-above}
+use Rattle.chain_numbers.proofs.Earliest.{earliest-numbering, earliest-least}
 use Rattle.chain.specs.Chain.{numbersFit, chainRefusal, chainOf}
 use Rattle.chain.proofs.Refusals.{numberBy, numberBy-is, past-fails, fitting, low, few}
 

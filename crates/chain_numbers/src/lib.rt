@@ -13,6 +13,7 @@ pub type Numbers = [u32; layout::MODIFIERS];
 
 // How far below its reader an entry that is named must stand.
 const EARLY_LAG: u32 = 4;
+
 const LATE_LAG: u32 = 1;
 
 // The lag of entry i.

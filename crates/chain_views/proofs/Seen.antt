@@ -1,6 +1,6 @@
 -- The numbers of a chain are far enough apart for the views of a pass: what is taken of the writes reaches past the one that is named.
 -- Assumes nothing.
-use mathlib.Core.Path.{_≡_, refl, ap, _∙_}
+use mathlib.Core.Path.{_≡_, refl, ap}
 use mathlib.Core.Bool.{Bool, true, false, cond}
 use mathlib.Core.List.{List, [], _∷_, _++_}
 use Prim.Native.Nat.{ℕ, suc, _+_, _-_, _≤_, _<_}
@@ -11,7 +11,7 @@ use Rattle.chain_entries.specs.Entries.{Chain, size, isEarly, namesIn, nameOf}
 use Rattle.chain_numbers.specs.Earliest.{modifiers, lag}
 use Rattle.chain.specs.Chain.{chainOf}
 use Rattle.chain.proofs.Claimed.{chain-numbers}
-use Rattle.chain_views.specs.Sees.{viewOf, Sees}
+use Rattle.chain_views.specs.Sees.{Sees}
 
 -- Of some writes, all up to one and so many more.
 take-past : (before : List Write) (w : Write) (after : List Write) (k more : ℕ) → k ≡ length before + suc more

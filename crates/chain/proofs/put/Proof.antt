@@ -1,6 +1,6 @@
 -- `chain::put` meets its contract: the numbers passed are put.
 -- Assumes nothing.
-use mathlib.Core.Path.{_≡_, refl, ap, _∙_}
+use mathlib.Core.Path.{_≡_, ap, _∙_}
 use Prim.Native.Nat.{ℕ, _≤_, _-_}
 use lib.ListN.{getD}
 use Rattle.fills.specs.Fills.{filled}

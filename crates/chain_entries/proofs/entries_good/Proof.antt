@@ -1,7 +1,7 @@
 -- `chain_entries::entries_good` meets its contract: the entries passed fit.
 -- Assumes nothing.
 use mathlib.Core.Path.{_≡_, refl, ap, _∙_}
-use Prim.Native.Nat.{ℕ, _/_, _≤_, _-_}
+use Prim.Native.Nat.{_/_, _≤_, _-_}
 use lib.ListN.{length}
 use Rattle.lists.specs.Lists.{allBelow}
 use Rattle.chain_entries.specs.Entries.{entryGood}

@@ -1,6 +1,6 @@
 -- `chain_numbers::above_names` meets its contract: the names passed are above_names on.
 -- Assumes nothing.
-use mathlib.Core.Path.{_≡_, refl, ap, _∙_}
+use mathlib.Core.Path.{_≡_, ap, _∙_}
 use Prim.Native.Nat.{ℕ, _≤_, _+_, _-_}
 use lib.ListN.{getD}
 use Rattle.chain_numbers.specs.Earliest.{highest}

@@ -1,6 +1,5 @@
 -- `chain_numbers::lag_of` meets its contract: 4 where the read is early.
 -- Assumes nothing.
-use mathlib.Core.Path.{_≡_, refl}
 use borrow.Author.Tests.{eq-eqb, ne-eqb}
 use Rattle.chain_numbers.specs.Earliest.{lag}
 use native.Mathlib.Omega.{arith}
