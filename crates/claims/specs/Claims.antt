@@ -50,6 +50,12 @@ use Rattle.equal_orders.specs.WorkedExamples.{WorkedExamples, forth, back}
 use Rattle.equal_any_order.specs.EveryOrder.{Passes, EveryTwoEqual, Apart}
 use Rattle.equal_any_order.specs.MarksApart.{upAndDown}
 use Rattle.equal_parts.specs.Parting.{PartingContents}
+use Rattle.chain_entries.specs.Entries.{Chain, size, isEarly, namesIn, nameOf}
+use Rattle.chain_entries.specs.Fits.{Fits}
+use Rattle.chain_numbers.specs.Earliest.{modifiers}
+use Rattle.chain_numbers.specs.Numberings.{Numbering, PassesLast}
+use Rattle.chain.specs.Chain.{chainOf}
+use Rattle.chain_views.specs.Sees.{Sees}
 use Rattle.bench_text.specs.Text.{lineBytes, decimal}
 use Rattle.bench_numbers.specs.Numbers.{decimalIn}
 use Rattle.bench_numbers.specs.declared.Number.the-variants.{Is}
@@ -162,6 +168,19 @@ pub record Claims : Type 0 where
       → Turns (unit 0 .z + 3) unit memory word → OnlyTurnsWrite (slot (unit 0)) (unit 0 .z + 1) unit memory word → due (unit (unit 0 .z + 3)) ≡ word 0
   pub table-returns : (unit : ℕ → Delay) (memory : ℕ → Memory) (word : ℕ → ℕ) → unit 0 .p ≢ line → Turns 3 unit memory word
       → due (unit 3) ≡ getD (memory 0) (address (unit 0) (word 0)) 0
+  -- The numbers that a chain of modifiers is given rise along the list, each writer is at least 4 below an early reader and 1 below a late one, and none passes 127.
+  pub chain-numbers : (c : Chain) (run : List ℕ) → length run ≡ modifiers → chainOf c run .number ≡ 0
+      → Numbering c (λ i. getD (chainOf c run .numbers) i 0) × ((i : ℕ) → i < size c → getD (chainOf c run .numbers) i 0 < modifiers)
+  -- Every other numbering has at each entry a number at least as high, whether or not it passes 127.
+  pub chain-least : (c : Chain) (run : List ℕ) → length run ≡ modifiers → chainOf c run .number ≡ 0
+      → (f : ℕ → ℕ) → Numbering c f → (i : ℕ) → i < size c → getD (chainOf c run .numbers) i 0 ≤ f i
+  -- The number is 15 exactly where the chain fits and every numbering passes 127; and 14 exactly where it doesn't fit: some word or end is none of the form,
+  -- or an entry names itself, a later one or a place outside the list.
+  pub chain-none : (c : Chain) (run : List ℕ) → (chainOf c run .number ≡ 15) ↔ (Fits c × ((f : ℕ → ℕ) → Numbering c f → PassesLast c f))
+  pub chain-names : (c : Chain) (run : List ℕ) → (chainOf c run .number ≡ 14) ↔ (¬ (Fits c))
+  -- With these numbers the write of each entry that is named is among those that its reader sees, by the early view of a pass or by the late one.
+  pub chain-sees : (c : Chain) (run : List ℕ) → length run ≡ modifiers → chainOf c run .number ≡ 0 → (i k : ℕ) → i < size c → k < namesIn (c .entries) i
+      → Sees (isEarly (c .entries) i) (getD (chainOf c run .numbers) i 0) (getD (chainOf c run .numbers) (nameOf c i k) 0)
   -- Entry f of an exponential table of n is the largest of all e with e^n times 2^f at most 4,093^n, for every n. Entry 4f of the table is entry f of
   -- document 01's table of 256, and so the exponential of 4h is what document 01's was of h. Number by number that table is the one that `olderTable` lists.
   pub entry-largest : (n f : ℕ) → 0 < n → Largest (within n f) (exponentialEntry n f)
