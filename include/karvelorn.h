@@ -88,6 +88,33 @@
  *   1010, 1011   the word from the modifier is shifted to the right by Z's low 4 bits, bringing in zeros; 1011 adds the
  *                highest bit shifted out, if there is one. The right 16 bits of this, plus X, modulo 65536, are an
  *                address: the word of delay memory there becomes the third word. So an answer comes three passes later
+ *
+ * Machines of the older text: karvelorn_old_pass, karvelorn_old_compare and karvelorn_old_parts. They are the same runs
+ * of words, and karvelorn_fresh makes them too: a fresh machine is good by both texts. No word tells which text a machine
+ * follows; the call does. karvelorn_update and karvelorn_any_order are for machines of 1978 alone. What differs:
+ *   Question 2  GMODE has 8 bits, with modes as below, and MMODE a function as below. All other words are asked as above
+ *   GMODE       run mode (3 bits), each switched as a run mode of 1978: 000 inactive, 001 pause, 010 running (1111), 011
+ *               running (1110), 101 running (1101), 100 wait (1001), 110 read data (0111), 111 sends. Envelope mode (2):
+ *               00 and 10 add Q to GL, 01 and 11 take it from GL, where Q is the high 12 bits of GQ or, in 10 and 11,
+ *               the exponential of these. Oscillator mode (3), of 12 bits: 001 square, 010 sawtooth, 011 pulse train,
+ *               100 cosine of GK, 101 cosine of J; 000, a sum of cosines, is good in run mode 000 alone and never heard.
+ *               110 and 111 are not built
+ *   111         sends its own angle, J in oscillator mode 101 and GK in the others: as written data where GN is negative
+ *               (its bit 10 is 1), else to the DAC that GN's low 4 bits name
+ *   GN          is looked at in 111 alone. GM shifts the cosine
+ *   Triggers    a generator in 100 goes to 101 where the one two below it was taken earlier in this pass and triggered;
+ *               generators 0 and 1 have no such neighbour
+ *   MMODE       function (5): 00000 inactive, 00001 mixing, 00010 latch, 00011 pulser, 00100 amplitude modulation, 00101
+ *               four-quadrant product, 00110 minimum, 00111 maximum, 01000 two poles, 01001 with M0 variable, 01010 with
+ *               M1 variable, 01100 two zeros, 01101 with M0 variable, 01110 with M1 variable, 10000 noise; others are not
+ *               built. AA is the scale of the product with M1, BB of that with M0 and of the product of two signals. In
+ *               the filters L0 goes with M1 and L1 with M0
+ *   Delay       none: no modifier invokes a unit, 11 and 12 are not asked. 10 is, and delay memory stays as it was
+ *   Questions   7 is asked of the generators below T in 110, 8 of those in 111 with a negative GN
+ *   Left alone  DX, N, lingering, the Linger pass, overrun, the delay units' words and the update ticks
+ *   Settings    T, every GMODE, GSUM and GFM, and the sign and the low 4 bits of GN of each generator in 111
+ *   Points      1 has the neighbour two below, in 011 or 101, of one in 100; in 2 and 3 it is the generator itself that
+ *               counts, not its GFM; 4 is the same, by 110 and by 010, 011 and 101
  */
 #ifndef KARVELORN_H
 #define KARVELORN_H
@@ -243,6 +270,21 @@ uint32_t karvelorn_any_order(const uint32_t *machine, size_t words, uint32_t *al
 uint32_t karvelorn_parts(const uint32_t *machine, size_t words, const uint32_t *first, size_t first_entries,
                          const uint32_t *second, size_t second_entries, uint32_t *contents, size_t contents_words,
                          uint32_t *items, size_t items_len, uint32_t *point, uint32_t *place);
+
+/* A pass, a compare and parts of a machine of the older text: as karvelorn_pass, karvelorn_compare and karvelorn_parts,
+ * with the differences listed above. A pass answers 0, 1, 2, 5, 6, 7, 8 or 10.
+ */
+uint32_t karvelorn_old_pass(uint32_t *machine, size_t words, const uint32_t *order, size_t entries,
+                            const uint32_t *items, size_t items_len, uint32_t *places, size_t places_len,
+                            uint32_t *memory, size_t memory_words, size_t *read, size_t *written,
+                            uint8_t clipped[KARVELORN_MARKS]);
+
+uint32_t karvelorn_old_compare(const uint32_t *machine, size_t words, const uint32_t *first, size_t first_entries,
+                               const uint32_t *second, size_t second_entries, uint32_t *equal);
+
+uint32_t karvelorn_old_parts(const uint32_t *machine, size_t words, const uint32_t *first, size_t first_entries,
+                             const uint32_t *second, size_t second_entries, uint32_t *contents, size_t contents_words,
+                             uint32_t *items, size_t items_len, uint32_t *point, uint32_t *place);
 
 #ifdef __cplusplus
 }

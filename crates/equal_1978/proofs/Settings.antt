@@ -23,7 +23,7 @@ use Rattle.pass_laws.proofs.PassCounts.{run-mode-loaded}
 use Rattle.pass_laws.proofs.TextTurns.{sixteen, same-generator}
 use Rattle.order_agreement.specs.Agreement.{settingsOf}
 use Rattle.equal_endings.specs.Follows.{SameWords, SameLast, TurnFollows, Follows}
-use Rattle.equal_1978.proofs.Loaded.{gsum-loaded, gfm-loaded, dac-loaded}
+use Rattle.equal_contents.proofs.Loaded.{is-loaded}
 
 -- A turn depends on its generator's own words and on the last quadrants.
 own-turn : (l n : Machine) (t u : Sums) (g : ℕ) (told : Bool) → SameWords l n g → SameLast t u → turn1978 l t g told ≡ turn1978 n u g told
@@ -46,12 +46,12 @@ module _ (m : Machine) (good : Good Of1978 m) where
   unfolding turn1978
   turn-follows g h =
       let u = generatorOf m g in
-      let e = good .is-sound in
-      let mode = run-mode-loaded Of1978 m e g h in
+      let words = is-loaded Of1978 m (good .is-sound) g h in
+      let mode = run-mode-loaded Of1978 m (good .is-sound) g h in
       record {
-        feeds = λ told d. rw (mode, dac-loaded m e g h);
+        feeds = λ told d. rw (mode, words .go);
         writes = λ told. rw mode;
-        word = λ told w. rw (gsum-loaded m e g h);
+        word = λ told w. rw (words .gsum);
         replaces = λ told. rw mode;
         adds = λ told. rw mode;
         p = λ told. refl;
@@ -70,7 +70,7 @@ module _ (m : Machine) (good : Good Of1978 m) where
   sends-alike : (a b : ℕ) → a < ticksOf m → b < ticksOf m → gfmAt m a ≡ gfmAt m b → turn1978 m (sumsOf m) a false .sends ≡ turn1978 m (sumsOf m) b false .sends
   unfolding turn1978
   sends-alike a b i j e =
-      ap (fAt (sumsOf m)) (gfm-loaded m (good .is-sound) a (omega (arith, few)) ∙ e ∙ sym (gfm-loaded m (good .is-sound) b (omega (arith, few))))
+      rw (is-loaded Of1978 m (good .is-sound) a (omega (arith, few)) .gfm, is-loaded Of1978 m (good .is-sound) b (omega (arith, few)) .gfm, e)
 
   pub follows-1978 : Follows (generatorsOf Of1978) (settingsOf Of1978 m) m
   follows-1978 =

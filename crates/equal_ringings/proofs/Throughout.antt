@@ -5,16 +5,16 @@ use mathlib.Core.Path.{_≡_, refl, sym, ap, ap₂, _∙_}
 use mathlib.Core.Logic.{_↔_}
 use mathlib.Core.Bool.{Bool, true, false}
 use mathlib.Core.List.{List, [], _∷_}
-use Prim.Native.Nat.{ℕ, _%_, _^_, _≤_, _<_}
+use Prim.Native.Nat.{ℕ, _/_, _%_, _^_, _≤_, _<_}
 use native.Mathlib.Omega.{arith}
 use borrow.Author.Tests.{eqb-false, ltb-true, ltb-false}
 use lib.Dec.{ltb}
 use lib.ListN.{getD}
 use Rattle.modes.specs.Modes.{wait, runningC, readData, writeData}
 use Rattle.layout.specs.Machine.{Machine, Order, Memory, ticksOf, gmodeAt}
-use Rattle.texts.specs.Texts.{dacNumberAt}
 use Rattle.texts.specs.declared.Text.{Text}
-use Rattle.texts.specs.declared.Text.the-variants.{Of1978}
+use Rattle.texts.specs.declared.Text.the-variants.{Of1978, Old}
+use Rattle.old_modes.specs.OldModes.{oldRun, negativeGN}
 use Rattle.machine.proofs.SoundMachine.{sound-controls}
 use Rattle.pass_model.specs.Pass.{Call, passOf}
 use Rattle.pass_model.proofs.Asked.{is-whole, is-sound}
@@ -28,15 +28,23 @@ use Rattle.pass_laws.proofs.Untaken.{untaken-mode}
 use Rattle.order_agreement.specs.Agreement.{Agree}
 use Rattle.compare.specs.Compare.{compareOf}
 use Rattle.compare.proofs.Answers.{compare-passes, compare-number}
-use Rattle.equal_orders.specs.Equal.{SameSettings, Enough, Equal}
+use Rattle.equal_orders.specs.Equal.{SameSending, SameSettings, Enough, Equal}
 use Rattle.equal_orders.proofs.Texts.{run-same}
 use Rattle.equal_orders.proofs.Theorem.{demand-3, compare-says}
 use Rattle.equal_any_order.specs.EveryOrder.{Passes}
 use Rattle.equal_ringings.specs.Ringings.{EnoughEach, none, more, NoneWaits, EqualThroughout}
 
--- The DAC number of a generator whose registers are kept.
-dac-kept : (text : Text) (m r : Machine) (g : ℕ) → GeneratorKept text m r g → dacNumberAt text m g ≡ dacNumberAt text r g
-dac-kept Of1978 m r g k = ap (λ (x : ℕ). x % 2 ^ 4) (sym (k .go))
+-- What is a setting of a generator that sends is the same where its registers are kept, and from machine to machine.
+sending-kept : (text : Text) (m r : Machine) (g : ℕ) → GeneratorKept text m r g → SameSending text m r g
+sending-kept Of1978 m r g k = λ e. ap (λ (x : ℕ). x % 2 ^ 4) (sym (k .go))
+sending-kept Old m r g k = λ e. (ap negativeGN (sym (k .gn)), ap (λ (x : ℕ). x % 2 ^ 4) (sym (k .gn)))
+
+sending-on : (text : Text) (l m n : Machine) (g : ℕ) → gmodeAt l g ≡ gmodeAt m g → SameSending text l m g → SameSending text m n g → SameSending text l n g
+sending-on Of1978 l m n g s a b = λ e. a e ∙ b (ap (λ (x : ℕ). x / 2 ^ 6) (sym s) ∙ e)
+sending-on Old l m n g s a b =
+    λ e.
+    let here = ap (λ (x : ℕ). oldRun x) (sym s) ∙ e in
+    (a e .0 ∙ b here .0, a e .1 ∙ b here .1)
 
 -- What a pass wrote put before what the rest left.
 abbrev before : List ℕ → Rung → Rung
@@ -55,7 +63,7 @@ module _ (text : Text) where
         modes = λ g h. a .modes g h ∙ b .modes g h;
         words = λ g h. a .words g h ∙ b .words g h;
         inputs = λ g h. a .inputs g h ∙ b .inputs g h;
-        dacs = λ g h q. a .dacs g h q ∙ b .dacs g h (sym (run-same text l m a g h) ∙ q);
+        sending = λ g h. sending-on text l m n g (a .modes g h) (a .sending g h) (b .sending g h);
       }
 
   none-waits-same : (m n : Machine) → SameSettings text m n → ticksOf m ≤ 256 → NoneWaits text m → NoneWaits text n
@@ -86,7 +94,7 @@ module _ (text : Text) where
           modes = mode-kept;
           words = λ g h. sym (kept .generator g h .gsum);
           inputs = λ g h. sym (kept .generator g h .gfm);
-          dacs = λ g h q. dac-kept text m (passOf text m call .machine) g (kept .generator g h);
+          sending = λ g h. sending-kept text m (passOf text m call .machine) g (kept .generator g h);
         }
 
     -- What is enough for the machine is enough for it after a pass.

@@ -134,7 +134,7 @@ enough =
     words (suc i) h = absurd (omega arith)
 
 same-itself : SameSettings Of1978 wokenLater wokenLater
-same-itself = record { ticks = refl; modes = λ g h. refl; words = λ g h. refl; inputs = λ g h. refl; dacs = λ g h q. refl }
+same-itself = record { ticks = refl; modes = λ g h. refl; words = λ g h. refl; inputs = λ g h. refl; sending = λ g h q. refl }
 
 first-pass : passOf Of1978 wokenLater (callOf wokenFirst (zeros memoryWords) oneItem) .machine ≡ woken
 first-pass =

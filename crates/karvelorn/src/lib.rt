@@ -8,7 +8,7 @@ ghost use mathlib.Core.Bool.{cond};
 ghost use Rattle.compare.specs.Compare.{compareOf};
 ghost use Rattle.any_order.specs.AnyOrder.{anyOrderOf};
 ghost use Rattle.parts.specs.Parts.{partsOf};
-ghost use Rattle.texts.specs.declared.Text.the-variants.{Of1978};
+ghost use Rattle.texts.specs.declared.Text.the-variants.{Of1978, Old};
 use sums::Clipped;
 use texts::Text;
 
@@ -21,7 +21,29 @@ pub extern "C" fn karvelorn_fresh(m: &mut [u32]) -> u32
     machine::fresh(m)
 }
 
-// A pass. The answer is the number of the refusing question or 0; read and written get how many items were, clipped a mark for each word of generator-this: 1 where it left its range, else 0.
+// A pass of a machine of a text. The answer is the number of the refusing question or 0; read and written get how many items were, clipped a mark for each word of generator-this: 1 where it left its range, else 0.
+fn pass(
+    text: Text,
+    m: &mut [u32],
+    order: &[u32],
+    items: &[u32],
+    places: &mut [u32],
+    memory: &mut [u32],
+    read: &mut usize,
+    written: &mut usize,
+    clipped: &mut Clipped,
+) -> u32
+    ensures { λ r. ⌜ record { number = r; read = now (read .exit); written = now (written .exit); clipped = now (clipped .exit); machine = now (m .exit); places = now (places .exit); memory = now (memory .exit) } ≡ passOf text (now (m .entry)) (record { order = now (order .entry); items = now (items .entry); places = now (places .entry); memory = now (memory .entry) }) ⌝ }
+{
+    let done = pass::pass(text, m, order, items, places, memory);
+    *read = done.read;
+    *written = done.written;
+    let marks = done.clipped;
+    *clipped = marks;
+    done.number
+}
+
+// A pass.
 #[no_mangle]
 pub extern "C" fn karvelorn_pass(
     m: &mut [u32],
@@ -35,12 +57,44 @@ pub extern "C" fn karvelorn_pass(
 ) -> u32
     ensures { λ r. ⌜ record { number = r; read = now (read .exit); written = now (written .exit); clipped = now (clipped .exit); machine = now (m .exit); places = now (places .exit); memory = now (memory .exit) } ≡ passOf Of1978 (now (m .entry)) (record { order = now (order .entry); items = now (items .entry); places = now (places .entry); memory = now (memory .entry) }) ⌝ }
 {
-    let done = pass::pass(Text::Of1978, m, order, items, places, memory);
-    *read = done.read;
-    *written = done.written;
-    let marks = done.clipped;
-    *clipped = marks;
-    done.number
+    pass(
+        Text::Of1978,
+        m,
+        order,
+        items,
+        places,
+        memory,
+        read,
+        written,
+        clipped,
+    )
+}
+
+// A pass of a machine of the older text.
+#[no_mangle]
+pub extern "C" fn karvelorn_old_pass(
+    m: &mut [u32],
+    order: &[u32],
+    items: &[u32],
+    places: &mut [u32],
+    memory: &mut [u32],
+    read: &mut usize,
+    written: &mut usize,
+    clipped: &mut Clipped,
+) -> u32
+    ensures { λ r. ⌜ record { number = r; read = now (read .exit); written = now (written .exit); clipped = now (clipped .exit); machine = now (m .exit); places = now (places .exit); memory = now (memory .exit) } ≡ passOf Old (now (m .entry)) (record { order = now (order .entry); items = now (items .entry); places = now (places .entry); memory = now (memory .entry) }) ⌝ }
+{
+    pass(
+        Text::Old,
+        m,
+        order,
+        items,
+        places,
+        memory,
+        read,
+        written,
+        clipped,
+    )
 }
 
 // An update. The answer is the number of the refusing question or 0; taken gets how many commands were.
@@ -55,7 +109,17 @@ pub extern "C" fn karvelorn_update(m: &mut [u32], commands: &[u32], taken: &mut 
     number
 }
 
-// Whether two orders are equal. The answer is the number of the refusing question or 0; equal gets 1 where they are, else 0.
+// Whether two orders of a machine of a text are equal. The answer is the number of the refusing question or 0; equal gets 1 where they are, else 0.
+fn compare(text: Text, m: &[u32], first: &[u32], second: &[u32], equal: &mut u32) -> u32
+    ensures { λ r. ⌜ r ≡ compareOf text (now (m .entry)) (now (first .entry)) (now (second .entry)) .number ⌝ }
+    ensures { λ _. ⌜ now (equal .exit) ≡ cond (compareOf text (now (m .entry)) (now (first .entry)) (now (second .entry)) .equal) 1 0 ⌝ }
+{
+    let compared = compare::compare(text, m, first, second);
+    *equal = compared.equal as u32;
+    compared.number
+}
+
+// Whether two orders are equal.
 #[no_mangle]
 pub extern "C" fn karvelorn_compare(
     m: &[u32],
@@ -66,9 +130,21 @@ pub extern "C" fn karvelorn_compare(
     ensures { λ r. ⌜ r ≡ compareOf Of1978 (now (m .entry)) (now (first .entry)) (now (second .entry)) .number ⌝ }
     ensures { λ _. ⌜ now (equal .exit) ≡ cond (compareOf Of1978 (now (m .entry)) (now (first .entry)) (now (second .entry)) .equal) 1 0 ⌝ }
 {
-    let compared = compare::compare(Text::Of1978, m, first, second);
-    *equal = compared.equal as u32;
-    compared.number
+    compare(Text::Of1978, m, first, second, equal)
+}
+
+// Whether two orders are equal on a machine of the older text.
+#[no_mangle]
+pub extern "C" fn karvelorn_old_compare(
+    m: &[u32],
+    first: &[u32],
+    second: &[u32],
+    equal: &mut u32,
+) -> u32
+    ensures { λ r. ⌜ r ≡ compareOf Old (now (m .entry)) (now (first .entry)) (now (second .entry)) .number ⌝ }
+    ensures { λ _. ⌜ now (equal .exit) ≡ cond (compareOf Old (now (m .entry)) (now (first .entry)) (now (second .entry)) .equal) 1 0 ⌝ }
+{
+    compare(Text::Old, m, first, second, equal)
 }
 
 // Whether every order leaves the same. The answer is the number of the refusing question or 0; alike gets 1 where every order does, else 0.
@@ -82,8 +158,27 @@ pub extern "C" fn karvelorn_any_order(m: &[u32], alike: &mut u32) -> u32
     answer.number
 }
 
-// What parts two orders. The answer is the number of the refusing question or 0; point gets 0 where they are equal, else the first of the four points that
-// fails, and place the lowest place at which it fails; contents and items get what shows it.
+// What parts two orders of a machine of a text. The answer is the number of the refusing question or 0; point gets 0 where they are equal, else the first of
+// the four points that fails, and place the lowest place at which it fails; contents and items get what shows it.
+fn parts(
+    text: Text,
+    m: &[u32],
+    first: &[u32],
+    second: &[u32],
+    contents: &mut [u32],
+    items: &mut [u32],
+    point: &mut u32,
+    place: &mut u32,
+) -> u32
+    ensures { λ r. ⌜ record { number = r; point = now (point .exit); place = now (place .exit); contents = now (contents .exit); items = now (items .exit) } ≡ partsOf text (now (m .entry)) (now (first .entry)) (now (second .entry)) (now (contents .entry)) (now (items .entry)) ⌝ }
+{
+    let told = parts::parts(text, m, first, second, contents, items);
+    *point = told.point;
+    *place = told.place;
+    told.number
+}
+
+// What parts two orders.
 #[no_mangle]
 pub extern "C" fn karvelorn_parts(
     m: &[u32],
@@ -96,8 +191,30 @@ pub extern "C" fn karvelorn_parts(
 ) -> u32
     ensures { λ r. ⌜ record { number = r; point = now (point .exit); place = now (place .exit); contents = now (contents .exit); items = now (items .exit) } ≡ partsOf Of1978 (now (m .entry)) (now (first .entry)) (now (second .entry)) (now (contents .entry)) (now (items .entry)) ⌝ }
 {
-    let told = parts::parts(Text::Of1978, m, first, second, contents, items);
-    *point = told.point;
-    *place = told.place;
-    told.number
+    parts(
+        Text::Of1978,
+        m,
+        first,
+        second,
+        contents,
+        items,
+        point,
+        place,
+    )
+}
+
+// What parts two orders on a machine of the older text.
+#[no_mangle]
+pub extern "C" fn karvelorn_old_parts(
+    m: &[u32],
+    first: &[u32],
+    second: &[u32],
+    contents: &mut [u32],
+    items: &mut [u32],
+    point: &mut u32,
+    place: &mut u32,
+) -> u32
+    ensures { λ r. ⌜ record { number = r; point = now (point .exit); place = now (place .exit); contents = now (contents .exit); items = now (items .exit) } ≡ partsOf Old (now (m .entry)) (now (first .entry)) (now (second .entry)) (now (contents .entry)) (now (items .entry)) ⌝ }
+{
+    parts(Text::Old, m, first, second, contents, items, point, place)
 }

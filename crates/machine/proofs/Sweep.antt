@@ -2,7 +2,7 @@
 -- Assumes nothing.
 use mathlib.Core.Path.{_≡_, refl, sym, ap, _∙_}
 use mathlib.Core.Bool.{Bool, true, false, _&&_, and-comm, and-assoc, and-true, and-false}
-use mathlib.Core.List.{List}
+use mathlib.Core.List.{List, [], _∷_}
 use Prim.Native.Nat.{ℕ}
 use native.Mathlib.Omega.{arith}
 use borrow.Author.Tests.{ne-eqb}
@@ -12,13 +12,13 @@ use Rattle.lists.specs.Lists.{allBelow}
 use Rattle.lists.proofs.Below.{below-same}
 use Rattle.layout.specs.Layout.{updateTicksAt}
 use Rattle.texts.specs.declared.Text.{Text}
-use Rattle.texts.specs.declared.Text.the-variants.{Of1978}
+use Rattle.texts.specs.declared.Text.the-variants.{Of1978, Old}
 use Rattle.machine_sweep.specs.Columns.{everyWord}
 use Rattle.machine_sweep.proofs.Words.{word-from}
 use Rattle.machine_sweep.proofs.EveryColumn.{everyColumn, limitTests, word-and}
 use Rattle.machine.specs.Questions.{bits, goodGmode, goodAddress, goodMmode, test, delayMode, generatorRegisters, modifierRegisters, delayRegisters, regions, testAt, wordPasses, sound}
-use Rattle.machine.specs.Loops.{limitsOf, runField, oscillatorField, functionField, delayField, generatorsWithin, modifiersWithin, controlsWithin, delaysWithin, ticksCounted}
-use Rattle.machine.proofs.Words.{gmode-is, address-and, mmode-is, delay-mode-is}
+use Rattle.machine.specs.Loops.{limitsOf, runField, oscillatorField, oldField, functionField, delayField, modesBuilt, generatorsWithin, modifiersWithin, controlsWithin, delaysWithin, ticksCounted}
+use Rattle.machine.proofs.Words.{gmode-is, old-gmode-is, address-and, mmode-is, delay-mode-is}
 use Rattle.machine.proofs.Limits.{region-swept}
 use Rattle.machine.proofs.Regions.{wordsOf, region, everyRegion, regions-columns}
 
@@ -40,9 +40,19 @@ sound-columns text m =
     ∙ ap (λ (b : Bool). b && ticksCounted m)
     (by-region text m ∙ ap (allBelow (λ i. testAt (regions text) i (getD m i 0))) (sym (regions-cover text)) ∙ regions-columns (regions text) m)
 
+-- The further tests of GMODE, of n generators.
+abbrev modesTested : Text → List ℕ → ℕ → Bool
+modesTested Of1978 m n = everyWord runField m 0 11 10 n && everyWord oscillatorField m 0 11 10 n
+modesTested Old m n = everyWord oldField m 0 11 10 n
+
+modes-tested : (text : Text) (m : List ℕ) → modesBuilt text m ≡ modesTested text m 256
+unfolding modesBuilt
+modes-tested Of1978 m = rw (word-from runField m 0 11 10 256, word-from oscillatorField m 0 11 10 256)
+modes-tested Old m = word-from oldField m 0 11 10 256
+
 -- A region's widths and its further tests are its registers' tests.
 generators-are : (text : Text) (m : List ℕ) (n : ℕ)
-    → (everyColumn (limitTests (limitsOf (generatorRegisters text))) m 0 11 0 n && everyWord runField m 0 11 10 n && everyWord oscillatorField m 0 11 10 n)
+    → (everyColumn (limitTests (limitsOf (generatorRegisters text))) m 0 11 0 n && modesTested text m n)
     ≡ everyColumn (region (regions text) 0 .tests) m 0 11 0 n
 unfolding regions limitTests
 generators-are Of1978 m n =
@@ -52,6 +62,7 @@ generators-are Of1978 m n =
       and-assoc,
       and-true,
     )
+generators-are Old m n = simp (word-and (bits 8) oldField (goodGmode Old) old-gmode-is, and-assoc, and-true)
 
 -- Two further tests are asked after the widths and stand beside their own.
 apart : (a b c d e f g h x y z : Bool)
@@ -60,21 +71,28 @@ apart a b c d e f g h true true z = refl
 apart a b c d e f g h true false z = simp and-false
 apart a b c d e f g h false y z = simp and-false
 
-modifiers-are : (text : Text) (m : List ℕ) (n : ℕ)
-    → (everyColumn (limitTests (limitsOf (modifierRegisters text))) m 2816 8 0 n && everyWord (λ x. ltb x 192) m 2816 8 4 n && everyWord (λ x. ltb x 192) m 2816 8 5 n && everyWord functionField m 2816 8 7 n)
-    ≡ everyColumn (region (regions text) 1 .tests) m 2816 8 0 n
-unfolding regions limitTests
-modifiers-are Of1978 m n =
+with-field : (field good : ℕ → Bool) → ((x : ℕ) → good x ≡ (bits 9 x && field x)) → (m : List ℕ) (n : ℕ)
+    → (everyColumn (limitTests (limitsOf (modifierRegisters Of1978))) m 2816 8 0 n && everyWord (λ x. ltb x 192) m 2816 8 4 n && everyWord (λ x. ltb x 192) m 2816 8 5 n && everyWord field m 2816 8 7 n)
+    ≡ everyColumn (bits 30 ∷ bits 30 ∷ bits 20 ∷ bits 20 ∷ goodAddress ∷ goodAddress ∷ bits 7 ∷ good ∷ []) m 2816 8 0 n
+unfolding limitTests
+with-field field good is m n =
     simp (
       word-and (bits 8) (λ x. ltb x 192) goodAddress address-and,
-      word-and (bits 9) functionField (goodMmode Of1978) mmode-is,
+      word-and (bits 9) field good is,
       and-assoc,
       and-true,
     )
-    (apart (w 0 30) (w 1 30) (w 2 20) (w 3 20) (w 4 8) (w 5 8) (w 6 7) (w 7 9) (everyWord (λ x. ltb x 192) m 2816 8 4 n) (everyWord (λ x. ltb x 192) m 2816 8 5 n) (everyWord functionField m 2816 8 7 n))
+    (apart (w 0 30) (w 1 30) (w 2 20) (w 3 20) (w 4 8) (w 5 8) (w 6 7) (w 7 9) (everyWord (λ x. ltb x 192) m 2816 8 4 n) (everyWord (λ x. ltb x 192) m 2816 8 5 n) (everyWord field m 2816 8 7 n))
   where
     w : ℕ → ℕ → Bool
     w j k = everyWord (bits k) m 2816 8 j n
+
+modifiers-are : (text : Text) (m : List ℕ) (n : ℕ)
+    → (everyColumn (limitTests (limitsOf (modifierRegisters text))) m 2816 8 0 n && everyWord (λ x. ltb x 192) m 2816 8 4 n && everyWord (λ x. ltb x 192) m 2816 8 5 n && everyWord (functionField text) m 2816 8 7 n)
+    ≡ everyColumn (region (regions text) 1 .tests) m 2816 8 0 n
+unfolding regions
+modifiers-are Of1978 m n = with-field (functionField Of1978) (goodMmode Of1978) (mmode-is Of1978) m n
+modifiers-are Old m n = with-field (functionField Old) (goodMmode Old) (mmode-is Old) m n
 
 -- A further test is asked after the widths and stands beside its own.
 beside : (a b c d e f g x : Bool) → (a && (b && (c && (d && (e && (f && (g && x))))))) ≡ (a && (b && (c && (d && (x && (e && (f && g)))))))
@@ -96,8 +114,7 @@ unfolding generatorsWithin
 generators-swept text m =
     rw (
       region-swept (generatorRegisters text) m 0 44 8 256 (lit< tt) (lit< tt) (λ i. omega arith) refl,
-      word-from runField m 0 11 10 256,
-      word-from oscillatorField m 0 11 10 256,
+      modes-tested text m,
     )
     (generators-are text m 256)
 
@@ -108,7 +125,7 @@ modifiers-swept text m =
       region-swept (modifierRegisters text) m 2816 16 8 128 (lit< tt) (lit< tt) (λ i. omega arith) refl,
       word-from (λ x. ltb x 192) m 2816 8 4 128,
       word-from (λ x. ltb x 192) m 2816 8 5 128,
-      word-from functionField m 2816 8 7 128,
+      word-from (functionField text) m 2816 8 7 128,
     )
     (modifiers-are text m 128)
 

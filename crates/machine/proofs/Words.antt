@@ -1,19 +1,20 @@
 -- The tests of one word.
 -- Assumes nothing.
-use mathlib.Core.Path.{_≡_, refl, sym, _∙_}
-use mathlib.Core.Bool.{Bool, true, false, not, _&&_}
-use Prim.Native.Nat.{ℕ, _/_, _%_, _^_, _<_, _≤_}
+use mathlib.Core.Path.{_≡_, refl, sym, ap, _∙_}
+use mathlib.Core.Bool.{Bool, true, false, cond, not, _&&_}
+use Prim.Native.Nat.{ℕ, _+_, _/_, _%_, _^_, _<_, _≤_}
 use native.Mathlib.Omega.{arith}
 use native.Mathlib.Nat.{mod-eq-of-lt}
 use borrow.Author.Tests.{ltb-true, ltb-false, lt-ltb, eq-eqb, ne-eqb}
 use lib.Dec.{eqb, ltb}
 use Rattle.lists.proofs.Below.{and-first, and-second, and-both}
 use Rattle.modes.specs.Modes.{builtRun, builtOscillator}
-use Rattle.built_codes.specs.BuiltCodes.{builtFunction, builtMode}
+use Rattle.old_modes.specs.OldModes.{oldRun, oldOscillator, oldBuiltModes}
+use Rattle.built_codes.specs.BuiltCodes.{builtFunction, oldBuiltFunction, builtMode}
 use Rattle.machine.specs.Questions.{bits, builtModes, goodGmode, builtSource, goodAddress, builtMmode, goodMmode, test, delayMode}
-use Rattle.machine.specs.Loops.{runField, oscillatorField, functionField, delayField}
+use Rattle.machine.specs.Loops.{runField, oscillatorField, oldField, functionField, delayField}
 use Rattle.texts.specs.declared.Text.{Text}
-use Rattle.texts.specs.declared.Text.the-variants.{Of1978}
+use Rattle.texts.specs.declared.Text.the-variants.{Of1978, Old}
 
 -- Eight bits of which the top two are not 11 are the numbers below 192.
 pub address-is : (x : ℕ) → ltb x 192 ≡ goodAddress x
@@ -49,12 +50,34 @@ gmode-is x = by-width (bits 10 x) refl where
       let low : x / 2 ^ 0 % 32 % 16 ≡ x % 16 = omega arith in
       rw (mod-eq-of-lt {n = x / 64} {m = 32} (omega arith), low)
 
+-- In a word of 8 bits of the older text the modes of run mode 000 are those below 32; in every other one the modes that are built are the same.
+from-32 : (x : ℕ) → 32 ≤ x → x < 256 → oldBuiltModes x ≡ oldBuiltModes (32 + x % 32)
+unfolding oldBuiltModes
+from-32 x h l =
+    let oscillator : oldOscillator (32 + x % 32) ≡ oldOscillator x = omega arith in
+    let one : (32 + x % 32) / 2 ^ 5 ≡ 1 = omega arith in
+    let here : oldRun (32 + x % 32) ≡ 1 = ap (λ (r : ℕ). r % 2 ^ 3) one in
+    let run : oldRun x ≡ x / 2 ^ 5 = mod-eq-of-lt {n = x / 2 ^ 5} {m = 2 ^ 3} (omega arith) in
+    rw (oscillator, here, run, ne-eqb (x / 2 ^ 5) 0 (λ e. omega arith)) refl
+
+pub old-gmode-is : (x : ℕ) → goodGmode Old x ≡ (bits 8 x && oldField x)
+old-gmode-is x = by-width (bits 8 x) refl where
+  by-run : x < 256 → (b : Bool) → ltb x 32 ≡ b → oldBuiltModes x ≡ cond b (oldBuiltModes (x % 32)) (oldBuiltModes (32 + x % 32))
+  by-run l true e = ap oldBuiltModes (sym (mod-eq-of-lt (ltb-true x 32 e)))
+  by-run l false e = from-32 x (ltb-false x 32 e) l
+
+  by-width : (b : Bool) → bits 8 x ≡ b → (b && oldBuiltModes x) ≡ (b && oldField x)
+  by-width false e = refl
+  by-width true e = by-run (ltb-true x 256 e) (ltb x 32) refl
+
 -- A good GMODE has at most 10 bits, a good MMODE 9.
 pub gmode-low : (text : Text) (x : ℕ) → goodGmode text x ≡ true → x < 2 ^ 10
 gmode-low Of1978 x e = ltb-true x (2 ^ 10) (and-first (bits 10 x) _ e)
+gmode-low Old x e = let h : x < 2 ^ 8 = ltb-true x (2 ^ 8) (and-first (bits 8 x) _ e) in omega arith
 
 pub mmode-low : (text : Text) (x : ℕ) → goodMmode text x ≡ true → x < 2 ^ 9
 mmode-low Of1978 x e = ltb-true x (2 ^ 9) (and-first (bits 9 x) _ e)
+mmode-low Old x e = ltb-true x (2 ^ 9) (and-first (bits 9 x) _ e)
 
 -- A good GMODE from its three parts, its run mode and its oscillator mode.
 pub gmode-from : (x : ℕ) → x < 2 ^ 10 → builtRun (x / 2 ^ 6) ≡ true → builtOscillator (x % 2 ^ 4) ≡ true → goodGmode Of1978 x ≡ true
@@ -67,13 +90,17 @@ gmode-run x e = and-first (builtRun (x / 2 ^ 6)) (builtOscillator (x % 2 ^ 4)) (
 pub gmode-oscillator : (x : ℕ) → goodGmode Of1978 x ≡ true → builtOscillator (x % 2 ^ 4) ≡ true
 gmode-oscillator x e = and-second (builtRun (x / 2 ^ 6)) (builtOscillator (x % 2 ^ 4)) (and-second (bits 10 x) (builtModes x) e)
 
-pub mmode-is : (x : ℕ) → goodMmode Of1978 x ≡ (bits 9 x && functionField x)
-mmode-is x = by-width (bits 9 x) refl where
-  by-width : (b : Bool) → bits 9 x ≡ b → (b && builtMmode x) ≡ (b && functionField x)
+field-is : (p : ℕ → Bool) (x : ℕ) → (bits 9 x && p (x / 2 ^ 4)) ≡ (bits 9 x && p (x / 2 ^ 4 % 32))
+field-is p x = by-width (bits 9 x) refl where
+  by-width : (b : Bool) → bits 9 x ≡ b → (b && p (x / 2 ^ 4)) ≡ (b && p (x / 2 ^ 4 % 32))
   by-width false e = refl
   by-width true e =
       let h : x < 512 = ltb-true x 512 e in
       rw (mod-eq-of-lt {n = x / 16} {m = 32} (omega arith))
+
+pub mmode-is : (text : Text) (x : ℕ) → goodMmode text x ≡ (bits 9 x && functionField text x)
+mmode-is Of1978 x = field-is builtFunction x
+mmode-is Old x = field-is oldBuiltFunction x
 
 -- A good MMODE has a built function.
 pub mmode-function : (x : ℕ) → goodMmode Of1978 x ≡ true → builtFunction (x / 2 ^ 4) ≡ true

@@ -4,9 +4,9 @@ ghost use mathlib.Core.List.{[], _∷_};
 ghost use lib.ListN.{length};
 ghost use Rattle.layout.specs.Machine.{Reaches};
 ghost use Rattle.machine.specs.Questions.{question1, question2, sound, goodAddress, generatorRegisters, modifierRegisters, delayRegisters, freshAnswer, freshRun};
-ghost use Rattle.machine.specs.Loops.{limitsOf, repeated, generatorsWithin, modifiersWithin, controlsWithin, delaysWithin, ticksCounted};
+ghost use Rattle.machine.specs.Loops.{limitsOf, repeated, built, modesBuilt, generatorsWithin, modifiersWithin, controlsWithin, delaysWithin, ticksCounted};
 ghost use Rattle.questions.specs.Questions.{asked};
-ghost use Rattle.lists.specs.Lists.{zeros};
+ghost use Rattle.lists.specs.Lists.{tabulate, zeros};
 use texts::Text;
 
 // What the registers of a generator are below, for the four generators of a row.
@@ -55,6 +55,54 @@ const GENERATOR_LIMITS: [u32; 44] = [
     1 << 6,
     1 << 7,
     1 << 10,
+];
+
+// The same by the older text, whose GMODE has 8 bits.
+const OLD_GENERATOR_LIMITS: [u32; 44] = [
+    1 << 20, // GO
+    1 << 28, // GJ
+    1 << 20, // GK
+    1 << 11, // GN
+    1 << 4, // GM
+    1 << 20, // GP
+    1 << 24, // GQ
+    1 << 12, // GL
+    1 << 6, // GSUM
+    1 << 7, // GFM
+    1 << 8, // GMODE
+    1 << 20,
+    1 << 28,
+    1 << 20,
+    1 << 11,
+    1 << 4,
+    1 << 20,
+    1 << 24,
+    1 << 12,
+    1 << 6,
+    1 << 7,
+    1 << 8,
+    1 << 20,
+    1 << 28,
+    1 << 20,
+    1 << 11,
+    1 << 4,
+    1 << 20,
+    1 << 24,
+    1 << 12,
+    1 << 6,
+    1 << 7,
+    1 << 8,
+    1 << 20,
+    1 << 28,
+    1 << 20,
+    1 << 11,
+    1 << 4,
+    1 << 20,
+    1 << 24,
+    1 << 12,
+    1 << 6,
+    1 << 7,
+    1 << 8,
 ];
 
 // What the registers of a modifier are below, for the two modifiers of a row.
@@ -122,6 +170,7 @@ fn generator_limits(text: Text) -> [u32; 44]
 {
     match text {
         Text::Of1978 => GENERATOR_LIMITS,
+        Text::Old => OLD_GENERATOR_LIMITS,
     }
 }
 
@@ -130,6 +179,7 @@ fn modifier_limits(text: Text) -> [u32; 16]
 {
     match text {
         Text::Of1978 => MODIFIER_LIMITS,
+        Text::Old => MODIFIER_LIMITS,
     }
 }
 
@@ -139,20 +189,45 @@ fn delay_limits() -> [u32; 28]
     DELAY_LIMITS
 }
 
-// All generators' words within their widths, with built run modes and oscillator modes.
-// Flags are by five bits, of which an oscillator mode has four: its flags stand twice.
+// All generators' modes built, within the width of GMODE. Flags are by five bits, of which an oscillator mode of 1978 has four: its flags stand twice.
+fn modes_built(text: Text, m: &[u32]) -> bool
+    requires { ⌜ Reaches (now m) ⌝ }
+    ensures { λ r. ⌜ r ≡ modesBuilt text (now (m .entry)) ⌝ }
+{
+    let n = layout::GENERATORS;
+    let step = layout::GENERATOR_WORDS;
+    match text {
+        Text::Of1978 => {
+            let runs = machine_sweep::flags(modes::BUILT_RUN);
+            let oscillators = machine_sweep::flags(65537 * modes::BUILT_OSCILLATOR);
+            machine_sweep::fields_flagged(&runs, m, layout::GMODE, step, n, 6)
+                & machine_sweep::fields_flagged(&oscillators, m, layout::GMODE, step, n, 0)
+        }
+        Text::Old => {
+            let idle = machine_sweep::flags(old_modes::BUILT_IDLE_MODES);
+            let other = machine_sweep::flags(old_modes::BUILT_MODES);
+            machine_sweep::words_flagged(&idle, &other, m, layout::GMODE, step, n, 32)
+        }
+    }
+}
+
+// All generators' words within their widths, with built modes.
 fn generators_within(text: Text, m: &[u32]) -> bool
     requires { ⌜ Reaches (now m) ⌝ }
     ensures { λ r. ⌜ r ≡ generatorsWithin text (now (m .entry)) ⌝ }
 {
     let limits = generator_limits(text);
-    let runs = machine_sweep::flags(modes::BUILT_RUN);
-    let oscillators = machine_sweep::flags(65537 * modes::BUILT_OSCILLATOR);
-    let n = layout::GENERATORS;
-    let step = layout::GENERATOR_WORDS;
-    machine_sweep::swept(&limits, m, 0, 8)
-        & machine_sweep::fields_flagged(&runs, m, layout::GMODE, step, n, 6)
-        & machine_sweep::fields_flagged(&oscillators, m, layout::GMODE, step, n, 0)
+    machine_sweep::swept(&limits, m, 0, 8) & modes_built(text, m)
+}
+
+// The built functions by a text: bit f is 1 where function f is built.
+fn functions(text: Text) -> [bool; 32]
+    ensures { λ r. ⌜ r ≡ tabulate (built text) 0 32 ⌝ }
+{
+    match text {
+        Text::Of1978 => machine_sweep::flags(built_codes::BUILT_FUNCTION),
+        Text::Old => machine_sweep::flags(built_codes::OLD_BUILT_FUNCTION),
+    }
 }
 
 // All modifiers' words within their widths, with built functions and no MIN or MRM top bits 11.
@@ -161,7 +236,7 @@ fn modifiers_within(text: Text, m: &[u32]) -> bool
     ensures { λ r. ⌜ r ≡ modifiersWithin text (now (m .entry)) ⌝ }
 {
     let limits = modifier_limits(text);
-    let functions = machine_sweep::flags(built_codes::BUILT_FUNCTION);
+    let functions = functions(text);
     let at = layout::MODIFIERS_AT;
     let n = layout::MODIFIERS;
     let step = layout::MODIFIER_WORDS;

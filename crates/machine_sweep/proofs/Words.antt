@@ -1,19 +1,19 @@
 -- Columns word by word: one word more, a column from another place, and fields that a table of flags tells.
 -- Assumes nothing.
 use mathlib.Core.Path.{_≡_, refl, _∙_}
-use mathlib.Core.Bool.{Bool, false, _&&_, Bool·beq}
+use mathlib.Core.Bool.{Bool, false, cond, _&&_, Bool·beq}
 use mathlib.Core.List.{List}
 use Prim.Native.Nat.{ℕ, zero, suc, _+_, _*_, _-_, _/_, _%_, _^_, _<_}
 use native.Mathlib.Nat.{add-zero, mul-le-mul-left}
 use native.Mathlib.Numerals.{add-one}
 use native.Mathlib.Omega.{arith}
-use lib.Dec.{T, eqb}
+use lib.Dec.{T, eqb, ltb}
 use lib.ListN.{getD, set, replicate}
 use Rattle.lists.specs.Lists.{allBelow, tabulate}
 use Rattle.lists.proofs.Below.{below-same}
 use Rattle.lists.proofs.Tables.{tabulate-at}
 use Rattle.lists.proofs.Masks.{bit-tests}
-use Rattle.machine_sweep.specs.Columns.{everyWord, flagOf, flagsOf}
+use Rattle.machine_sweep.specs.Columns.{everyWord, flagOf, flagsOf, flaggedBy}
 
 -- The word of unit k is inside the run where that of the last unit is.
 pub word-inside : (at step k n size : ℕ) → k < n → at + step * n < size + step → at + step * k < size
@@ -50,14 +50,29 @@ pub filled-flags : (mask : ℕ) → filledFrom (flagOf mask) 0 32 (replicate 32 
 unfolding filledFrom flagsOf tabulate
 filled-flags mask = refl
 
--- Fields that have flags are fields that pass the test that the mask's bits tell.
-pub fields-tested : (mask : ℕ) (t : List Bool) → t ≡ flagsOf mask → (p : ℕ → Bool) → T (allBelow (λ k. Bool·beq (eqb (mask / 2 ^ k % 2) 1) (p k)) 32)
-    → (shift : ℕ) (m : List ℕ) (at step n : ℕ) (r : Bool)
+-- The flags of a mask whose bits tell of a test.
+pub flags-tell : (mask : ℕ) (t : List Bool) → t ≡ flagsOf mask → (p : ℕ → Bool) → T (allBelow (λ k. Bool·beq (eqb (mask / 2 ^ k % 2) 1) (p k)) 32)
+    → (i : ℕ) → i < 32 → getD t i false ≡ p i
+unfolding flagsOf flagOf
+flags-tell mask t e p passes i h = rw e (tabulate-at (flagOf mask) 32 i false h ∙ bit-tests mask p 32 passes i h)
+
+-- Fields that have flags are fields that pass the test that the flags tell.
+pub fields-tested : (t : List Bool) (p : ℕ → Bool) → ((i : ℕ) → i < 32 → getD t i false ≡ p i) → (shift : ℕ) (m : List ℕ) (at step n : ℕ) (r : Bool)
     → r ≡ everyWord (λ x. getD t (x / 2 ^ shift % 32) false) m at step 0 n → r ≡ everyWord (λ x. p (x / 2 ^ shift % 32)) m at step 0 n
-unfolding everyWord flagsOf flagOf
-fields-tested mask t e p passes shift m at step n r flagged =
+unfolding everyWord
+fields-tested t p tells shift m at step n r flagged =
     flagged
     ∙ below-same (λ k. getD t (getD m (at + step * k + 0) 0 / 2 ^ shift % 32) false) (λ k. p (getD m (at + step * k + 0) 0 / 2 ^ shift % 32)) n
+    (λ k l. tells (getD m (at + step * k + 0) 0 / 2 ^ shift % 32) (omega arith))
+
+-- The same of words by two lists of flags.
+pub words-tested : (low high : List Bool) (p q : ℕ → Bool) → ((i : ℕ) → i < 32 → getD low i false ≡ p i) → ((i : ℕ) → i < 32 → getD high i false ≡ q i)
+    → (limit : ℕ) (m : List ℕ) (at step n : ℕ) (r : Bool)
+    → r ≡ everyWord (flaggedBy low high limit) m at step 0 n → r ≡ everyWord (λ x. cond (ltb x limit) (p (x % 32)) (q (x % 32))) m at step 0 n
+unfolding everyWord flaggedBy
+words-tested low high p q lows highs limit m at step n r flagged =
+    flagged
+    ∙ below-same (λ k. flaggedBy low high limit (getD m (at + step * k + 0) 0)) (λ k. cond (ltb (getD m (at + step * k + 0) 0) limit) (p (getD m (at + step * k + 0) 0 % 32)) (q (getD m (at + step * k + 0) 0 % 32))) n
     (λ k l.
-    let i = getD m (at + step * k + 0) 0 / 2 ^ shift % 32 in
-    rw e (tabulate-at (flagOf mask) 32 i false (omega arith) ∙ bit-tests mask p 32 passes i (omega arith)))
+    let x = getD m (at + step * k + 0) 0 in
+    rw (lows (x % 32) (omega arith), highs (x % 32) (omega arith)))

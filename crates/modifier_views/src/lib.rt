@@ -38,6 +38,7 @@ fn reads_late(text: Text, function: u32) -> bool
 {
     match text {
         Text::Of1978 => modifier_turn::reads_late(function),
+        Text::Old => old_modifier::reads_late(function),
     }
 }
 
@@ -49,6 +50,7 @@ fn turn(text: Text, u: Modifier, a: u32, b: u32) -> Turned
 {
     match text {
         Text::Of1978 => modifier_turn::turn(u, a, b),
+        Text::Old => old_modifier::turn(u, a, b),
     }
 }
 

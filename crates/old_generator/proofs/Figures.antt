@@ -10,7 +10,8 @@ use Rattle.modes.specs.Modes.{inactive, pause, runningA, runningB, runningC, wa
 use Rattle.oscillator.specs.Oscillator.{square, pulse, sineWave}
 use Rattle.old_waves.specs.OldWaves.{cosine, oldWave}
 use Rattle.envelope.specs.Envelope.{rounded, enveloped}
-use Rattle.old_generator.specs.OldGenerator.{oldRunMode, oldQ, oldLevel}
+use Rattle.old_modes.specs.OldModes.{oldRunMode}
+use Rattle.old_generator.specs.OldGenerator.{oldQ, oldLevel}
 
 -- K is 0 with GM 0 and 1, then 1, 256, 512, 1,023, 1,024, 1,025; as a word of 12 bits, -512 is 3,584, -1,023 is 3,073, -1,024 is 3,072, -2,048 is 2,048.
 cosines : (cosine 0 0 ≡ pos 2047) × (cosine 0 1 ≡ pos 1023) × (cosine 1 0 ≡ pos 2047) × (cosine 256 0 ≡ pos 1891) × (cosine 512 0 ≡ pos 1447) × (cosine 1023 0 ≡ pos 2) × (cosine 1024 0 ≡ pos 0) × (cosine 1025 0 ≡ negℤ (pos 3))

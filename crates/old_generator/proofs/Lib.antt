@@ -1,4 +1,4 @@
-pub mod RunModes
+pub mod Switched
 pub mod Levels
 pub mod OldTurns
 pub mod Registers

@@ -18,9 +18,11 @@ use Rattle.generator.specs.declared.Sounded.{Sounded}
 use Rattle.generator.specs.Generator.{updated, Ranged, jOf, gjAfter, gkAfter, gqAfter, triggers}
 use Rattle.generator.specs.Steps.{phaseOf, leftBy, advancedBy}
 use Rattle.generator.proofs.Turns.{low-is-j, advanced-in}
-use Rattle.old_generator.specs.OldGenerator.{oldRun, oldOscillator, switchedMode, switched, eOf, oldK, oldW, oldP, withOldRun, oldGmodeAfter, oldAfter, oldSounded}
+use Rattle.old_modes.specs.OldModes.{oldRun, oldOscillator}
+use Rattle.old_generator.specs.OldGenerator.{switchedMode, switched, eOf, oldK, oldW, oldP, withOldRun, oldGmodeAfter, oldAfter, oldSounded}
 use Rattle.old_generator.specs.OldSteps.{eBy, oldOutputBy, oldEndedOf}
-use Rattle.old_generator.proofs.RunModes.{waits-in, gj-switched, gk-switched, left-switched, gq-switched, triggers-switched}
+use Rattle.old_modes.proofs.RunModes.{waits-in}
+use Rattle.old_generator.proofs.Switched.{gj-switched, gk-switched, left-switched, gq-switched, triggers-switched}
 
 -- E is a word of 20 bits.
 pub e-by-low : (g : Generator) (j : ℕ) → Ranged g → j < 2 ^ 20 → eBy g j < 2 ^ 20

@@ -8,8 +8,9 @@ use Rattle.words.proofs.Residues.{either-low, low-lt}
 use Rattle.generator.specs.declared.Generator.{Generator}
 use Rattle.generator.specs.Generator.{Ranged, triggers, after}
 use Rattle.generator.proofs.Registers.{after-ranged}
-use Rattle.old_generator.specs.OldGenerator.{oldRun, switched, oldP, oldGmodeAfter, oldAfter}
-use Rattle.old_generator.proofs.RunModes.{switched-low}
+use Rattle.old_modes.specs.OldModes.{oldRun}
+use Rattle.old_generator.specs.OldGenerator.{switched, oldP, oldGmodeAfter, oldAfter}
+use Rattle.old_modes.proofs.RunModes.{switched-low}
 
 pub old-p-low : (g : Generator) (f : ℕ) → oldP g f < 2 ^ 20
 unfolding oldP

@@ -14,7 +14,8 @@ use Rattle.old_waves.specs.OldWaves.{cosine, oldWave}
 use Rattle.envelope.specs.Envelope.{rounded, enveloped}
 use Rattle.generator.specs.declared.Generator.{Generator}
 use Rattle.generator.specs.Generator.{jOf, leftRange}
-use Rattle.old_generator.specs.OldGenerator.{oldOscillator, switched, eOf, oldK, oldW, oldV, oldP}
+use Rattle.old_modes.specs.OldModes.{oldOscillator}
+use Rattle.old_generator.specs.OldGenerator.{switched, eOf, oldK, oldW, oldV, oldP}
 
 -- P is not 0 where V is 64.
 Heard : ℤ → Type 0

@@ -8,36 +8,14 @@ use lib.IntN.{ℤ}
 use lib.ListN.{getD}
 use Rattle.words.specs.Words.{lowBits}
 use Rattle.exponential.specs.Exponential.{olderSize, exponential}
-use Rattle.modes.specs.Modes.{inactive, pause, runningA, runningB, runningC, wait, readData, writeData, writeDAC}
+use Rattle.old_modes.specs.OldModes.{oldRun, oldEnvelope, oldOscillator, oldRunMode}
 use Rattle.envelope.specs.Envelope.{hOf, levelBy, enveloped}
 use Rattle.old_waves.specs.OldWaves.{oldWave}
 use Rattle.generator.specs.declared.Generator.{Generator}
 use Rattle.generator.specs.declared.Sounded.{Sounded}
 use Rattle.generator.specs.Generator.{updated, jOf, gjAfter, gkAfter, leftRange, gqAfter, triggers}
 
--- GMODE has 8 bits: run mode (3 bits), envelope mode (2), oscillator mode (3).
-abbrev pub oldRun : ℕ → ℕ
-oldRun gmode = gmode / 2 ^ 5 % 2 ^ 3
-
-abbrev pub oldEnvelope : ℕ → ℕ
-oldEnvelope gmode = gmode / 2 ^ 3 % 2 ^ 2
-
-abbrev pub oldOscillator : ℕ → ℕ
-oldOscillator gmode = gmode % 2 ^ 3
-
--- GN is negative: the top one of its 11 bits is 1.
-abbrev pub negativeGN : ℕ → Bool
-negativeGN gn = eqb (gn / 2 ^ 10 % 2) 1
-
--- The run modes 000 to 111, each by the 1978 one that it is switched as. 111 sends: as written data where GN is negative, else to a DAC.
-abbrev pub switchedAs : ℕ → Bool → ℕ
-switchedAs r negative =
-    getD (inactive ∷ pause ∷ runningA ∷ runningB ∷ wait ∷ runningC ∷ readData ∷ cond negative writeData writeDAC ∷ []) r inactive
-
--- The run mode in the 1978 coding.
-unfoldable pub oldRunMode : ℕ → ℕ → ℕ
-oldRunMode gmode gn = switchedAs (oldRun gmode) (negativeGN gn)
-
+-- Its run mode in the 1978 coding.
 abbrev pub switchedMode : Generator → ℕ
 switchedMode g = oldRunMode (g .gmode) (g .gn)
 

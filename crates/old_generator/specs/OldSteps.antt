@@ -10,7 +10,8 @@ use Rattle.old_waves.specs.OldWaves.{oldWave}
 use Rattle.generator.specs.declared.Generator.{Generator}
 use Rattle.generator.specs.Generator.{updated}
 use Rattle.generator.specs.Steps.{leftBy}
-use Rattle.old_generator.specs.OldGenerator.{oldRun, oldOscillator, oldV, withOldRun}
+use Rattle.old_modes.specs.OldModes.{oldRun, oldOscillator}
+use Rattle.old_generator.specs.OldGenerator.{oldV, withOldRun}
 
 -- Step 3: E.
 unfoldable pub eBy : Generator → ℕ → ℕ

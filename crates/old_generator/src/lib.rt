@@ -11,7 +11,8 @@ ghost use Rattle.oscillator.specs.Oscillator.{Wave};
 ghost use Rattle.old_waves.specs.OldWaves.{oldWave};
 ghost use Rattle.generator.specs.Generator.{updated, Ranged};
 ghost use Rattle.generator.specs.Steps.{leftBy};
-ghost use Rattle.old_generator.specs.OldGenerator.{oldOscillator, oldRunMode, switchedMode, eOf, oldLevel, withOldRun, oldAfter, oldSounded};
+ghost use Rattle.old_modes.specs.OldModes.{oldOscillator};
+ghost use Rattle.old_generator.specs.OldGenerator.{switchedMode, eOf, oldLevel, withOldRun, oldAfter, oldSounded};
 ghost use Rattle.old_generator.specs.OldSteps.{eBy, oldOutputBy, oldEndedOf};
 use exponential::Entries;
 use generator::Generator;
@@ -24,17 +25,6 @@ use words::SignMagnitude;
 const WAIT: u32 = 0b100;
 
 const RUNNING_C: u32 = 0b101;
-
-// The run modes 000 to 111, from the right, each by the number of the 1978 one that it is switched as.
-const SWITCHED_AS: u32 = 0x27D9_EF10;
-
-// The run mode in the 1978 coding. 111 is write DAC, 0010, and with a negative GN the next number, write data.
-pub fn run_mode(gmode: u32, gn: u32) -> u32
-    ensures { λ r. ⌜ r ≡ oldRunMode gmode gn ⌝ }
-{
-    let run = gmode / 32 % 8;
-    (SWITCHED_AS >> (4 * run)) % 16 + (run + gn / 1024 % 2) / 8
-}
 
 // Step 3: E, of J.
 fn angle_by(unit: Generator, j: u32) -> u32

@@ -78,6 +78,7 @@ pub fn unit_refusal(text: Text, m: &[u32]) -> u32
 {
     match text {
         Text::Of1978 => delay_questions::delay_refusal(m),
+        Text::Old => 0,
     }
 }
 

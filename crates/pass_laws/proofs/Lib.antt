@@ -13,3 +13,4 @@ pub mod PassCounts
 pub mod PassClipped
 pub mod PassesInSequence
 pub mod Untaken
+pub mod OldPass

@@ -13,7 +13,7 @@ use Rattle.lists.proofs.Below.{below-same}
 use Rattle.layout.specs.Layout.{modifierAt, tAt, MRM, MMODE, delayAt, delayWords, delayX, delayY, delayZ, delayP}
 use Rattle.layout.specs.Machine.{Machine, ticksOf}
 use Rattle.texts.specs.declared.Text.{Text}
-use Rattle.texts.specs.declared.Text.the-variants.{Of1978}
+use Rattle.texts.specs.declared.Text.the-variants.{Of1978, Old}
 use Rattle.questions.specs.Questions.{asked}
 use Rattle.machine.proofs.SoundMachine.{reaches}
 use Rattle.sums.specs.Sums.{sumsOf}
@@ -112,6 +112,7 @@ pass-units Of1978 m call few e = go (linesGood m) (namedOnce m) refl refl e
     go true true ea eb q = rw (pass-lines Of1978 m call few ea, pass-named Of1978 m call few, eb)
     go true false ea eb q = absurd (omega arith)
     go false b ea eb q = absurd (omega arith)
+pass-units Old m call few e = refl
 
 -- A delay unit is told by its seven words.
 unit-same : (m n : Machine) (u : ℕ) → ((j : ℕ) → j < delayWords → getD n (delayAt u + j) 0 ≡ getD m (delayAt u + j) 0) → delayOf n u ≡ delayOf m u
@@ -139,3 +140,4 @@ units-set Of1978 m i v few l h n = rw (lines, named-once-same m (set m i v) same
 
     lines : allBelow (goodLine (set m i v)) (ticksOf (set m i v) / 2) ≡ allBelow (goodLine m) (ticksOf m / 2)
     lines = rw (other tAt n) (below-same (goodLine (set m i v)) (goodLine m) (ticksOf m / 2) (λ k a. good-line-same m (set m i v) same k a (rw (unit (namedBy m k))) (rw (unit (namedBy m k)))))
+units-set Old m i v few l h n = refl

@@ -2,14 +2,15 @@
 -- Assumes nothing.
 use mathlib.Core.Path.{_≡_, refl, sym, _∙_, ap}
 use mathlib.Core.Logic.{_≢_}
-use mathlib.Core.Bool.{Bool, true, false, cond, _&&_}
+use mathlib.Core.Bool.{Bool, true, false, cond, _&&_, and-false, or-false}
 use Prim.Native.Nat.{ℕ, _+_, _/_, _%_, _^_, _<_}
+use native.Mathlib.Nat.{mod-eq-of-lt}
 use native.Mathlib.Omega.{arith}
-use borrow.Author.Tests.{eqb-true, eq-eqb, ne-eqb}
+use borrow.Author.Tests.{eqb-true, eq-eqb, ne-eqb, lt-ltb}
 use lib.Dec.{eqb, lit<}
 use lib.ListN.{getD}
 use Rattle.lists.specs.Lists.{isOneOf}
-use Rattle.lists.proofs.Below.{and-first}
+use Rattle.lists.proofs.Below.{and-first, and-second, and-both}
 use Rattle.lists.proofs.Choices.{of-cond}
 use Rattle.modes.specs.Modes.{builtRun, builtOscillator, wait, runningC, writeData, replaces, withRunMode}
 use Rattle.layout.specs.Layout.{generatorAt, GN}
@@ -17,20 +18,21 @@ use Rattle.layout.specs.Widths.{wordBits}
 use Rattle.layout.specs.Machine.{Machine, Sums, gmodeAt}
 use Rattle.texts.specs.Texts.{runModeAt, otherModesAt}
 use Rattle.texts.specs.declared.Text.{Text}
-use Rattle.texts.specs.declared.Text.the-variants.{Of1978}
-use Rattle.machine.specs.Questions.{goodGmode}
+use Rattle.texts.specs.declared.Text.the-variants.{Of1978, Old}
+use Rattle.machine.specs.Questions.{bits, goodGmode}
 use Rattle.machine.proofs.Words.{gmode-from, gmode-oscillator}
 use Rattle.sums.specs.Sums.{fAt}
 use Rattle.sums.proofs.Memory.{word-low}
 use Rattle.generator.specs.declared.Generator.{Generator}
 use Rattle.generator.specs.Generator.{Ranged, runMode, triggers, gmodeAfter, after}
 use Rattle.generator.proofs.Registers.{after-ranged}
-use Rattle.pass_model.specs.Generators.{Brought, generatorOf, turn1978, generatorTurn}
+use Rattle.generator_turn.specs.GeneratorTurn.{runOf}
+use Rattle.old_modes.specs.OldModes.{oldRun, oldOscillator, oldOscillators, oldBuiltModes, oldRunMode}
+use Rattle.old_generator.specs.OldGenerator.{switched as asSwitched, withOldRun, oldGmodeAfter, oldAfter}
+use Rattle.old_generator.proofs.OldTurns.{e-low}
+use Rattle.old_generator.proofs.Registers.{old-after-ranged}
+use Rattle.pass_model.specs.Generators.{Brought, generatorOf, turn1978, turnOld, generatorTurn}
 use Rattle.pass_model.proofs.Puts.{generator-ranged}
-
--- The run mode of a generator by a text.
-abbrev pub runOf : Text → Generator → ℕ
-runOf Of1978 u = runMode u
 
 -- GMODE of generator g in r, as it was in m: the other modes are kept, and the run mode too unless it was 1001 or 1101, when it is one of these.
 pub record ModeKept (text : Text) (m r : Machine) (g : ℕ) : Type 0 where
@@ -41,9 +43,11 @@ pub record ModeKept (text : Text) (m r : Machine) (g : ℕ) : Type 0 where
 -- A run mode and the other modes are told by GMODE and GN.
 pub same-run : (text : Text) (m r : Machine) (g : ℕ) → gmodeAt r g ≡ gmodeAt m g → getD r (generatorAt g + GN) 0 ≡ getD m (generatorAt g + GN) 0 → runModeAt text r g ≡ runModeAt text m g
 same-run Of1978 m r g e n = ap (λ (x : ℕ). x / 2 ^ 6) e
+same-run Old m r g e n = rw (e, n)
 
 same-rest : (text : Text) (m r : Machine) (g : ℕ) → gmodeAt r g ≡ gmodeAt m g → otherModesAt text r g ≡ otherModesAt text m g
 same-rest Of1978 m r g e = ap (λ (x : ℕ). x % 2 ^ 6) e
+same-rest Old m r g e = ap (λ (x : ℕ). x % 2 ^ 5) e
 
 pub mode-same : (text : Text) (m r : Machine) (g : ℕ) → gmodeAt r g ≡ gmodeAt m g → getD r (generatorAt g + GN) 0 ≡ getD m (generatorAt g + GN) 0 → ModeKept text m r g
 mode-same text m r g e n =
@@ -88,45 +92,88 @@ good-after u told good =
     of-cond (λ (x : ℕ). goodGmode Of1978 x ≡ true) (eqb (runMode u) runningC && triggers u) (good-run wait (u .gmode) (lit< tt) refl good)
     (of-cond (λ (x : ℕ). goodGmode Of1978 x ≡ true) (eqb (runMode u) wait && told) (good-run runningC (u .gmode) (lit< tt) refl good) good)
 
--- Its run mode changes from one of the two to one of the two: GMODE y after GMODE x.
-record Switched (x y : ℕ) : Type 0 where
-  rest : y % 2 ^ 6 ≡ x % 2 ^ 6
-  whole : x / 2 ^ 6 ≢ wait → x / 2 ^ 6 ≢ runningC → y ≡ x
-  other : (mode : ℕ) → mode ≢ wait → mode ≢ runningC → eqb (y / 2 ^ 6) mode ≡ eqb (x / 2 ^ 6) mode
+-- A run mode that changes from one of the two to one of the two, the other modes kept: GMODE y after GMODE x.
+record Switched (run rest : ℕ → ℕ) (x y : ℕ) : Type 0 where
+  kept : rest y ≡ rest x
+  whole : run x ≢ wait → run x ≢ runningC → y ≡ x
+  other : (mode : ℕ) → mode ≢ wait → mode ≢ runningC → eqb (run y) mode ≡ eqb (run x) mode
 
 between-two : (x y : ℕ) {a b : ℕ} → x ≡ a → y ≡ b → (mode : ℕ) → mode ≢ a → mode ≢ b → eqb y mode ≡ eqb x mode
 between-two x y {a} {b} ex ey mode m n = ne-eqb y mode (λ e. n (sym e ∙ ey)) ∙ sym (ne-eqb x mode (λ e. m (sym e ∙ ex)))
 
-switched : (u : Generator) (told : Bool) → Switched (u .gmode) (gmodeAfter u told)
-unfolding gmodeAfter
-switched u told = go (eqb (runMode u) runningC && triggers u) (eqb (runMode u) wait && told) refl refl
-  where
-    go : (a b : Bool) → (eqb (runMode u) runningC && triggers u) ≡ a → (eqb (runMode u) wait && told) ≡ b
-        → Switched (u .gmode) (cond a (withRunMode wait (u .gmode)) (cond b (withRunMode runningC (u .gmode)) (u .gmode)))
-    go true b ea eb =
-        let from = eqb-true (runMode u) runningC (and-first (eqb (runMode u) runningC) (triggers u) ea) in
-        record {
-          rest = omega arith;
-          whole = λ n c. absurd (c from);
-          other = λ mode n c. between-two (runMode u) (withRunMode wait (u .gmode) / 2 ^ 6) from (omega arith) mode c n;
-        }
-    go false true ea eb =
-        let from = eqb-true (runMode u) wait (and-first (eqb (runMode u) wait) told eb) in
-        record {
-          rest = omega arith;
-          whole = λ n c. absurd (n from);
-          other = λ mode n c. between-two (runMode u) (withRunMode runningC (u .gmode) / 2 ^ 6) from (omega arith) mode n c;
-        }
-    go false false ea eb = record { rest = refl; whole = λ n c. refl; other = λ mode n c. refl }
+-- GMODE w in run mode 1001 after one in 1101, GMODE c in 1101 after one in 1001.
+module _ (run rest : ℕ → ℕ) (x w c : ℕ) (w-kept : rest w ≡ rest x) (c-kept : rest c ≡ rest x) (w-waits : run w ≡ wait) (c-runs : run c ≡ runningC) where
+  switched : (a b : Bool) → (a ≡ true → run x ≡ runningC) → (b ≡ true → run x ≡ wait) → Switched run rest x (cond a w (cond b c x))
+  switched true b runs waits =
+      record { kept = w-kept; whole = λ n m. absurd (m (runs refl)); other = λ mode n m. between-two (run x) (run w) (runs refl) w-waits mode m n }
+  switched false true runs waits =
+      record { kept = c-kept; whole = λ n m. absurd (n (waits refl)); other = λ mode n m. between-two (run x) (run c) (waits refl) c-runs mode n m }
+  switched false false runs waits = record { kept = refl; whole = λ n m. refl; other = λ mode n m. refl }
 
 mode-after : (m r : Machine) (g : ℕ) (u : Generator) (told : Bool) → u .gmode ≡ gmodeAt m g → gmodeAt r g ≡ gmodeAfter u told → ModeKept Of1978 m r g
+unfolding gmodeAfter
 mode-after m r g u told before now =
-    let k : Switched (gmodeAt m g) (gmodeAt r g) = rw (now, ← before) (switched u told) in
-    record { rest = k .rest; whole = k .whole; other = k .other }
+    let x = u .gmode in
+    let s = switched (λ y. y / 2 ^ 6) (λ y. y % 2 ^ 6) x (withRunMode wait x) (withRunMode runningC x) (omega arith) (omega arith) (omega arith) (omega arith)
+    (eqb (runMode u) runningC && triggers u) (eqb (runMode u) wait && told)
+    (λ e. eqb-true (runMode u) runningC (and-first (eqb (runMode u) runningC) (triggers u) e)) (λ e. eqb-true (runMode u) wait (and-first (eqb (runMode u) wait) told e)) in
+    let k : Switched (λ y. y / 2 ^ 6) (λ y. y % 2 ^ 6) (gmodeAt m g) (gmodeAt r g) = rw (now, ← before) s in
+    record { rest = k .kept; whole = k .whole; other = k .other }
+
+-- In the older text too: its run modes 100 and 101 are switched as these, and a GMODE in one of them that is good has an oscillator mode that is built in all.
+old-run : (r x : ℕ) → r < 8 → oldRun (withOldRun r x) ≡ r
+old-run r x h =
+    let q : withOldRun r x / 2 ^ 5 ≡ r = omega arith in
+    ap (λ (y : ℕ). y % 2 ^ 3) q ∙ mod-eq-of-lt {n = r} {m = 2 ^ 3} h
+
+old-good : (r x : ℕ) → r < 8 → oldRun x ≢ 0 → goodGmode Old x ≡ true → goodGmode Old (withOldRun r x) ≡ true
+unfolding oldBuiltModes
+old-good r x h n good =
+    let low : withOldRun r x < 2 ^ 8 = omega arith in
+    let same : oldOscillator (withOldRun r x) ≡ oldOscillator x = omega arith in
+    let is : isOneOf (oldOscillator x) oldOscillators ≡ true = simp (ne-eqb (oldRun x) 0 n, and-false, or-false) at (and-second (bits 8 x) (oldBuiltModes x) good) in
+    and-both (bits 8 (withOldRun r x)) (oldBuiltModes (withOldRun r x)) (lt-ltb (withOldRun r x) (2 ^ 8) low) (rw (same, is) refl)
+
+old-good-after : (u : Generator) (told : Bool) → goodGmode Old (u .gmode) ≡ true → goodGmode Old (oldGmodeAfter u told) ≡ true
+unfolding oldGmodeAfter
+old-good-after u told good =
+    go (eqb (oldRun (u .gmode)) 0b101 && triggers (asSwitched u)) (eqb (oldRun (u .gmode)) 0b100 && told) refl refl
+  where
+    go : (a b : Bool) → (eqb (oldRun (u .gmode)) 0b101 && triggers (asSwitched u)) ≡ a → (eqb (oldRun (u .gmode)) 0b100 && told) ≡ b
+        → goodGmode Old (cond a (withOldRun 0b100 (u .gmode)) (cond b (withOldRun 0b101 (u .gmode)) (u .gmode))) ≡ true
+    go true b ea eb =
+        let from = eqb-true (oldRun (u .gmode)) 0b101 (and-first (eqb (oldRun (u .gmode)) 0b101) (triggers (asSwitched u)) ea) in
+        old-good 0b100 (u .gmode) (lit< tt) (λ e. omega (arith, e, from)) good
+    go false true ea eb =
+        let from = eqb-true (oldRun (u .gmode)) 0b100 (and-first (eqb (oldRun (u .gmode)) 0b100) told eb) in
+        old-good 0b101 (u .gmode) (lit< tt) (λ e. omega (arith, e, from)) good
+    go false false ea eb = good
+
+as-wait : (x n : ℕ) → oldRun x ≡ 0b100 → oldRunMode x n ≡ wait
+unfolding oldRunMode
+as-wait x n e = rw e refl
+
+as-running : (x n : ℕ) → oldRun x ≡ 0b101 → oldRunMode x n ≡ runningC
+unfolding oldRunMode
+as-running x n e = rw e refl
+
+old-mode-after : (m r : Machine) (g : ℕ) (u : Generator) (told : Bool) → u .gmode ≡ gmodeAt m g → gmodeAt r g ≡ oldGmodeAfter u told
+    → getD r (generatorAt g + GN) 0 ≡ getD m (generatorAt g + GN) 0 → ModeKept Old m r g
+unfolding oldGmodeAfter
+old-mode-after m r g u told before now sign =
+    let x = u .gmode in
+    let n = getD m (generatorAt g + GN) 0 in
+    let s = switched (λ y. oldRunMode y n) (λ y. y % 2 ^ 5) x (withOldRun 0b100 x) (withOldRun 0b101 x) (omega arith) (omega arith)
+    (as-wait (withOldRun 0b100 x) n (old-run 0b100 x (lit< tt))) (as-running (withOldRun 0b101 x) n (old-run 0b101 x (lit< tt)))
+    (eqb (oldRun x) 0b101 && triggers (asSwitched u)) (eqb (oldRun x) 0b100 && told)
+    (λ e. as-running x n (eqb-true (oldRun x) 0b101 (and-first (eqb (oldRun x) 0b101) (triggers (asSwitched u)) e)))
+    (λ e. as-wait x n (eqb-true (oldRun x) 0b100 (and-first (eqb (oldRun x) 0b100) told e))) in
+    let k : Switched (λ y. oldRunMode y n) (λ y. y % 2 ^ 5) (gmodeAt m g) (gmodeAt r g) = rw (now, ← before) s in
+    record { rest = k .kept; whole = k .whole; other = λ mode a b. ap (λ (y : ℕ). eqb (oldRunMode (gmodeAt r g) y) mode) sign ∙ k .other mode a b }
 
 -- What a turn keeps.
 pub turn-keeps : (text : Text) (words : Machine) (sums : Sums) (g : ℕ) (told : Bool) → TurnKeeps text words g (generatorTurn text words sums g told)
-unfolding turn1978 after fAt
+unfolding turn1978 turnOld after oldAfter fAt
 turn-keeps Of1978 words sums g told =
     let u = generatorOf words g in
     record {
@@ -134,6 +181,17 @@ turn-keeps Of1978 words sums g told =
       good = good-after u told;
       mode = λ r e f n. mode-after words r g u told e f;
       sends-low = word-low _ _;
+      dac-low = omega arith;
+      replaces = refl;
+      writes = refl;
+    }
+turn-keeps Old words sums g told =
+    let u = generatorOf words g in
+    record {
+      ranged = old-after-ranged u (fAt sums (u .gfm)) told (generator-ranged words g);
+      good = old-good-after u told;
+      mode = λ r e f n. old-mode-after words r g u told e f n;
+      sends-low = e-low u (fAt sums (u .gfm)) (generator-ranged words g);
       dac-low = omega arith;
       replaces = refl;
       writes = refl;

@@ -10,12 +10,13 @@ use lib.Seq.{sets, length-sets}
 use Rattle.layout.specs.Layout.{modifierAt, delayAt, delayY, delayZ}
 use Rattle.layout.specs.Machine.{Machine, Memory, Sums}
 use Rattle.texts.specs.declared.Text.{Text}
-use Rattle.texts.specs.declared.Text.the-variants.{Of1978}
+use Rattle.texts.specs.declared.Text.the-variants.{Of1978, Old}
 use Rattle.modifier.specs.declared.Modifier.{Modifier}
 use Rattle.modifier.specs.Modifier.{Ranged}
 use Rattle.modifier.proofs.Low.{loaded-ranged}
 use Rattle.modifier.proofs.Turns.{Low}
 use Rattle.modifier_turn.proofs.Turns.{turn-low}
+use Rattle.old_modifier.proofs.Turns.{old-turn-low}
 use Rattle.delay.proofs.Low.{WordsLow}
 use Rattle.sums.proofs.Blocks.{Outside, getD-outside}
 use Rattle.pass_model.specs.Modifiers.{withWrites, earlyView, lateView, modifierTurn, turnSeen, modifierOf, Held, delayed, modify, modified, modifiedBy}
@@ -26,6 +27,7 @@ use Rattle.pass_model.proofs.Delays.{OffUnits, off-below, off-setting, 
 -- What a turn gives is within its widths; and of a modifier of a machine, whatever stands in it.
 modifier-turn-low : (text : Text) (u : Modifier) (a b : ℕ) → Ranged u → a < 2 ^ 20 → b < 2 ^ 20 → Low (modifierTurn text u a b)
 modifier-turn-low Of1978 = turn-low
+modifier-turn-low Old = λ u a b r h l. old-turn-low u a b r h
 
 pub turn-seen-low : (text : Text) (t : ℕ) (s : Sums) (early late : List ℕ) (words : Machine) (m : ℕ) → Low (turnSeen text t words s early late (modifierOf words m))
 unfolding turnSeen modifierOf

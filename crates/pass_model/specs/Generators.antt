@@ -10,10 +10,11 @@ use Rattle.words.specs.Words.{sum}
 use Rattle.modes.specs.Modes.{adds, replaces, writeData, writeDAC}
 use Rattle.generator.specs.declared.Generator.{Generator}
 use Rattle.generator.specs.Generator.{loaded, stored, runMode, pOf, triggers, after}
+use Rattle.old_generator.specs.OldGenerator.{switchedMode, switched, eOf, oldP, oldAfter}
 use Rattle.layout.specs.Layout.{generatorAt, dacAt}
 use Rattle.layout.specs.Machine.{Machine, Order, Items, Places, Sums}
 use Rattle.texts.specs.declared.Text.{Text}
-use Rattle.texts.specs.declared.Text.the-variants.{Of1978}
+use Rattle.texts.specs.declared.Text.the-variants.{Of1978, Old}
 use Rattle.texts.specs.Texts.{distanceOf}
 use Rattle.sums.specs.Sums.{sumAt, putSum, fAt}
 
@@ -60,9 +61,28 @@ turn1978 words sums g told =
       writes = eqb (runMode u) writeData;
     }
 
+-- The turn of generator g of the older text. Step 5: 111 sends E, its own angle, as a written item where GN is negative, else to the DAC named by the low 4 bits of GN.
+unfoldable pub turnOld : Machine → Sums → ℕ → Bool → Brought
+turnOld words sums g told =
+    let u = generatorOf words g in
+    let f = fAt sums (u .gfm) in
+    record {
+      unit = oldAfter u f told;
+      triggers = triggers (switched u);
+      p = oldP u f;
+      adds = adds (switchedMode u);
+      replaces = replaces (switchedMode u);
+      word = u .gsum;
+      sends = eOf u f;
+      feeds = eqb (switchedMode u) writeDAC;
+      dac = u .gn % 2 ^ 4;
+      writes = eqb (switchedMode u) writeData;
+    }
+
 -- The turn of generator g by a text.
 abbrev pub generatorTurn : Text → Machine → Sums → ℕ → Bool → Brought
 generatorTurn Of1978 = turn1978
+generatorTurn Old = turnOld
 
 -- The generators of a text.
 abbrev pub generatorsOf : Text → Generators

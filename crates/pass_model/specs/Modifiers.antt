@@ -1,7 +1,7 @@
 -- The modifiers of a pass, taken by number (document 01, "A modifier" and "A pass, and two orders of it").
 -- Assumes nothing.
 use Prim.Native.Nat.{ℕ, zero, suc, _+_, _-_, _/_, _%_}
-use mathlib.Core.Bool.{Bool, cond, _&&_}
+use mathlib.Core.Bool.{Bool, false, cond, _&&_}
 use mathlib.Core.List.{List, [], _∷_, _++_}
 use lib.Dec.{eqb}
 use lib.ListN.{getD, set, take, drop}
@@ -10,13 +10,14 @@ use Rattle.modifier.specs.declared.Modifier.{Modifier}
 use Rattle.modifier.specs.declared.Turned.{Turned}
 use Rattle.modifier.specs.Modifier.{loaded, stored, functionOf}
 use Rattle.modifier_turn.specs.Turn.{turnOf, readsLate}
+use Rattle.old_modifier.specs.OldTurn.{oldTurnOf, oldReadsLate}
 use Rattle.modifier_delay.specs.Invoke.{invoking, unitOf}
 use Rattle.delay.specs.Delay.{runs, due, stored as storedDelay, turnOf as delayTurn}
 use Rattle.delay_questions.specs.Questions.{delayOf}
 use Rattle.layout.specs.Layout.{modifierAt, delayAt}
 use Rattle.layout.specs.Machine.{Machine, Memory, Sums}
 use Rattle.texts.specs.declared.Text.{Text}
-use Rattle.texts.specs.declared.Text.the-variants.{Of1978}
+use Rattle.texts.specs.declared.Text.the-variants.{Of1978, Old}
 use Rattle.sums.specs.Sums.{generatorLast, modifierThis, modifierLast, wordAt}
 
 -- What a modifier writes into modifier-this: S, at MSUM.
@@ -62,15 +63,18 @@ given t words u =
     let d = delayOf words (unitOf u) in
     cond (runs t (unitOf u) d) (due d) 0
 
--- A modifier's turn by a text, with its A and the word beside it; whether a function reads A late; whether a modifier invokes a delay unit.
+-- A modifier's turn by a text, with its A and the word beside it; whether a function reads A late; whether a modifier invokes a delay unit: in the older text none does.
 abbrev pub modifierTurn : Text → Modifier → ℕ → ℕ → Turned
 modifierTurn Of1978 = turnOf
+modifierTurn Old = oldTurnOf
 
 abbrev pub modifierReadsLate : Text → ℕ → Bool
 modifierReadsLate Of1978 = readsLate
+modifierReadsLate Old = oldReadsLate
 
 abbrev pub invokesDelay : Text → Modifier → Bool
 invokesDelay Of1978 = invoking
+invokesDelay Old = λ u. false
 
 -- The word that a modifier's turn takes beside A: B, which sees the early view; where it invokes a delay unit and B isn't read, the word that the unit gives.
 unfoldable pub beside : Text → ℕ → Machine → Sums → List ℕ → Modifier → ℕ

@@ -10,7 +10,7 @@ use Rattle.layout.specs.Layout.{counterAt, memoryWords}
 use Rattle.layout.specs.Widths.{counterBits}
 use Rattle.layout.specs.Machine.{Machine, Order, Items, Places, Memory, Sums, ticksOf}
 use Rattle.texts.specs.declared.Text.{Text}
-use Rattle.texts.specs.declared.Text.the-variants.{Of1978}
+use Rattle.texts.specs.declared.Text.the-variants.{Of1978, Old}
 use Rattle.questions.specs.Questions.{Question, asked}
 use Rattle.machine.specs.Questions.{question1, question2}
 use Rattle.order.specs.Order.{question5, question6, question7, question8}
@@ -90,9 +90,10 @@ ran text m call = finished text m call (generatorsTaken text m call)
 unfoldable pub refused : ℕ → Machine → Call → Outcome
 refused n m call = record { number = n; read = 0; written = 0; clipped = noMarks; machine = m; places = call .places; memory = call .memory }
 
--- What a text asks of the delay units.
+-- What a text asks of the delay units: the older one, where no modifier names one, nothing.
 abbrev pub unitQuestions : Text → Machine → List Question
 unitQuestions Of1978 m = question11 m ∷ question12 m ∷ []
+unitQuestions Old m = []
 
 -- The questions of a pass, in sequence.
 unfoldable pub passRefusal : Text → Machine → Call → ℕ

@@ -1,14 +1,14 @@
 -- A modifier's turn, and its delay unit's, by whether it invokes one.
 -- Assumes nothing.
-use mathlib.Core.Path.{_≡_, refl}
-use mathlib.Core.Bool.{true, false}
+use mathlib.Core.Path.{_≡_, refl, sym}
+use mathlib.Core.Bool.{true, false, true≢false}
 use mathlib.Core.List.{List}
 use Prim.Native.Nat.{ℕ}
 use borrow.Author.Tests.{eqb-true}
 use Rattle.layout.specs.Layout.{modifierAt}
 use Rattle.layout.specs.Machine.{Machine, Memory, Sums}
 use Rattle.texts.specs.declared.Text.{Text}
-use Rattle.texts.specs.declared.Text.the-variants.{Of1978}
+use Rattle.texts.specs.declared.Text.the-variants.{Of1978, Old}
 use Rattle.modifier.specs.declared.Modifier.{Modifier}
 use Rattle.modifier.specs.Modifier.{functionOf, stored}
 use Rattle.modifier_turn.specs.Turn.{turnOf, readsLate}
@@ -20,10 +20,12 @@ use Rattle.modifier_views.specs.Views.{turnBeside}
 invoking-late : (text : Text) (u : Modifier) → invokesDelay text u ≡ true → modifierReadsLate text (functionOf u) ≡ true
 unfolding readsLate
 invoking-late Of1978 u i = rw (eqb-true (functionOf u) 0b00111 i)
+invoking-late Old u i = absurd (true≢false (sym i))
 
 invoking-turn : (text : Text) (u : Modifier) (a b : ℕ) → invokesDelay text u ≡ true → modifierTurn text u a b ≡ invokeDelay u a b
 unfolding turnOf
 invoking-turn Of1978 u a b i = rw (eqb-true (functionOf u) 0b00111 i)
+invoking-turn Old u a b i = absurd (true≢false (sym i))
 
 module _ (text : Text) (t : ℕ) (words : Machine) (s : Sums) (early late : List ℕ) (u : Modifier) where
   -- One that invokes a unit reads A late, and the word that the unit gives.

@@ -36,6 +36,7 @@ fn invokes(text: Text, u: Modifier) -> bool
 {
     match text {
         Text::Of1978 => modifier_delay::invoking(u.function()),
+        Text::Old => false,
     }
 }
 

@@ -7,7 +7,8 @@ use Rattle.layout.specs.Layout.{dacs}
 use Rattle.layout.specs.Machine.{Machine}
 use Rattle.texts.specs.Texts.{dacNumberAt}
 use Rattle.texts.specs.declared.Text.{Text}
-use Rattle.texts.specs.declared.Text.the-variants.{Of1978}
+use Rattle.texts.specs.declared.Text.the-variants.{Of1978, Old}
 
 pub dac-low : (text : Text) (m : Machine) (g : ℕ) → dacNumberAt text m g < dacs
 dac-low Of1978 m g = mod-lt _ (omega arith)
+dac-low Old m g = mod-lt _ (omega arith)

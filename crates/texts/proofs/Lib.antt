@@ -1,2 +1,1 @@
-pub mod One
 pub mod Dacs

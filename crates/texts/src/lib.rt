@@ -4,9 +4,10 @@ ghost use Prim.Native.Nat.{_<_};
 ghost use Rattle.layout.specs.Machine.{Reaches};
 ghost use Rattle.texts.specs.Texts.{runModeAt, dacNumberAt, sourceAt, distanceOf};
 
-// A specification: that of 1978.
+// A specification: that of 1978, and the older one.
 pub enum Text {
     Of1978,
+    Old,
 }
 
 // How far below a generator its lower neighbour stands.
@@ -15,10 +16,11 @@ pub fn distance(text: Text) -> usize
 {
     match text {
         Text::Of1978 => 1,
+        Text::Old => 2,
     }
 }
 
-// The run mode of generator g.
+// The run mode of generator g, in the 1978 coding.
 pub fn run_mode(text: Text, m: &[u32], g: usize) -> u32
     requires { ⌜ Reaches (now m) ⌝ }
     requires { ⌜ g < 256 ⌝ }
@@ -26,6 +28,10 @@ pub fn run_mode(text: Text, m: &[u32], g: usize) -> u32
 {
     match text {
         Text::Of1978 => m[layout::GENERATOR_WORDS * g + layout::GMODE] / 64,
+        Text::Old => {
+            let gmode = m[layout::GENERATOR_WORDS * g + layout::GMODE];
+            old_modes::run_mode(gmode, m[layout::GENERATOR_WORDS * g + layout::GN])
+        }
     }
 }
 
@@ -37,6 +43,7 @@ pub fn dac_number(text: Text, m: &[u32], g: usize) -> usize
 {
     match text {
         Text::Of1978 => layout::wide(m[layout::GENERATOR_WORDS * g + layout::GO] % 16),
+        Text::Old => layout::wide(m[layout::GENERATOR_WORDS * g + layout::GN] % 16),
     }
 }
 
@@ -48,5 +55,6 @@ pub fn source(text: Text, m: &[u32], g: usize) -> u32
 {
     match text {
         Text::Of1978 => layout::gfm(m, g),
+        Text::Old => g as u32,
     }
 }

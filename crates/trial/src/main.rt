@@ -118,7 +118,7 @@ fn old_generator_turn(x: &[u32; 16], sine: &Quarter, decay: &Entries, modes: &Ro
     requires { ⌜ (now sine ≡ quarter) × (now decay ≡ entries tableSize) × (now modes ≡ rows) ⌝ }
 {
     let unit = generator_of(x);
-    let run = old_generator::run_mode(unit.gmode, unit.gn);
+    let run = old_modes::run_mode(unit.gmode, unit.gn);
     let on = modes::switches_of(modes, run);
     let f = x[12] % 1048576;
     if on.envelope == 1 {

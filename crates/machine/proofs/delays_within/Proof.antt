@@ -5,7 +5,7 @@ use Rattle.lists.specs.Lists.{isOneOf}
 use Rattle.lists.proofs.Below.{both}
 use Rattle.layout.specs.Layout.{delayAt, delayWords, delayP}
 use Rattle.built_codes.specs.BuiltCodes.{builtMode}
-use Rattle.machine_sweep.proofs.Words.{fields-tested}
+use Rattle.machine_sweep.proofs.Words.{flags-tell, fields-tested}
 use Rattle.machine.specs.Questions.{delayRegisters}
 use Rattle.machine.specs.Loops.{limitsOf, repeated, delaysWithin}
 use Rattle.machine.proofs.Limits.{limits-swept}
@@ -21,7 +21,7 @@ returns c =
     let m = flags .before .before .before .args .m .now in
     both
     (limits-swept (flags .before .delay-limits .result) (repeated (limitsOf delayRegisters) 28) m (delayAt 0) 1 (sweep .swept .result) (flags .before .delay-limits .ensures) (sweep .swept .ensures))
-    (fields-tested _ (flags .flags .result) (flags .flags .ensures) (λ k. builtMode (k % 16)) tt 0 m (delayAt 0 + delayP) delayWords 32 (c .fields-flagged .result) (c .fields-flagged .ensures))
+    (fields-tested (flags .flags .result) (λ k. builtMode (k % 16)) (flags-tell _ _ (flags .flags .ensures) (λ k. builtMode (k % 16)) tt) 0 m (delayAt 0 + delayP) delayWords 32 (c .fields-flagged .result) (c .fields-flagged .ensures))
 
 pub delays-within-spec : {M : Type 1} → statement M
 delays-within-spec =

@@ -1,0 +1,5 @@
+pub mod Words
+pub mod Content
+pub mod Loaded
+pub mod Triggering
+pub mod Sounding

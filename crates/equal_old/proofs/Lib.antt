@@ -1,0 +1,4 @@
+pub mod Signs
+pub mod Settings
+pub mod Sounding
+pub mod Telling
