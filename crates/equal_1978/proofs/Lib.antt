@@ -1,3 +1,2 @@
-pub mod Settings
 pub mod Sounding
 pub mod Telling

@@ -1,30 +1,28 @@
 -- The contents of the 1978 text tell orders apart.
 -- Assumes nothing.
-use mathlib.Core.Path.{_≡_, refl, sym, ap, _∙_}
-use mathlib.Core.Bool.{Bool, true, false, cond}
+use mathlib.Core.Path.{_≡_, refl, sym, _∙_}
+use mathlib.Core.Bool.{Bool, true, cond}
 use mathlib.Core.List.{[]}
-use Prim.Native.Nat.{ℕ, _+_, _/_, _%_, _^_, _≤_, _<_}
+use Prim.Native.Nat.{ℕ, _+_, _/_, _%_, _≤_, _<_}
 use native.Mathlib.Omega.{arith}
 use borrow.Author.Tests.{eqb-true, eqb-false}
-use lib.Dec.{eqb, lit<}
+use lib.Dec.{eqb}
 use Rattle.lists.proofs.Choices.{of-test}
-use Rattle.layout.specs.Layout.{GMODE}
 use Rattle.layout.specs.Machine.{Machine, ticksOf, gfmAt}
 use Rattle.texts.specs.Texts.{runModeAt}
 use Rattle.texts.specs.declared.Text.the-variants.{Of1978}
-use Rattle.modes.specs.Modes.{wait, runningC, free, withRunMode}
+use Rattle.modes.specs.Modes.{wait, runningC, withRunMode}
 use Rattle.machine.proofs.SoundMachine.{sound-generator, sound-controls}
 use Rattle.generator.specs.declared.Generator.{Generator}
 use Rattle.generator.specs.Generator.{runMode, triggers, gmodeAfter, after}
 use Rattle.pass_model.specs.Generators.{generatorOf, turn1978, generatorsOf}
 use Rattle.pass_laws.specs.Good.{Good}
-use Rattle.pass_laws.proofs.PassCounts.{run-mode-loaded}
 use Rattle.order_agreement.specs.Agreement.{settingsOf}
-use Rattle.equal_endings.specs.Follows.{turnAt, sendsAt, triggersAt}
+use Rattle.equal_endings.specs.Follows.{turnAt, sendsAt}
 use Rattle.equal_witnesses.specs.Contents.{Contents}
 use Rattle.equal_contents.proofs.Content.{Content, last-content}
 use Rattle.equal_contents.proofs.Loaded.{f-is}
-use Rattle.equal_contents.proofs.Triggering.{choice-tells, triggering-content, same-mode, all-overflow}
+use Rattle.equal_contents.proofs.Triggering.{choice-tells, triggering-content, same-mode, all-trigger}
 use Rattle.equal_contents.proofs.Sounding.{sounding-content}
 use Rattle.equal_1978.proofs.Sounding.{silent-output, sounding-output}
 use Rattle.order_contents.specs.Contents.{triggeringContents, sendingContents, soundingContents, byPoint, contentsFor}
@@ -42,10 +40,6 @@ either-half x h =
 module _ (m : Machine) (good : Good Of1978 m) where
   few : ticksOf m ≤ 256
   few = sound-controls Of1978 m (good .is-sound) .tHigh
-
-  triggers-free : (g : ℕ) → g < 256 → free (runModeAt Of1978 m g) ≡ true → triggersAt (generatorsOf Of1978) (triggeringContents m) g ≡ true
-  unfolding turn1978 triggers
-  triggers-free g h f = rw (same-mode Of1978 m good g h, f) (all-overflow Of1978 m good g h)
 
   told-tells : (g : ℕ) → g < 256 → eqb (runModeAt Of1978 m g) wait ≡ true → (a b : Bool)
       → turnAt (generatorsOf Of1978) (triggeringContents m) g a .unit .gmode ≡ turnAt (generatorsOf Of1978) (triggeringContents m) g b .unit .gmode → a ≡ b
@@ -67,7 +61,7 @@ module _ (m : Machine) (good : Good Of1978 m) where
       record {
         triggering = triggeringContents m;
         triggering-like = triggering-content Of1978 m good;
-        triggers = λ g h. triggers-free g (omega (arith, few));
+        triggers = λ g h. all-trigger Of1978 m good g (omega (arith, few));
         tells = λ g h. told-tells g (omega (arith, few));
         sending = sendingContents Of1978 m;
         sending-like = sending-content;

@@ -9,17 +9,22 @@ use Rattle.layout.specs.Layout.{GP, GQ}
 use Rattle.layout.specs.Machine.{Machine}
 use Rattle.texts.specs.Texts.{runModeAt}
 use Rattle.texts.specs.declared.Text.{Text}
+use Rattle.modes.specs.Modes.{free}
 use Rattle.words.specs.Words.{signed, exactSum, outside}
 use Rattle.envelope.specs.Envelope.{overflows}
 use Rattle.machine.specs.Questions.{regions}
-use Rattle.pass_model.specs.Generators.{generatorOf}
-use Rattle.pass_model.proofs.Keeps.{runOf}
+use Rattle.sums.specs.Sums.{fAt, sumsOf}
+use Rattle.pass_model.specs.Generators.{generatorOf, generatorsOf}
+use Rattle.pass_model.proofs.Turns.{turn-parts}
+use Rattle.generator_turn.specs.GeneratorTurn.{runOf}
 use Rattle.pass_laws.specs.Good.{Good}
 use Rattle.pass_laws.proofs.PassCounts.{run-mode-loaded}
 use Rattle.order_contents.specs.Contents.{overflowing, inactiveModifiers, triggeringContents}
+use Rattle.equal_endings.specs.Follows.{triggersAt}
 use Rattle.equal_contents.proofs.Words.{columns-word}
 use Rattle.equal_contents.proofs.Content.{registerTest, Content, run-kept, inactive-content, register-content}
 use Rattle.equal_contents.proofs.Loaded.{is-loaded}
+use Rattle.equal_contents.proofs.Settings.{triggers-by}
 
 overflow : overflows 16777215 1 ≡ true
 unfolding overflows exactSum signed outside
@@ -42,7 +47,7 @@ module _ (text : Text) (m : Machine) (good : Good text m) where
   pub same-mode : (g : ℕ) → g < 256 → runOf text (generatorOf (triggeringContents m) g) ≡ runModeAt text m g
   same-mode g h = run-mode-loaded text (triggeringContents m) (triggering-content .good .is-sound) g h ∙ run-kept text triggering-content g h
 
-  pub all-overflow : (g : ℕ) → g < 256 → overflows (generatorOf (triggeringContents m) g .gq) (generatorOf (triggeringContents m) g .gp) ≡ true
+  all-overflow : (g : ℕ) → g < 256 → overflows (generatorOf (triggeringContents m) g .gq) (generatorOf (triggeringContents m) g .gp) ≡ true
   unfolding triggeringContents
   all-overflow g h =
       let loaded = is-loaded text (triggeringContents m) (triggering-content .good .is-sound) g h in
@@ -52,3 +57,9 @@ module _ (text : Text) (m : Machine) (good : Good text m) where
         loaded .gp ∙ columns-word overflowing (inactiveModifiers m) refl whole GP g (lit< tt) h,
       )
       overflow
+
+  -- A generator that can trigger does.
+  pub all-trigger : (g : ℕ) → g < 256 → free (runModeAt text m g) ≡ true → triggersAt (generatorsOf text) (triggeringContents m) g ≡ true
+  all-trigger g h f =
+      let n = triggeringContents m in
+      rw (triggersAt, turn-parts text n (sumsOf n) g false) (triggers-by text (generatorOf n g) (fAt (sumsOf n) (generatorOf n g .gfm)) ∙ rw (same-mode g h, f) (all-overflow g h))

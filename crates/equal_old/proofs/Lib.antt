@@ -1,4 +1,3 @@
 pub mod Signs
-pub mod Settings
 pub mod Sounding
 pub mod Telling

@@ -14,7 +14,7 @@ use Rattle.layout.specs.Layout.{GJ, GK}
 use Rattle.layout.specs.Machine.{Machine, ticksOf, gfmAt}
 use Rattle.texts.specs.Texts.{runModeAt}
 use Rattle.texts.specs.declared.Text.the-variants.{Old}
-use Rattle.modes.specs.Modes.{wait, free}
+use Rattle.modes.specs.Modes.{wait}
 use Rattle.old_modes.specs.OldModes.{oldRun, oldOscillator}
 use Rattle.old_modes.proofs.RunModes.{waits-in}
 use Rattle.machine.specs.Questions.{regions}
@@ -22,18 +22,17 @@ use Rattle.machine.proofs.SoundMachine.{sound-controls}
 use Rattle.sums.specs.Sums.{fAt, sumsOf}
 use Rattle.generator.specs.declared.Generator.{Generator}
 use Rattle.generator.specs.Generator.{jOf}
-use Rattle.old_generator.specs.OldGenerator.{switchedMode, eOf, withOldRun, oldGmodeAfter, oldAfter}
-use Rattle.old_generator.proofs.Switched.{triggers-switched}
+use Rattle.old_generator.specs.OldGenerator.{eOf, withOldRun, oldGmodeAfter, oldAfter}
 use Rattle.pass_model.specs.Generators.{generatorOf, turnOld, generatorsOf}
 use Rattle.pass_laws.specs.Good.{Good}
 use Rattle.order_agreement.specs.Agreement.{settingsOf}
 use Rattle.order_contents.specs.Contents.{withLast, triggeringContents, ownNumbers, sendingContents, soundingContents, byPoint, contentsFor}
-use Rattle.equal_endings.specs.Follows.{turnAt, sendsAt, triggersAt}
+use Rattle.equal_endings.specs.Follows.{turnAt, sendsAt}
 use Rattle.equal_witnesses.specs.Contents.{Contents}
 use Rattle.equal_contents.proofs.Words.{columns-word}
 use Rattle.equal_contents.proofs.Content.{registerTest, Content, register-content, last-content}
 use Rattle.equal_contents.proofs.Loaded.{is-loaded, f-is}
-use Rattle.equal_contents.proofs.Triggering.{choice-tells, triggering-content, same-mode, all-overflow}
+use Rattle.equal_contents.proofs.Triggering.{choice-tells, triggering-content, same-mode, all-trigger}
 use Rattle.equal_contents.proofs.Sounding.{sounding-content}
 use Rattle.equal_old.proofs.Sounding.{silent-output, sounding-output}
 
@@ -58,10 +57,6 @@ own-j g h =
 module _ (m : Machine) (good : Good Old m) where
   few : ticksOf m ≤ 256
   few = sound-controls Old m (good .is-sound) .tHigh
-
-  triggers-free : (g : ℕ) → g < 256 → free (runModeAt Old m g) ≡ true → triggersAt (generatorsOf Old) (triggeringContents m) g ≡ true
-  unfolding turnOld
-  triggers-free g h f = triggers-switched (generatorOf (triggeringContents m) g) ∙ rw (same-mode Old m good g h, f) (all-overflow Old m good g h)
 
   told-tells : (g : ℕ) → g < 256 → eqb (runModeAt Old m g) wait ≡ true → (a b : Bool)
       → turnAt (generatorsOf Old) (triggeringContents m) g a .unit .gmode ≡ turnAt (generatorsOf Old) (triggeringContents m) g b .unit .gmode → a ≡ b
@@ -97,7 +92,7 @@ module _ (m : Machine) (good : Good Old m) where
       record {
         triggering = triggeringContents m;
         triggering-like = triggering-content Old m good;
-        triggers = λ g h. triggers-free g (omega (arith, few));
+        triggers = λ g h. all-trigger Old m good g (omega (arith, few));
         tells = λ g h. told-tells g (omega (arith, few));
         sending = sendingContents Old m;
         sending-like = sending-content;

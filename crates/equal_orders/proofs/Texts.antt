@@ -16,13 +16,10 @@ use Rattle.pass_model.specs.Generators.{generatorsOf}
 use Rattle.pass_laws.specs.Good.{Good}
 use Rattle.order_agreement.specs.Agreement.{settingsOf}
 use Rattle.order_contents.specs.Contents.{byPoint, contentsFor}
-use Rattle.equal_endings.specs.Follows.{Follows}
 use Rattle.equal_witnesses.specs.Contents.{Contents}
 use Rattle.equal_contents.proofs.Content.{Content}
-use Rattle.equal_1978.proofs.Settings.{follows-1978}
 use Rattle.equal_1978.proofs.Telling.{contents-1978, contents-are as contents-are-1978}
 use Rattle.equal_old.proofs.Signs.{by-sign, feeds-in}
-use Rattle.equal_old.proofs.Settings.{follows-old}
 use Rattle.equal_old.proofs.Telling.{contents-old, contents-are as contents-are-old}
 use Rattle.equal_orders.specs.Equal.{gnAt, SameSending, SameSettings}
 
@@ -38,11 +35,6 @@ dac-same Old m n s g h e = s .sending g h (feeds-in (gmodeAt m g) (gnAt m g) e) 
 pub source-same : (text : Text) (m n : Machine) → SameSettings text m n → (g : ℕ) → g < 256 → sourceAt text m g ≡ sourceAt text n g
 source-same Of1978 m n s g h = s .inputs g h
 source-same Old m n s g h = refl
-
--- The generators of a good machine follow its settings.
-pub follows-own : (text : Text) (m : Machine) → Good text m → Follows (generatorsOf text) (settingsOf text m) m
-follows-own Of1978 m good = follows-1978 m good
-follows-own Old m good = follows-old m good
 
 -- A content has the settings of its machine.
 sending-kept : (text : Text) (m n : Machine) → Content text m n → (g : ℕ) → g < 256 → SameSending text m n g
