@@ -1,0 +1,82 @@
+-- The machines that a ringing without commands goes through, on a machine that isn't lingering, are those that passes by number leave.
+-- Assumes nothing.
+use mathlib.Core.Path.{_≡_, refl, sym, ap, subst, _∙_}
+use mathlib.Core.Bool.{Bool, true, false}
+use mathlib.Core.List.{List, []}
+use Prim.Native.Nat.{ℕ, zero, suc, _<_}
+use native.Mathlib.Nat.{not-suc-le-zero, le-of-suc-le-suc}
+use lib.Dec.{eqb}
+use lib.ListN.{length, getD, set, replicate}
+use lib.Seq.{set-getD}
+use Rattle.layout.specs.Layout.{lingeringAt}
+use Rattle.layout.specs.Machine.{Machine, Memory, ticksOf}
+use Rattle.texts.specs.declared.Text.{Text}
+use Rattle.texts.specs.declared.Text.the-variants.{Of1978, Old}
+use Rattle.order_lists.specs.Sequences.{byNumber}
+use Rattle.update.specs.Update.{outcome, mostCommands, stillLingering, takenBy, updateOf}
+use Rattle.pass_laws.specs.Good.{Good}
+use Rattle.pass_laws.specs.Passes.{rungBy}
+use Rattle.pass_laws.proofs.Passing.{good-passes}
+use Rattle.pass_laws.proofs.PassSound.{pass-sound}
+use Rattle.pass_laws.proofs.PassSettings.{pass-settings}
+use Rattle.bench_pass.specs.ByNumber.{benchCall, passed}
+use Rattle.bench_ringing.specs.Ringing.{updateAfter}
+use Rattle.bench_ringing.specs.Heard.{Heard, heard, heardAfter, heardRefused}
+use Rattle.bench_passes.specs.Passes.{nothing, rungByNumber}
+
+-- An update without commands leaves such a machine as it is.
+none-taken : (k : ℕ) (m : Machine) → takenBy k m [] ≡ outcome 0 m []
+unfolding takenBy
+none-taken zero m = refl
+none-taken (suc k) m = refl
+
+not-lingering : (m : Machine) → getD m lingeringAt 0 ≡ 0 → stillLingering m ≡ false
+unfolding stillLingering
+not-lingering m e = rw e refl
+
+pub no-commands : (text : Text) (m : Machine) → Good text m → getD m lingeringAt 0 ≡ 0 → updateAfter text m [] ≡ outcome 0 m []
+unfolding updateOf
+no-commands Of1978 m good e =
+    rw (good-passes Of1978 m good, not-lingering m e)
+    (none-taken (mostCommands m) (set m lingeringAt 0) ∙ ap (λ (w : Machine). outcome 0 w []) (ap (set m lingeringAt) (sym e) ∙ set-getD m lingeringAt 0))
+no-commands Old m good e = refl
+
+-- What is heard, by whether its first pass is refused.
+module _ (text : Text) (n : ℕ) (m : Machine) (memory : Memory) (good : Good text m) (quiet : getD m lingeringAt 0 ≡ 0) where
+  abbrev next : Machine
+  next = passed text m memory .machine
+
+  next-good : Good text next
+  next-good = pass-sound text m (benchCall m memory) good
+
+  next-quiet : getD next lingeringAt 0 ≡ 0
+  next-quiet = pass-settings text m (benchCall m memory) .lingering ∙ quiet
+
+  next-ticks : ticksOf next ≡ ticksOf m
+  next-ticks = pass-settings text m (benchCall m memory) .t
+
+  first-heard : eqb (passed text m memory .number) 0 ≡ true → heard text (suc n) m memory [] ≡ heardAfter next (heard text n next (passed text m memory .memory) [])
+  unfolding heard
+  first-heard e = rw (e, no-commands text next next-good next-quiet) refl
+
+  first-refused : eqb (passed text m memory .number) 0 ≡ false → heard text (suc n) m memory [] ≡ heardRefused (passed text m memory .number)
+  unfolding heard
+  first-refused e = rw e
+
+module _ (text : Text) where
+  pub heard-rung : (passes : ℕ) (m : Machine) (memory : Memory) → Good text m → getD m lingeringAt 0 ≡ 0 → (k : ℕ) → k < length (heard text passes m memory [] .machines)
+      → getD (heard text passes m memory [] .machines) k [] ≡ rungByNumber text (suc k) m memory .machine
+  unfolding heard rungBy
+  heard-rung zero m memory good quiet k h = absurd (not-suc-le-zero h)
+  heard-rung (suc n) m memory good quiet k h = go (eqb (passed text m memory .number) 0) refl k h
+    where
+      go : (b : Bool) → eqb (passed text m memory .number) 0 ≡ b → (k : ℕ) → k < length (heard text (suc n) m memory [] .machines)
+          → getD (heard text (suc n) m memory [] .machines) k [] ≡ rungByNumber text (suc k) m memory .machine
+      go false e k h = absurd (not-suc-le-zero (subst (λ (r : Heard). k < length (r .machines)) (first-refused text n m memory good quiet e) h))
+      go true e zero h = ap (λ (r : Heard). getD (r .machines) 0 []) (first-heard text n m memory good quiet e)
+      go true e (suc k) h =
+          let p = passed text m memory in
+          let l = subst (λ (r : Heard). suc k < length (r .machines)) (first-heard text n m memory good quiet e) h in
+          ap (λ (r : Heard). getD (r .machines) (suc k) []) (first-heard text n m memory good quiet e)
+          ∙ heard-rung n (p .machine) (p .memory) (next-good text n m memory good quiet) (next-quiet text n m memory good quiet) k (le-of-suc-le-suc l)
+          ∙ ap (λ (t : ℕ). rungBy text (byNumber t) (p .machine) (p .memory) (replicate (suc k) nothing) .machine) (next-ticks text n m memory good quiet)
