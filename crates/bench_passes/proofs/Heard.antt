@@ -63,20 +63,25 @@ module _ (text : Text) (n : ℕ) (m : Machine) (memory : Memory) (good : Good te
   unfolding heard
   first-refused e = rw e
 
-module _ (text : Text) where
-  pub heard-rung : (passes : ℕ) (m : Machine) (memory : Memory) → Good text m → getD m lingeringAt 0 ≡ 0 → (k : ℕ) → k < length (heard text passes m memory [] .machines)
-      → getD (heard text passes m memory [] .machines) k [] ≡ rungByNumber text (suc k) m memory .machine
-  unfolding heard rungBy
-  heard-rung zero m memory good quiet k h = absurd (not-suc-le-zero h)
-  heard-rung (suc n) m memory good quiet k h = go (eqb (passed text m memory .number) 0) refl k h
-    where
-      go : (b : Bool) → eqb (passed text m memory .number) 0 ≡ b → (k : ℕ) → k < length (heard text (suc n) m memory [] .machines)
-          → getD (heard text (suc n) m memory [] .machines) k [] ≡ rungByNumber text (suc k) m memory .machine
-      go false e k h = absurd (not-suc-le-zero (subst (λ (r : Heard). k < length (r .machines)) (first-refused text n m memory good quiet e) h))
-      go true e zero h = ap (λ (r : Heard). getD (r .machines) 0 []) (first-heard text n m memory good quiet e)
-      go true e (suc k) h =
-          let p = passed text m memory in
-          let l = subst (λ (r : Heard). suc k < length (r .machines)) (first-heard text n m memory good quiet e) h in
-          ap (λ (r : Heard). getD (r .machines) (suc k) []) (first-heard text n m memory good quiet e)
-          ∙ heard-rung n (p .machine) (p .memory) (next-good text n m memory good quiet) (next-quiet text n m memory good quiet) k (le-of-suc-le-suc l)
-          ∙ ap (λ (t : ℕ). rungBy text (byNumber t) (p .machine) (p .memory) (replicate (suc k) nothing) .machine) (next-ticks text n m memory good quiet)
+  -- Machine k, by what is heard from the next machine on.
+  from-next : ((k : ℕ) → k < length (heard text n next (passed text m memory .memory) [] .machines)
+      → getD (heard text n next (passed text m memory .memory) [] .machines) k [] ≡ rungByNumber text (suc k) next (passed text m memory .memory) .machine)
+      → (b : Bool) → eqb (passed text m memory .number) 0 ≡ b → (k : ℕ) → k < length (heard text (suc n) m memory [] .machines)
+      → getD (heard text (suc n) m memory [] .machines) k [] ≡ rungByNumber text (suc k) m memory .machine
+  unfolding rungBy
+  from-next later false e k h = absurd (not-suc-le-zero (subst (λ (r : Heard). k < length (r .machines)) (first-refused e) h))
+  from-next later true e zero h = ap (λ (r : Heard). getD (r .machines) 0 []) (first-heard e)
+  from-next later true e (suc k) h =
+      ap (λ (r : Heard). getD (r .machines) (suc k) []) (first-heard e)
+      ∙ later k (le-of-suc-le-suc (subst (λ (r : Heard). suc k < length (r .machines)) (first-heard e) h))
+      ∙ ap (λ (t : ℕ). rungBy text (byNumber t) next (passed text m memory .memory) (replicate (suc k) nothing) .machine) next-ticks
+
+pub heard-rung : (text : Text) (passes : ℕ) (m : Machine) (memory : Memory) → Good text m → getD m lingeringAt 0 ≡ 0 → (k : ℕ) → k < length (heard text passes m memory [] .machines)
+    → getD (heard text passes m memory [] .machines) k [] ≡ rungByNumber text (suc k) m memory .machine
+unfolding heard
+heard-rung text zero m memory good quiet k h = absurd (not-suc-le-zero h)
+heard-rung text (suc n) m memory good quiet k h =
+    let p = passed text m memory in
+    from-next text n m memory good quiet
+    (heard-rung text n (p .machine) (p .memory) (next-good text n m memory good quiet) (next-quiet text n m memory good quiet))
+    (eqb (p .number) 0) refl k h
