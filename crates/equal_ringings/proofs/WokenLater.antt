@@ -3,13 +3,13 @@
 use mathlib.Core.Path.{_≡_, refl, sym, ap, _∙_}
 use mathlib.Core.Bool.{true}
 use mathlib.Core.List.{[], _∷_}
-use Prim.Native.Nat.{ℕ, zero, suc, _+_, _^_, _≤_, _<_}
+use Prim.Native.Nat.{ℕ, zero, suc, _^_, _<_}
 use native.Mathlib.Omega.{arith}
 use lib.Dec.{lit≤, lit<}
-use lib.ListN.{length, getD, set, length-set}
+use lib.ListN.{getD, set, length-set}
 use Rattle.lists.specs.Lists.{zeros, count, countBelow, isOneOf}
 use Rattle.words.specs.Words.{lowBits, signed, sum, sumInto, exactSum, outside}
-use Rattle.layout.specs.Layout.{tAt, counterAt, quadrantAt, memoryWords}
+use Rattle.layout.specs.Layout.{tAt, counterAt, memoryWords}
 use Rattle.layout.specs.Machine.{Machine, Order, Memory, ticksOf, withUpdateTicks}
 use Rattle.texts.specs.declared.Text.the-variants.{Of1978}
 use Rattle.layout.proofs.UpdateTicks.{counted-length}
@@ -19,7 +19,7 @@ use Rattle.oscillator.specs.Oscillator.{waveOf, square}
 use Rattle.envelope.specs.Envelope.{overflows, decayed, qOf, level, rounded, enveloped}
 use Rattle.generator.specs.Generator.{loaded, stored, jOf, gjAfter, kOf, gkAfter, wOf, gqAfter, vOf, pOf, triggers, gmodeAfter, after}
 use Rattle.machine.specs.Questions.{freshMachine, regions, testAt}
-use Rattle.machine.proofs.SoundMachine.{reaches, single-below, single-above, sound-set, sound-with-ticks}
+use Rattle.machine.proofs.SoundMachine.{reaches, single-below, sound-set, sound-with-ticks}
 use Rattle.machine.proofs.FreshMachine.{fresh-length, fresh-sound}
 use Rattle.delay_questions.specs.Questions.{memoryGood, goodLine, linesGood, namedOnce, question11, question12}
 use Rattle.order.specs.Order.{eachOnce, inMode}
@@ -30,10 +30,10 @@ use Rattle.pass_model.specs.Modifiers.{modifiedBy, modified, modify, modifierOf
 use Rattle.modifier.specs.Modifier.{loaded as modifierLoaded, stored as modifierStored}
 use Rattle.modifier_turn.specs.Turn.{turnOf, readsLate}
 use Rattle.modifier_mixers.specs.Mixers.{inactive}
-use Rattle.pass_model.specs.Pass.{Call, Outcome, passRefusal, passOf, ran, finished, generatorsTaken, completed, counted}
+use Rattle.pass_model.specs.Pass.{Outcome, passRefusal, passOf, ran, finished, generatorsTaken, completed, counted}
 use Rattle.pass_model.proofs.Asked.{past-memory}
 use Rattle.pass_laws.specs.Good.{Good}
-use Rattle.pass_laws.proofs.Passing.{good-passes, let-through, generatorsDone, ran-machine}
+use Rattle.pass_laws.proofs.Passing.{good-passes, let-through}
 use Rattle.pass_laws.proofs.PassSound.{pass-sound}
 use Rattle.pass_laws.proofs.PassDelays.{pass-memory}
 use Rattle.order_lists.specs.Sequences.{keep, some, lastOf, placeOf, before, firstFailing}

@@ -1,16 +1,15 @@
 -- A pass leaves the GMODE of every generator from T on as it was: none of them is taken.
 -- Assumes nothing.
-use mathlib.Core.Path.{_≡_, refl, sym, _∙_}
-use mathlib.Core.Bool.{Bool, true, false, cond}
+use mathlib.Core.Path.{_≡_, refl, _∙_}
 use mathlib.Core.List.{List, [], _∷_}
-use Prim.Native.Nat.{ℕ, zero, suc, _+_, _/_, _≤_, _<_}
+use Prim.Native.Nat.{ℕ, suc, _+_, _≤_, _<_}
 use native.Mathlib.Omega.{arith}
 use lib.Dec.{lit<}
 use lib.ListN.{length, getD}
 use Rattle.lists.specs.Lists.{count}
 use Rattle.lists.proofs.Counts.{count-next}
-use Rattle.layout.specs.Layout.{generatorAt, counterAt, GMODE}
-use Rattle.layout.specs.Machine.{Machine, Order, ticksOf, gmodeAt}
+use Rattle.layout.specs.Layout.{generatorAt, GMODE}
+use Rattle.layout.specs.Machine.{Machine, ticksOf, gmodeAt}
 use Rattle.machine.proofs.SoundMachine.{reaches}
 use Rattle.sums.specs.Sums.{sumsOf}
 use Rattle.sums.proofs.Blocks.{outside-before}
@@ -21,7 +20,7 @@ use Rattle.pass_model.specs.Pass.{Call, Outcome, ran, passRefusal, passOf}
 use Rattle.pass_model.proofs.Delays.{off-below}
 use Rattle.pass_laws.proofs.Completing.{completed-word}
 use Rattle.pass_laws.proofs.Frames.{steps-quadrants, steps-untaken}
-use Rattle.pass_laws.proofs.Passing.{Admitted, generatorsDone, heldThen, begun-words, begun-sums, admitted, pass-by, refused-machine, ran-machine}
+use Rattle.pass_laws.proofs.Passing.{generatorsDone, heldThen, begun-words, begun-sums, admitted, pass-by, refused-machine, ran-machine}
 
 -- A number that no entry of a list is stands in it not once.
 absent : (k : ℕ) (xs : List ℕ) → ((i : ℕ) → i < length xs → getD xs i 0 < k) → count k xs ≡ 0
