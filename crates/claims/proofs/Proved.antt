@@ -38,6 +38,9 @@ use Rattle.equal_parts.proofs.Parts.{parts-says, none-shown, contents-part}
 use Rattle.equal_parts.proofs.Shown.{found-differs}
 use Rattle.chain.proofs.Claimed.{chain-numbers, chain-least, chain-none, chain-names}
 use Rattle.chain_views.proofs.Seen.{chain-sees}
+use Rattle.equal_ringings.proofs.Throughout.{whole-ringings, compare-throughout}
+use Rattle.equal_ringings.proofs.WokenLater.{woken-agree, throughout-apart}
+use Rattle.bench_passes.proofs.Heard.{heard-rung}
 use Rattle.order_pitch.proofs.Sorted.{by-pitch-sorted, by-pitch-passes, sorted-is-by-pitch}
 use Rattle.wave_format.proofs.Samples.{sample-exact}
 use Rattle.bench_ringing.proofs.Printing.{printed-heard}
@@ -65,6 +68,10 @@ claims =
       none-shown = none-shown;
       contents-part = contents-part;
       found-differs = found-differs;
+      whole-ringings = whole-ringings;
+      compare-throughout = compare-throughout;
+      throughout-apart = (woken-agree, throughout-apart);
+      heard-rung = heard-rung;
       sorted-by-pitch = by-pitch-sorted;
       sorted-alone = sorted-is-by-pitch;
       sorted-passes = by-pitch-passes;

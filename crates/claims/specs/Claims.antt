@@ -1,6 +1,6 @@
 -- Every claim that the demands, document 01 and the requests of document 02 make beyond the contracts of the calls. One value of this record, `claims` in proofs/Proved.antt, is the proof of all.
 -- Assumes nothing.
-use Prim.Native.Nat.{ℕ, _+_, _*_, _%_, _^_, _≤_, _<_}
+use Prim.Native.Nat.{ℕ, suc, _+_, _*_, _%_, _^_, _≤_, _<_}
 use mathlib.Core.Bool.{true, false}
 use mathlib.Core.List.{List, [], _∷_}
 use mathlib.Core.Logic.{_↔_, _≢_}
@@ -8,7 +8,7 @@ use mathlib.Core.Path.{_≡_}
 use lib.IntN.{pos, _*ℤ_}
 use lib.ListN.{length, getD, set}
 use Rattle.words.specs.Words.{signed}
-use Rattle.layout.specs.Layout.{counterAt, dxAt, quadrantWords, generators, machineLength, updateTicksAt}
+use Rattle.layout.specs.Layout.{counterAt, dxAt, lingeringAt, quadrantWords, generators, machineLength, updateTicksAt}
 use Rattle.layout.specs.Machine.{Machine, Order, Items, Commands, Memory, ticksOf, updateTicks, updateTicksOf, lowCounter}
 use Rattle.layout.specs.Widths.{counterBits, lingerBits}
 use Rattle.texts.specs.declared.Text.{Text}
@@ -56,6 +56,8 @@ use Rattle.chain_numbers.specs.Earliest.{modifiers}
 use Rattle.chain_numbers.specs.Numberings.{Numbering, PassesLast}
 use Rattle.chain.specs.Chain.{chainOf}
 use Rattle.chain_views.specs.Sees.{Sees}
+use Rattle.equal_ringings.specs.Ringings.{NoneWaits, EqualThroughout}
+use Rattle.equal_ringings.specs.WokenLater.{wokenLater, wokenFirst, wokenLast}
 use Rattle.bench_text.specs.Text.{lineBytes, decimal}
 use Rattle.bench_numbers.specs.Numbers.{decimalIn}
 use Rattle.bench_numbers.specs.declared.Number.the-variants.{Is}
@@ -64,6 +66,7 @@ use Rattle.bench_ringing.specs.Ringing.{updateAfter, printed, outputOf}
 use Rattle.bench_ringing.specs.Heard.{heard, linesHeard}
 use Rattle.bench_ringing.specs.Steps.{rungFrom}
 use Rattle.bench_gathering.specs.Gathering.{printedFrom}
+use Rattle.bench_passes.specs.Passes.{rungByNumber}
 
 pub record Claims : Type 0 where
   -- Demand 3: on a machine that passes questions 1 and 2, two orders that pass 5 and 6 are equal exactly when they agree on the four points.
@@ -95,6 +98,16 @@ pub record Claims : Type 0 where
       → Differ (passBy text (partsOf text m o₁ o₂ contents items .contents) (partsOf text m o₁ o₂ contents items .items) o₁)
       (passBy text (partsOf text m o₁ o₂ contents items .contents) (partsOf text m o₁ o₂ contents items .items) o₂)
       (differenceShown text (partsOf text m o₁ o₂ contents items .contents) (partsOf text m o₁ o₂ contents items .items) o₁ o₂)
+  -- Passes one after the other: on a machine that passes questions 1 and 2, with no generator below T in 1001 or 1101, two orders that pass 5 and 6, each used throughout,
+  -- leave the same machine, delay memory and written data after every list of passes exactly when they agree on the four points; a compare's yes says so.
+  pub whole-ringings : (text : Text) (m : Machine) → Good text m → NoneWaits text m → (o₁ o₂ : Order) → Passes m o₁ → Passes m o₂ → EqualThroughout text m o₁ o₂ ↔ Agree text m o₁ o₂
+  pub compare-throughout : (text : Text) (m : Machine) (o₁ o₂ : Order) → compareOf text m o₁ o₂ .number ≡ 0 → NoneWaits text m
+      → (compareOf text m o₁ o₂ .equal ≡ true) ↔ EqualThroughout text m o₁ o₂
+  -- With a generator in 1001 that need not be: on a shown machine two orders agree and part in the second pass.
+  pub throughout-apart : Agree Of1978 wokenLater wokenFirst wokenLast × (EqualThroughout Of1978 wokenLater wokenFirst wokenLast → ⊥)
+  -- The machines that the bench program goes through without commands, from one that isn't lingering, are those that passes by number leave.
+  pub heard-rung : (text : Text) (passes : ℕ) (m : Machine) (memory : Memory) → Good text m → getD m lingeringAt 0 ≡ 0 → (k : ℕ) → k < length (heard text passes m memory [] .machines)
+      → getD (heard text passes m memory [] .machines) k [] ≡ rungByNumber text (suc k) m memory .machine
   -- The order by pitch is sorted by pitch, no other order is, and it passes 5 and 6.
   pub sorted-by-pitch : (m : Machine) → SortedByPitch m (byPitch m)
   pub sorted-alone : (m : Machine) (order : Order) → SortedByPitch m order → order ≡ byPitch m
