@@ -145,7 +145,7 @@ def words_of(command, before, after, waits, names, rate):
     if code == TICKS:
         said.append(f"{update_ticks(after[layout.T], after[layout.N])} commands fit in a pass then")
     if before[layout.DX] and not after[layout.DX] and code != MISC:
-        said.append(f"its low bits from DX, which is 0 then")
+        said.append("its low bits from DX, which is 0 then")
     return "; ".join(said) or "sets nothing"
 
 
@@ -168,8 +168,8 @@ def wait_over(machine, after, passes):
     return min(after + left, passes + 1)
 
 
-def course(bench_file):
-    """How the commands are taken, pass by pass."""
+def course(bench_file, passes):
+    """How the commands are taken in so many passes."""
     machine, left = list(bench_file.machine), list(bench_file.commands)
     settings, taken, after, seconds, t_most = Settings(bench_file.machine), [], 0, 0.0, bench_file.t
     refused = None
@@ -177,11 +177,11 @@ def course(bench_file):
         step = 1
         machine[layout.COUNTER] = (machine[layout.COUNTER] + 1) % 2 ** 32
         if machine[layout.LINGERING] and still_lingering(machine):
-            step = wait_over(machine, after + 1, bench_file.passes) - after
+            step = wait_over(machine, after + 1, passes) - after
             machine[layout.COUNTER] = (machine[layout.COUNTER] + step - 1) % 2 ** 32
         after, seconds = after + step, seconds + step * machine[layout.N] * TICK
         ticks = update_ticks(machine[layout.T], machine[layout.N])
-        if after > bench_file.passes or not ticks and not machine[layout.LINGERING]:
+        if after > passes or not ticks and not machine[layout.LINGERING]:
             break
         machine[layout.LINGERING] = 0
         for line, command in left[:ticks]:

@@ -14,13 +14,13 @@ import tempfile
 import bench_files
 import compared
 import questions
+from as_rung import rung_lines
 from building import built
 from command_line import Ending, Parser, Status, read_file, say, start, tell
 from command_words import TICKS, code_of, course, names_generator
 from outputs import destination, made_here, same_file, set_aside, write_whole
 from partials import beside, report_beside, unlike
 from reference import layout
-from shown import rung_lines
 from suspects import those
 from wiring import MOVING, TRIGGERING, Wiring
 
@@ -260,7 +260,7 @@ def main(arguments):
     file = bench_files.read(asked.file, data)
     bench_files.name_partials(file)
     new_of, parted = wanted(file, data, asked)
-    wiring = Wiring(file, course(file))
+    wiring = Wiring(file, course(file, file.passes))
     causes = [*neighbours(wiring, new_of), *across_t(wiring, new_of)]
     if causes:
         raise Ending("\n".join([f"{asked.file} can't be renumbered so, and nothing is written:", *(f"  {cause}" for cause in causes)]))

@@ -13,8 +13,10 @@ import statistics
 from typing import NamedTuple
 
 import bench_files
-from command_line import Ending, Parser, Status, say, start
-from command_words import TIMER, code_of, course
+import questions
+from as_rung import as_rung
+from command_line import Ending, Parser, Status, read_file, say, start
+from command_words import TIMER, code_of
 from partials import CENTS, DECAY, LEVEL, peak_of, report_beside, set_registers
 from reference import layout
 from reference.words import signed
@@ -210,9 +212,13 @@ def answer(table, path):
         rows = read_table(table)
     except Ending as ending:
         raise ending if ending.status == Status.UNREAD else Ending(f"{table}: {ending}", ending.status) from None
-    file = bench_files.read(path)
+    data = read_file(path, questions.FILE_MOST + 1)
+    file = bench_files.read(path, data)
     bench_files.not_of_1978(file, "same")
-    wiring = Wiring(file, course(file))
+    rung = as_rung("same", file, data)
+    if rung.refused or not rung.known:
+        raise Ending(f"{path} isn't rung whole: refused with {rung.refused} in pass {len(rung.lines) + 1}: {bench_files.question(rung.refused)}" if rung.known else f"{path}: the program ring here doesn't know files with a text= line")
+    wiring = Wiring(file, rung.course)
     found, odd = voices(wiring)
     report, reported_gain = bench_files.report_rows(report_beside(path)) if path != "-" else ([], None)
     gain = gain_of(found, rows, file.rate, reported_gain)

@@ -9,27 +9,23 @@ DAC 0 and DAC 1 are, come from it.
 
 import os
 import re
-import subprocess
 
 import bench_files
 import questions
-from building import built
+from as_rung import as_rung
 from command_line import Ending, Parser, Status, read_file, say, start, tell
-from command_words import DELAY_MODES, TICKS, address, code_of, course
+from command_words import DELAY_MODES, TICKS, address, code_of
 from marks import Differs, first_marks, may_clip
 from outputs import destination, set_aside, write_whole
-from partials import TICK
 from reference import any_order, layout
 from reference.delay import acts_inactive, unit_words, units_in_time
 from reference.machine import update_ticks
 from reference.words import signed
 from registers import (ENVELOPE_RANGE, OF_J, RUN_WORDS, decibels, envelope, envelope_code, envelope_of, formula, function_of, is_decay, note_of, plain, run_code, seconds, t60, time_words, wave_code,
                        wave_level, wave_of)
-from rung import said_by
-from suspects import named_units, seen, span, suspects, those, writers
+from suspects import named_units, seen, suspects, those, writers
 from wiring import EARLY, LAST, LATE, MOVING, SENDERS, TRIGGERING, Wiring, modifier_reads, modulation_word, sum_word, takes_f
 
-REFUSED = re.compile(rb"refused=(\d+)\n")
 LINE = re.compile(rb"pass=\d+ left=(-?\d+) right=(-?\d+)\n")
 FULL_SCALE = 2 ** 19
 SLOW = 20000  # passes that the reference rings in some seconds
@@ -250,14 +246,11 @@ def dacs(wiring, lines):
         yield text
 
 
-def commands(wiring, rung):
+def commands(wiring):
     """Each command: after which pass it is taken, and what it sets."""
     for taken in wiring.course.taken:
         head = f"line {taken.line} ({taken.command:08X})"
-        if not taken.after or rung is not None and taken.after > rung + 1:
-            yield f"{head}: never taken"
-        else:
-            yield f"{head}, after pass {taken.after} ({taken.at:.6f} s): {taken.words}"
+        yield f"{head}, after pass {taken.after} ({taken.at:.6f} s): {taken.words}" if taken.after else f"{head}: never taken"
     if wiring.course.refused:
         line, number, after = wiring.course.refused
         yield f"line {line}: refused with {number} after pass {after}: {bench_files.question(number)} The ringing ends there."
@@ -315,20 +308,6 @@ def is_setting(place):
 
 # Rung once
 
-def rung_lines(program, data):
-    """The lines that the program prints, and its refusal or 0."""
-    try:
-        done = subprocess.run([program], input=data, stdout=subprocess.PIPE, stderr=subprocess.PIPE)
-    except OSError as error:
-        raise Ending(f"cannot run {program}: {error.strerror}", Status.MISSING) from None
-    told = done.stderr.decode(errors="replace").strip()
-    if done.returncode or told:
-        raise said_by("ring", told)
-    lines = done.stdout.splitlines(keepends=True)
-    refused = REFUSED.fullmatch(lines[-1]) if lines else None
-    return (lines[:-1], int(refused[1])) if refused else (lines, 0)
-
-
 def clipped(wiring, lines):
     """Words that leave their range, by the marks of the passes."""
     candidates = may_clip(wiring)
@@ -368,22 +347,21 @@ def section(title, lines):
     return ["", title, *lines] if lines else []
 
 
-def described(file, data, program):
-    """All lines, and the status."""
+def described(file, data):
+    """The wiring, all lines, and the status."""
     bench_files.name_partials(file)
-    wiring = Wiring(file, course(file))
-    lines, refused = rung_lines(program, data)
-    unknown = refused == 9  # what is read here is a bench file: the program knows no text= line
-    wrong, quiet = clipped(wiring, lines)
-    looks = [*([refusal_words(refused, len(lines))] if refused and not unknown else []), *file.doubts, *suspects(wiring), *wrong]
+    rung = as_rung("show", file, data)
+    wiring = Wiring(file, rung.course)
+    wrong, quiet = clipped(wiring, rung.lines)
+    looks = [*([refusal_words(rung.refused, len(rung.lines))] if rung.refused else []), *file.doubts, *suspects(wiring), *wrong]
     said = [*head(file, wiring), *section("generators", generators(wiring)), *section("modifiers", modifiers(wiring)), *section("delay units", delay_units(wiring)),
-            *section("sum words", sum_words(wiring)), *section("DACs", dacs(wiring, lines)), *section("commands", commands(wiring, None if unknown else len(lines))), *section("orders", orders(wiring)), ""]
-    if unknown:
+            *section("sum words", sum_words(wiring)), *section("DACs", dacs(wiring, rung.lines)), *section("commands", commands(wiring)), *section("orders", orders(wiring)), ""]
+    if not rung.known:
         said.append("not rung: the program ring here doesn't know files with a text= line")
     elif not wrong:
         said.append(quiet)
     said += [f"! {sentence}" for sentence in looks] or ["nothing looks wrong"]
-    return wiring, said, Status.REFUSED if refused and not unknown else Status.UNLIKE if looks else Status.DONE
+    return wiring, said, Status.REFUSED if rung.refused else Status.UNLIKE if looks else Status.DONE
 
 
 def parser():
@@ -403,8 +381,7 @@ def main(arguments):
     data = read_file(asked.file, questions.FILE_MOST + 1)
     try:
         file = bench_files.read(asked.file, data)
-        program, = built("show", "ring")
-        wiring, said, status = described(file, data, program)
+        wiring, said, status = described(file, data)
         if asked.graph:
             write_graph(asked, wiring)
     except BaseException:

@@ -3,7 +3,6 @@
 from partials import TICK
 from reference import layout
 from reference.delay import acts_inactive, unit_words, units_in_time
-from reference.words import signed
 from registers import function_of, is_taken
 from wiring import EARLY, LAST, SENDERS, modifier_reads, modulation_word, sum_word, takes_f
 
@@ -38,17 +37,23 @@ def writers(units, names=None):
 
 # Sum words that are read and never written
 
+def set_by_file(wiring, word):
+    """Whether the file itself sets a sum word, for the first pass."""
+    this, last = (layout.GENERATOR_THIS, layout.GENERATOR_LAST) if word[0] == "g" else (layout.MODIFIER_THIS, layout.MODIFIER_LAST)
+    return bool(wiring.file.machine[this + word[1]] or wiring.file.machine[last + word[1]])
+
+
 def unwritten(wiring):
     """DACs, written data and modifiers that take a word that nothing ever writes."""
     file = wiring.file
     for g in range(wiring.t):
         words = file.generator(g)
         word = modulation_word(words[layout.GFM])
-        if file.run_mode(g) in SENDERS and takes_f(wiring.text, words) and word not in wiring.possible:
+        if file.run_mode(g) in SENDERS and takes_f(wiring.text, words) and word not in wiring.possible and not set_by_file(wiring, word):
             yield f"{file.called(g)} sends {sum_word(word)}, and nothing ever writes that"
     for m in wiring.active_modifiers():
         for read in modifier_reads(wiring.text, m, file.modifier(m)):
-            if read.word not in wiring.possible and is_taken(wiring.text, file.modifier(m), read.by):
+            if read.word not in wiring.possible and not set_by_file(wiring, read.word) and is_taken(wiring.text, file.modifier(m), read.by):
                 yield f"modifier {m} ({function_of(wiring.text, file.modifier(m)[layout.MMODE]).name}) reads {sum_word(read.word)} as {read.by}, and nothing ever writes that"
 
 
