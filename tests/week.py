@@ -9,6 +9,7 @@ import contextlib
 import os
 import random
 import re
+import resource
 import shutil
 import subprocess
 import sys
@@ -518,23 +519,28 @@ def pages(folder, sizes):
     return len(runs)
 
 
+def worked():
+    """Seconds of a processor, of the programs that are called too."""
+    return time.process_time() + sum(resource.getrusage(resource.RUSAGE_CHILDREN)[:2])
+
+
 GROUPS = (shown_at_random, clipping, examples, looks_wrong, same, renumber, by_name, calls, pages)
 
 
 def main(arguments):
     sizes = FULL if "--full" in arguments else GATE
     asked = [name for name in arguments if name != "--full"]
-    tried, began = 0, time.process_time()
+    tried, began = 0, worked()
     with built_already():
         for group in GROUPS:
             if asked and group.__name__ not in asked:
                 continue
-            start = time.monotonic()
+            start = worked()
             with tempfile.TemporaryDirectory() as folder:
                 count = group(folder, sizes)
             tried += count
-            print(f"{group.__name__}: {count} cases, {time.monotonic() - start:.1f} s")
-    print(f"week: {tried} cases of show, same and renumber, {time.process_time() - began:.1f} s")
+            print(f"{group.__name__}: {count} cases, {worked() - start:.1f} s")
+    print(f"week: {tried} cases of show, same and renumber, {worked() - began:.1f} s")
 
 
 if __name__ == "__main__":
