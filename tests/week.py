@@ -17,7 +17,7 @@ import tempfile
 import time
 import xml.etree.ElementTree as ElementTree
 from collections import Counter
-from itertools import combinations
+from itertools import combinations, product
 from pathlib import Path
 
 from calls import ROOT, Status, call, ends, names, refused, run
@@ -30,12 +30,12 @@ import sameness
 import shown
 import shown_numbers
 from command_line import Ending
-from reference import layout
+from reference import any_order, layout
 from reference.ring import ring
 from texts import OLD_TEXT, Chance
 
 SEED = 1978
-GATE, FULL = {"new": 90, "old": 40, "bells": 60}, {"new": 1500, "old": 500, "bells": 500}
+GATE, FULL = {"new": 90, "old": 40, "bells": 60, "orders": 300}, {"new": 1500, "old": 500, "bells": 500, "orders": 3000}
 EXAMPLES = sorted((ROOT / "examples").glob("*.txt"))
 BELL, TABLE, REPORT = (ROOT / "examples" / f"bell.{ending}" for ending in ("txt", "csv", "report"))
 OLD_LINE = b"text=old\n"
@@ -224,6 +224,36 @@ def looks_wrong(folder, sizes):
     done = call("show", shown, path)
     assert f"! {path.with_suffix('.report')} says that generator 2 is tierce, 526.399 Hz: here it is " in done.out and "! generator 4 (nominal) adds into sum word 7, which reaches neither DAC 0 nor DAC 1" in done.out, done.out
     return len(WRONG) + 4
+
+
+def any_orders(folder, sizes):
+    """What show says of all orders, of small machines: yes where every two agree, and without a limit where that stays so in every mode that triggers leave."""
+    draw, path, met = random.Random(SEED), Path(folder, "orders.txt"), Counter()
+    modes = (0b0010, 0b0011, 0b0111, 0b1001, 0b1101, 0b1110, 0b1111)
+    moving = (0b1001, 0b1101)
+    for _ in range(sizes["orders"]):
+        few, words = draw.sample(modes, 3), {layout.T: draw.randint(2, 4)}
+        for g in range(words[layout.T]):
+            at = layout.generator_at(g)
+            words.update({at + layout.GSUM: draw.randrange(2), at + layout.GFM: draw.choice((0, 1, 64)), at + layout.GO: draw.randrange(3), at + layout.GMODE: draw.choice(few) << 6})
+        path.write_text("passes=1\n" + "".join(f"word={place}:{value}\n" for place, value in words.items()))
+        said = shown_numbers.sections(call("show", shown, path).out)["orders"]
+        machine = bench_files.read(str(path)).machine
+        movable = [layout.generator_at(g) + layout.GMODE for g in range(words[layout.T]) if words[layout.generator_at(g) + layout.GMODE] >> 6 in moving]
+        agree = any_order.every_two_orders_agree(machine)
+        always = agree
+        for others in product(moving, repeat=len(movable)) if agree else ():
+            for place, mode in zip(movable, others):
+                machine[place] = mode << 6
+            always = always and any_order.every_two_orders_agree(machine)
+        expected = "not every order" if not agree else "any order of the generators rings alike" if always else "any order of the generators rings alike, as the file begins"
+        assert said[0] == expected or not agree and said[0].startswith(expected), (expected, said, words)
+        met[expected] += 1
+        if not agree:
+            named = {int(g) for g in re.findall(r"\d+", re.sub(r"(DAC|sum word) \d+", "", said[0]))}
+            assert named and named <= set(range(words[layout.T])), said
+    assert len(met) == 3 and min(met.values()) >= 10, met
+    return sizes["orders"]
 
 
 # same
@@ -524,7 +554,7 @@ def worked():
     return time.process_time() + sum(resource.getrusage(resource.RUSAGE_CHILDREN)[:2])
 
 
-GROUPS = (shown_at_random, clipping, examples, looks_wrong, same, renumber, by_name, calls, pages)
+GROUPS = (shown_at_random, clipping, examples, looks_wrong, any_orders, same, renumber, by_name, calls, pages)
 
 
 def main(arguments):

@@ -5,6 +5,7 @@ A text= line says which text a file follows; without one it is that of 1978. The
 and built codes are the reference's.
 """
 
+import math
 import os
 from typing import NamedTuple
 
@@ -75,6 +76,8 @@ class BenchFile:
 
     def run_mode(self, g):
         return run_mode(self.text, self.machine[layout.generator_at(g) + layout.GMODE])
+
+    mode = run_mode  # as compare calls it
 
     def hz(self, g):
         """A generator's frequency, negative where it turns backwards."""
@@ -224,7 +227,6 @@ def name_by_table(bench_file, path):
 
 def cents(hz, other):
     """How many cents a frequency is above another."""
-    import math
     return 1200 * math.log2(hz / other)
 
 

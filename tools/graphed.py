@@ -14,6 +14,9 @@ from wiring import LAST, SENDERS, MOVING, TRIGGERING, modifier_reads, modulation
 TITLE = "karvelorn"
 COLOURS = {"generator": "#dce9f7", "sender": "#e8e8e8", "word": "#ffffff", "modifier": "#fbe7cf", "unit": "#dff2df", "dac": "#f7dcdc"}
 
+# A graph of more nodes is laid out with straight arrows and less search: 2 s rather than 98 s for 376 nodes and 570 arrows.
+LARGE, QUICK = 150, ("-Gnslimit=1", "-Gnslimit1=1", "-Gmclimit=0.2", "-Gsplines=line")
+
 
 def quoted(text):
     """A text as graphviz takes it."""
@@ -99,7 +102,8 @@ def picture(wiring):
     program = shutil.which("dot")
     if not program:
         raise Ending("no graph was drawn: graphviz is needed for it: apt install graphviz", Status.MISSING)
-    done = subprocess.run([program, "-Tsvg"], input=dot_text(wiring).encode("utf-8", "backslashreplace"), stdout=subprocess.PIPE, stderr=subprocess.PIPE)
+    text = dot_text(wiring)
+    done = subprocess.run([program, "-Tsvg", *(QUICK if text.count("shape=") > LARGE else ())], input=text.encode("utf-8", "backslashreplace"), stdout=subprocess.PIPE, stderr=subprocess.PIPE)
     if done.returncode or not done.stdout.rstrip().endswith(b"</svg>"):
         raise Ending(f"no graph was drawn: dot ended with {done.returncode}: {done.stderr.decode(errors='replace').strip()}", Status.FAULT)
     return done.stdout

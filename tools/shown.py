@@ -11,10 +11,11 @@ import os
 import re
 
 import bench_files
+import compared
 import questions
 from as_rung import as_rung
 from command_line import Ending, Parser, Status, read_file, say, start, tell
-from command_words import DELAY_MODES, TICKS, address, code_of
+from command_words import DELAY_MODES, address
 from marks import Differs, first_marks, may_clip
 from outputs import destination, set_aside, write_whole
 from reference import any_order, layout
@@ -297,13 +298,8 @@ def order_changes(wiring):
     file = wiring.file
     moved = [g for g in range(1, wiring.t) if file.run_mode(g) in MOVING and file.run_mode(g - 1) in (*MOVING, layout.RUNNING_B)]
     waiting = [g for word in replaced(wiring) for g in in_mode(wiring, layout.WAIT) if file.generator(g)[layout.GSUM] == word]
-    lines = [taken.line for taken in wiring.course.taken if taken.after and (code_of(taken.command) == TICKS or any(is_setting(place) for place in taken.places) or code_of(taken.command) == "00000" and taken.command & 0b110)]
+    lines = [taken.line for taken in wiring.course.taken if taken.after and compared.sets(file, taken.command)]
     return ([f"    until a trigger changes {those('generator', sorted({*moved, *waiting}))}"] if moved or waiting else []) + ([f"    until the command in line {lines[0]} changes modes, sum words, DACs or T"] if lines else [])
-
-
-def is_setting(place):
-    """Whether a place is one that orders are compared by."""
-    return place < layout.MODIFIERS_AT and place % layout.GENERATOR_WORDS in (layout.GO, layout.GSUM, layout.GFM, layout.GMODE)
 
 
 # Rung once
@@ -311,8 +307,10 @@ def is_setting(place):
 def clipped(wiring, lines):
     """Words that leave their range, by the marks of the passes."""
     candidates = may_clip(wiring)
-    if not candidates or not lines:
+    if not candidates:
         return [], "no sum word of the generators can leave its 20 bits"
+    if not lines:
+        return [], ""
     if len(lines) > SLOW:
         tell("show", f"looking for clipped words in up to {len(lines)} passes: this takes a while")
     try:
@@ -358,7 +356,7 @@ def described(file, data):
             *section("sum words", sum_words(wiring)), *section("DACs", dacs(wiring, rung.lines)), *section("commands", commands(wiring)), *section("orders", orders(wiring)), ""]
     if not rung.known:
         said.append("not rung: the program ring here doesn't know files with a text= line")
-    elif not wrong:
+    elif quiet and not wrong:
         said.append(quiet)
     said += [f"! {sentence}" for sentence in looks] or ["nothing looks wrong"]
     return wiring, said, Status.REFUSED if rung.refused else Status.UNLIKE if looks else Status.DONE
