@@ -190,6 +190,7 @@ WRONG = [
     ({86: 40}, "! generator 7 sends sum word 40, and nothing ever writes that"),
     ({2816 + 64 + 4: 17}, "! modifier 8 (mixing) reads sum word 17 as A, and nothing ever writes that"),
     ({2816 + 8 * 5: UNITY, 2816 + 8 * 5 + 4: MODIFIER_THIS | 1, 2816 + 8 * 5 + 6: REPLACE | 9, 2816 + 8 * 5 + 7: MIXING}, "! modifier 5 reads modifier-this sum word 1 as A, early, and doesn't see modifier 4: an early read sees writers at least 4 below"),
+    ({2816 + 8 * 7: UNITY, 2816 + 8 * 7 + 4: MODIFIER_THIS | 1, 2816 + 8 * 7 + 6: REPLACE | 9, 2816 + 8 * 7 + 7: MIXING}, "! modifier 7 reads modifier-this sum word 1 as A, early, and doesn't see modifier 4: an early read sees writers at least 4 below"),
     ({2816 + 8 * 1: UNITY, 2816 + 8 * 1 + 4: MODIFIER_THIS | 2, 2816 + 8 * 1 + 6: REPLACE | 9, 2816 + 8 * 1 + 7: MIXING}, "! modifier 1 reads modifier-this sum word 2 as A, early, and its writer is not below it (modifier 8): it sees 0"),
     ({2816 + 8 * 5 + 6: REPLACE | 1}, "! modifier 5 is inactive and replaces modifier sum word 1 by 0: what modifier 4 wrote is gone after it"),
     ({65: RUNS}, "! generator 6 waits, and generator 5, which would set it off, can't trigger: it isn't in a mode that triggers"),
@@ -371,7 +372,7 @@ def bell_drawn(folder, draw, chance, number):
             words[11 * g + 10] = draw.choice((TRIGGERS, WAITS, 0b1101 << 6, RUNS, TO_DAC)) | 48
         if draw.randrange(2) and feeders:
             words[11 * feeders[-1]] = draw.randrange(2)
-        commands = [draw.randrange(2 ** 20) << 12 | 0b0110 << 8 | draw.randrange(t) for _ in range(draw.choice((0, 0, 2)))]
+        commands = [draw.randrange(2 ** 20) << 12 | code << 8 | draw.randrange(t) for code in draw.choice(((), (), (0b0110, 0b1011), (0b0100, 0b1001, 0b1100), (0b0010, 0b1101, 0b1110)))]
         commands += [draw.randint(1, t + 3) - 1 << 12 | 0b00011 << 7] if draw.randrange(4) == 0 else []
         path.write_text(changed(text, words) + "".join(f"command={command:08X}\n" for command in commands))
     return path
@@ -453,11 +454,15 @@ def by_name(folder, sizes):
     strokes = ROOT / "examples" / "two_strokes.txt"
     refused(call("renumber", renumbered, strokes, "--by-pitch", "-o", at / "x.txt"), Status.REFUSED, "generator 0 can set off generator 1, which waits: it must stand just below it")
     ends(call("renumber", renumbered, strokes, strokes.with_suffix(".order"), "-o", at / "strokes.txt"), 0)
+    (at / "pair.txt").write_text(changed(strokes.read_text(), {10: TRIGGERS, 21: RUNS, 11 * 4 + 10: WAITS, layout.T: 5}))  # 0 triggers nobody, 4 waits for nobody
+    ends(call("renumber", renumbered, at / "pair.txt", "0=1", "-o", at / "moved.txt"), 0)
+    refused(call("renumber", renumbered, at / "pair.txt", "0=3", "-o", at / "x.txt"), Status.REFUSED, "generator 0, which can trigger, would stand just below generator 4, which waits, and would set it off")
+    refused(call("renumber", renumbered, at / "pair.txt", "4=1", "-o", at / "x.txt"), Status.REFUSED, "generator 0, which can trigger, would stand just below generator 4")
     assert "x.txt" not in names(folder)
     feeding = changed(BELL.read_text(), {77: 0})  # both feeders feed DAC 0, from different words
     (at / "feeding.txt").write_text(changed(feeding, {11 * 7 + 9: 0}))
     refused(call("renumber", renumbered, at / "feeding.txt", "6=7", "-o", at / "x.txt"), Status.REFUSED, "rings otherwise from pass", "DAC 0 is fed last by another generator: by number generator 7")
-    return 10
+    return 13
 
 
 def exchanged_sorted(text, one, other):
