@@ -148,7 +148,7 @@ def examples(folder, sizes):
                  "modifier 4: four-quadrant product (11000, AA 2, BB 1): S := 1*L1; L1 := 4*A*B", "DAC 0 (left): fed by generator 6; loudest in pass 7, 394215 (-2.48 dB)"):
         assert f"\n{line}\n" in said, (line, said)
     said = run("./karvelorn", "show", "examples/short_bell.txt").out
-    for line in ("line 59 (0001E110), after pass 1 (0.000052 s): Linger: waits until the pass counter is 30", "not every order of the generators rings alike: generator 6 waits, and generator 5 below it can trigger",
+    for line in ("sum word 2: written by generator 6; read by modifier 4 (B)", "line 59 (0001E110), after pass 1 (0.000052 s): Linger: waits until the pass counter is 30", "not every order of the generators rings alike: generator 6 waits, and generator 5 below it can trigger",
                  "    adds into sum word 2 once generator 5 sets it off; no modulation (nothing writes sum word 63)"):
         assert f"\n{line}\n" in said, (line, said)
     assert "delay unit 0: delay line of words 0 to 97: a word comes back after 100 passes (0.00517 s); it is at word 0; invoked by modifier 0" in run("./karvelorn", "show", "examples/belfry.txt").out
@@ -454,6 +454,9 @@ def by_name(folder, sizes):
     strokes = ROOT / "examples" / "two_strokes.txt"
     refused(call("renumber", renumbered, strokes, "--by-pitch", "-o", at / "x.txt"), Status.REFUSED, "generator 0 can set off generator 1, which waits: it must stand just below it")
     ends(call("renumber", renumbered, strokes, strokes.with_suffix(".order"), "-o", at / "strokes.txt"), 0)
+    (at / "ticks.txt").write_text("passes=50\n" + BELL.read_text().split("\n", 1)[1] + f"command={2 << 12 | 0b00011 << 7:08X}\n")  # T becomes 3
+    ends(call("renumber", renumbered, at / "ticks.txt", "0=1", "-o", at / "moved.txt"), 0)
+    refused(call("renumber", renumbered, at / "ticks.txt", "0=4", "-o", at / "x.txt"), Status.REFUSED, "sets T to 3, and generators 0 and 4 would move across it")
     (at / "pair.txt").write_text(changed(strokes.read_text(), {10: TRIGGERS, 21: RUNS, 11 * 4 + 10: WAITS, layout.T: 5}))  # 0 triggers nobody, 4 waits for nobody
     ends(call("renumber", renumbered, at / "pair.txt", "0=1", "-o", at / "moved.txt"), 0)
     refused(call("renumber", renumbered, at / "pair.txt", "0=3", "-o", at / "x.txt"), Status.REFUSED, "generator 0, which can trigger, would stand just below generator 4, which waits, and would set it off")
@@ -462,7 +465,7 @@ def by_name(folder, sizes):
     feeding = changed(BELL.read_text(), {77: 0})  # both feeders feed DAC 0, from different words
     (at / "feeding.txt").write_text(changed(feeding, {11 * 7 + 9: 0}))
     refused(call("renumber", renumbered, at / "feeding.txt", "6=7", "-o", at / "x.txt"), Status.REFUSED, "rings otherwise from pass", "DAC 0 is fed last by another generator: by number generator 7")
-    return 13
+    return 15
 
 
 def exchanged_sorted(text, one, other):
