@@ -35,7 +35,7 @@ from reference.ring import ring
 from texts import OLD_TEXT, Chance
 
 SEED = 1978
-GATE, FULL = {"new": 90, "old": 40, "bells": 60, "orders": 300}, {"new": 1500, "old": 500, "bells": 500, "orders": 3000}
+GATE, FULL = {"new": 90, "old": 40, "bells": 60, "orders": 300, "older": 12}, {"new": 1500, "old": 500, "bells": 500, "orders": 3000, "older": 200}
 EXAMPLES = sorted((ROOT / "examples").glob("*.txt"))
 BELL, TABLE, REPORT = (ROOT / "examples" / f"bell.{ending}" for ending in ("txt", "csv", "report"))
 OLD_LINE = b"text=old\n"
@@ -110,6 +110,35 @@ def shown_at_random(folder, sizes):
     print(f"  show: {sum(met[name] for name in ('pitch', 'level', 'T60', 'end', 'way', 'glide', 'sends', 'formula'))} numbers of generators and modifiers and {met['command sets']} of commands are the reference's; "
           f"{met['clipped']} clipped words, {met['refused']} refusals, {met['orders']} answers about orders")
     return sizes["new"] + sizes["old"]
+
+
+def older_text(folder, sizes):
+    """Files of the older text with a program that knows them, the reference in its place: marks, refusals and loudness are told too, and renumber rings them."""
+    program, path = Path(folder, "ring"), Path(folder, "old.txt")
+    program.write_text(f"#!/bin/sh\ncd '{ROOT}' && exec /usr/bin/python3 -B -m reference.ring\n")
+    program.chmod(0o755)
+    kept, met, draw = (as_rung.built, renumbered.built), Counter(), random.Random(SEED)
+    as_rung.built = renumbered.built = lambda command, *programs: [str(program)]
+    try:
+        for data in drawn(sizes["older"], True):
+            path.write_bytes(data)
+            done = call("show", shown, path)
+            wrong, counts = shown_numbers.faults(done.out, data)
+            assert "not rung" not in done.out and not wrong, (wrong, done)
+            met += counts
+            t = bench_files.read("drawn", data).t
+            order = swapped(draw, t)
+            Path(folder, "old.order").write_text("".join(f"order={g}\n" for g in order))
+            done = call("renumber", renumbered, path, Path(folder, "old.order"), "-o", Path(folder, "new.txt"))
+            if done.status:
+                refused(done, Status.REFUSED, "nothing is written")
+            else:
+                assert ring(data) == ring(Path(folder, "new.txt").read_bytes()) and bench_files.read("", Path(folder, "new.txt").read_bytes()).machine == bench_files.read("", permuted(data, {g: i for i, g in enumerate(order)})).machine
+            met["renumbered" if not done.status else "not renumbered"] += 1
+    finally:
+        as_rung.built, renumbered.built = kept
+    assert met["renumbered"] and met["not renumbered"] and met["never set off"] and met["above T"], met
+    return 2 * sizes["older"]
 
 
 def clipping(folder, sizes):
@@ -562,7 +591,7 @@ def worked():
     return time.process_time() + sum(resource.getrusage(resource.RUSAGE_CHILDREN)[:2])
 
 
-GROUPS = (shown_at_random, clipping, examples, looks_wrong, any_orders, same, renumber, by_name, calls, pages)
+GROUPS = (shown_at_random, older_text, clipping, examples, looks_wrong, any_orders, same, renumber, by_name, calls, pages)
 
 
 def main(arguments):
