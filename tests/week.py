@@ -35,7 +35,7 @@ from reference.ring import ring
 from texts import OLD_TEXT, Chance
 
 SEED = 1978
-GATE, FULL = {"new": 90, "old": 40, "bells": 60, "orders": 300, "older": 12}, {"new": 1500, "old": 500, "bells": 500, "orders": 3000, "older": 200}
+GATE, FULL = {"new": 90, "old": 40, "bells": 60, "orders": 300, "older": 12}, {"new": 1500, "old": 500, "bells": 500, "orders": 3000, "older": 60}
 EXAMPLES = sorted((ROOT / "examples").glob("*.txt"))
 BELL, TABLE, REPORT = (ROOT / "examples" / f"bell.{ending}" for ending in ("txt", "csv", "report"))
 OLD_LINE = b"text=old\n"
