@@ -49,6 +49,8 @@ def commands(folder, prefix):
     assert run("./karvelorn", "hear", "--no-picture", "bell.txt", **here).status == 0 and (at / "bell.wav").read_bytes()[:4] == b"RIFF"
     assert run("./karvelorn", "compare", "bell.txt", **here).out.startswith("The second order, by pitch: ")
     assert run("./karvelorn", "partials", "bell.csv", "-o", "new.txt", "--passes", "9000", **here).status == 0
+    assert run("./karvelorn", "same", "bell.csv", "new.txt", **here).status == 0 and "\ngenerator 2 (tierce): runs" in run("./karvelorn", "show", "new.txt", **here).out
+    assert run("./karvelorn", "renumber", "new.txt", "tierce=3", "-o", "moved.txt", **here).status == 0 and (at / "moved.report").exists()
     seen = run("./karvelorn", "hear", "new.txt", "--table", "bell.csv", **here)
     assert (seen.status in (Status.DONE, Status.UNLIKE)) and (at / "new.png").exists(), seen
     taken = run("./karvelorn", "measure", "new.wav", "-o", "again.csv", **here)
@@ -71,7 +73,7 @@ def in_place(folder):
     assert files_below(prefix) == before, "a command has left something under the prefix"
     completion = prefix / "share" / "bash-completion" / "completions" / "karvelorn"
     asked = run("bash", "-c", 'source "$1"; COMP_WORDS=("$2" ""); COMP_CWORD=1; _karvelorn; echo "${COMPREPLY[@]}"', "bash", completion, prefix / "bin" / "karvelorn")
-    assert asked.out.split() == ["measure", "partials", "run", "hear", "compare", "--help", "--version"], asked
+    assert asked.out.split() == ["measure", "partials", "show", "same", "run", "hear", "compare", "renumber", "--help", "--version"], asked
     stale = prefix / "libexec" / "karvelorn" / "tools" / "of_an_earlier_version.py"
     stale.write_text("")
     listed = prefix / "libexec" / "karvelorn" / "LIST"

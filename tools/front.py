@@ -19,9 +19,12 @@ from statuses import table  # noqa: E402
 COMMANDS = (
     ("Monday", "measure", "measuring", "a recording becomes a table of its partials"),
     ("Monday", "partials", "partials", "a table of measured partials becomes a bench file"),
+    ("Tuesday", "show", "shown", "a bench file in words, with what looks wrong, and as a graph"),
+    ("Tuesday", "same", "sameness", "is a bench file still the bell of its table?"),
     ("Wednesday", "run", "rung", "a bench file is rung pass by pass: a line for each"),
     ("Wednesday", "hear", "heard", "a bench file is heard and seen: its sound, its picture and its partials"),
     ("Thursday", "compare", "compared", "is it the same bell with its generators in another order?"),
+    ("Thursday", "renumber", "renumbered", "the generators moved to other numbers, in a bench file that rings the same"),
 )
 MODULES = {name: module for _, name, module, _ in COMMANDS}
 
