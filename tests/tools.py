@@ -365,7 +365,18 @@ def interrupted(folder):
     out, told = process.communicate(timeout=20)
     assert (process.returncode, out, told) == (Status.INTERRUPTED, "", "hear: interrupted\n"), (process.returncode, told)
     assert names(folder) == ["bell.txt", "bell.wav"], names(folder)
-    return 3
+    return 3 + while_starting()
+
+
+def while_starting():
+    """Ctrl-C while Python is still starting, at 24 moments of it: no traceback."""
+    for moment in range(24):
+        process = subprocess.Popen([str(ROOT / "run"), str(SHORT)], stdout=subprocess.DEVNULL, stderr=subprocess.PIPE, text=True, start_new_session=True, preexec_fn=heeding)
+        time.sleep(0.003 * moment)
+        os.killpg(process.pid, signal.SIGINT)
+        told = process.communicate(timeout=20)[1]
+        assert (process.returncode, told) in ((-signal.SIGINT, ""), (Status.INTERRUPTED, "run: interrupted\n")), (moment, process.returncode, told)
+    return 24
 
 
 GROUPS = (tables, channels_and_clipping, example, outputs, older, recordings, bells, unlike_tables, without_libraries, question_words, helps, completion, places, no_tracebacks, without_rights, interrupted, building)

@@ -5,16 +5,13 @@ A command is a line of COMMANDS: its day, its name, its module here (with a func
 does. --help lists them in the order of the week of a bench file; bash completion asks for them.
 """
 
-import signal
+import interrupts  # noqa: F401  (first)
 
-if signal.getsignal(signal.SIGINT) != signal.SIG_IGN:
-    signal.signal(signal.SIGINT, signal.SIG_DFL)  # until there is something to clear away
+import importlib
+import sys
 
-import importlib  # noqa: E402
-import sys  # noqa: E402
-
-from command_line import Ending, Status, ended, finish, say, version  # noqa: E402
-from statuses import table  # noqa: E402
+from command_line import Ending, Status, ended, finish, say, version
+from statuses import table
 
 COMMANDS = (
     ("Monday", "measure", "measuring", "a recording becomes a table of its partials"),

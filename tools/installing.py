@@ -7,6 +7,8 @@ On everybody's path comes one name, bin/karvelorn. Programs and tools stand unde
 of what was put where; by that list they are taken away.
 """
 
+import interrupts  # noqa: F401  (first)
+
 import os
 
 from building import LIBRARY, LIBRARY_CRATE, PROGRAMS, built, made

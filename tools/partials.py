@@ -229,7 +229,11 @@ def report_beside(file):
 
 def make(table, passes=MOST_PASSES, rate=None, seconds=None, gain=None):
     """The bench file of a table, and the report's lines; its rows, with their registers, and N and the gain."""
-    rows = read_table(table)
+    return make_of_rows(read_table(table), passes, rate, seconds, gain)
+
+
+def make_of_rows(rows, passes=MOST_PASSES, rate=None, seconds=None, gain=None):
+    """The same of a table's rows."""
     if not 1 <= passes <= MOST_PASSES:
         raise Wrong(f"a bell has 1 to {MOST_PASSES} passes: {passes}", Status.MISUSED)
     n = ticks(rate, seconds, passes)

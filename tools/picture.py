@@ -28,6 +28,7 @@ import numpy as np  # noqa: E402
 
 import analysis  # noqa: E402
 import naming  # noqa: E402
+import recording  # noqa: E402
 from outputs import destination, made_here, write_whole  # noqa: E402
 from table_reader import read_table  # noqa: E402
 
@@ -46,10 +47,11 @@ def lines_of(stroke):
         off = "" if math.isnan(p.cents) else f"{round(p.cents, 1) + 0.0:+8.1f}"
         other = naming.beat_of(p, stroke.partials)
         beat = f"  beat of {other.hz - p.hz:.2f} Hz with {naming.called(other)}" if other and not other.near and not ({"hz"} & (p.unsure | other.unsure)) else ""
+        beat = f"  more than one partial near {p.hz:.1f} Hz" if p.several else beat
         yield f"{p.name or '-':10} {hz:>9}  {off:>14} {db:>7}  {p.channel:7}  {t60:>8}{beat}"
     if stroke.noise:
         yield f"{'noise':10} {'':9}  {'':14} {stroke.noise[0]:7.1f}  {'':7}  {stroke.noise[1]:8.2f}  until {stroke.clear - stroke.begin:.3f} s"
-    after = f" after {stroke.clear - stroke.begin:.3f} s" if stroke.noise else ""
+    after = f" after {stroke.clear - stroke.begin:.3f} s" if stroke.clear > stroke.begin else ""
     yield f"unexplained: {stroke.residual:.1f} dB of the sound{after}"
     yield f"limits: {naming.limits(stroke)}"
 
@@ -152,11 +154,12 @@ def seen(sound, table):
     """Measures a sound and draws it; answers the picture, the lines of the report, and whether all agrees."""
     rows = read_table(table) if table else []
     rate, channels = analysis.read_sound(sound)
-    measured = analysis.measure(channels, rate)
+    ours = made_here(sound)
+    measured = analysis.measure(channels, rate) if ours else recording.measured_strokes(channels, rate)
     noise = next((row for row in rows if row.noise), None)
     rows = [row for row in rows if not row.noise]
     naming.name_all(measured, rows)
-    found = naming.findings(measured, rows, noise, table, naming.RESIDUAL if made_here(sound) else naming.RECORDED_RESIDUAL)
+    found = naming.findings(measured, rows, noise, table, naming.RESIDUAL if ours else naming.RECORDED_RESIDUAL)
     return draw(os.path.basename(sound), channels, rate, measured, rows, found), list(report(measured, found)), not found
 
 
