@@ -71,7 +71,7 @@ def in_place(folder):
     assert files_below(prefix) == before, "a command has left something under the prefix"
     completion = prefix / "share" / "bash-completion" / "completions" / "karvelorn"
     asked = run("bash", "-c", 'source "$1"; COMP_WORDS=("$2" ""); COMP_CWORD=1; _karvelorn; echo "${COMPREPLY[@]}"', "bash", completion, prefix / "bin" / "karvelorn")
-    assert asked.out.split() == ["measure", "partials", "run", "hear", "compare", "--help", "--version"], asked
+    assert asked.out.split() == ["measure", "partials", "run", "hear", "cut", "compare", "drawer", "--help", "--version"], asked
     stale = prefix / "libexec" / "karvelorn" / "tools" / "of_an_earlier_version.py"
     stale.write_text("")
     listed = prefix / "libexec" / "karvelorn" / "LIST"

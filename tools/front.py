@@ -15,10 +15,12 @@ from statuses import table
 
 COMMANDS = (
     ("Monday", "measure", "measuring", "a recording becomes a table of its partials"),
-    ("Monday", "partials", "partials", "a table of measured partials becomes a bench file"),
+    ("Monday", "partials", "partials", "a table of measured partials becomes a bench file (and a recording a table, as by measure)"),
     ("Wednesday", "run", "rung", "a bench file is rung pass by pass: a line for each"),
     ("Wednesday", "hear", "heard", "a bench file is heard and seen: its sound, its picture and its partials"),
+    ("Wednesday", "cut", "cutting", "what a cut at each ring makes of a bell, by the foundry's table of rings"),
     ("Thursday", "compare", "compared", "is it the same bell with its generators in another order?"),
+    ("Friday", "drawer", "drawers", "what was decided is kept in a folder with a page, and can be checked bit for bit"),
 )
 MODULES = {name: module for _, name, module, _ in COMMANDS}
 
@@ -34,7 +36,7 @@ def help_lines():
         yield f"  {on if on != day else '':10} {name:10} {does}"
         day = on
     yield from ("", "options:", "  -h, --help  this list", "  --version   print the version and end", "  --commands  the names of the commands alone, a line each",
-                "", "example:", "  karvelorn measure bell.flac -o bell.csv; karvelorn partials bell.csv -o bell.txt && karvelorn hear bell.txt && karvelorn compare bell.txt", "", "exit status:")
+                "", "example:", "  karvelorn partials bell.flac -o bell.csv; karvelorn partials bell.csv -o bell.txt && karvelorn hear bell.txt && karvelorn compare bell.txt", "", "exit status:")
     yield from table()
 
 
