@@ -39,12 +39,15 @@ UNLIKE, MISUSED, REFUSED, UNREAD, UNWRITTEN, MISSING = Status.UNLIKE, Status.MIS
 
 def sessions(text):
     """The commands of a page, and the lines that it prints after each."""
-    found = []
+    found, within = [], False
     for line in text.splitlines():
         if line.startswith("    $ "):
             found.append((line[6:], []))
-        elif line.startswith("    ") and found:
+            within = True
+        elif line.startswith("    ") and within:
             found[-1][1].append(line[4:])
+        elif line:
+            within = False
     return found
 
 
@@ -62,6 +65,35 @@ def unlike_lines(printed, shown):
             if len(a.split(".")[1]) != len(b.split(".")[1]) or abs(float(a) - float(b)) > 1.01 * 10 ** -len(a.split(".")[1]):
                 return True
     return False
+
+
+def shown_in_part(printed, shown):
+    """Whether lines are those of a page on which ... stands for some that aren't shown."""
+    parts, at = [[]], 0
+    for line in shown:
+        parts.append([]) if line == "..." else parts[-1].append(line)
+    for i, part in enumerate(parts):
+        last = i == len(parts) - 1 and i > 0
+        places = [len(printed) - len(part)] if last else [0] if i == 0 else range(at, len(printed))
+        at = next((place + len(part) for place in places if place >= at and not unlike_lines(printed[place:place + len(part)], part)), None)
+        if at is None:
+            return False
+    return at == len(printed) or len(parts) > 1
+
+
+def readme(folder):
+    """What README shows of hear, run and partials is what they print (tests/compare_words.py has its runs of compare)."""
+    shutil.copytree(EXAMPLES, Path(folder, "examples"), ignore=shutil.ignore_patterns("*.wav", "*.older*"))
+    for name in ("karvelorn", "hear", "run"):
+        Path(folder, name).symlink_to(ROOT / name)
+    whole = {"./hear": "./hear examples/bell.txt", "./run": "./run examples/short_bell.txt"}  # without a name these take the repository's own
+    tried = [(command, shown) for command, shown in sessions((ROOT / "README.md").read_text()) if command in whole or command.startswith("./karvelorn ")]
+    for command, shown in tried:
+        done = run("bash", "-c", whole.get(command, command), cwd=folder)
+        assert done.status == 0 and (shown_in_part(done.out.splitlines(), shown) or command == "./run" and shown_in_part(done.out.splitlines(), [*shown, "..."])), (command, done.out, shown)
+        assert not shown_in_part(done.out.splitlines(), ["nonsense", *shown]), command
+    assert len(tried) == 3, tried
+    return len(tried)
 
 
 def walk(folder):
@@ -357,7 +389,7 @@ def browser(folder):
     return 6
 
 
-GROUPS = (walk, monday, cuts, lengths, kept, browser)
+GROUPS = (walk, readme, monday, cuts, lengths, kept, browser)
 
 
 def main(arguments):
