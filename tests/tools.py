@@ -298,7 +298,8 @@ def no_tracebacks(folder):
     """A closed pipe, a closed or full standard output, files that can't be read, a full disk: a line and a status."""
     at, long = Path(folder), Path(folder, "bell.txt")
     shutil.copy(BELL, long)
-    calls = (["./run", str(long)], ["./compare", str(long)], ["./karvelorn", "--help"], ["./karvelorn", "partials", str(TABLE_OF_BELL), "-o", str(at / "new.txt")], ["./run", "--help"], ["./install", "-h"])
+    (at / "rings.csv").write_text("ring,hum,prime,tierce,quint,nominal\n1,1,1,1,1,1\n")
+    calls = (["./run", str(long)], ["./compare", str(long)], ["./karvelorn", "--help"], ["./karvelorn", "partials", str(TABLE_OF_BELL), "-o", str(at / "new.txt")], ["./karvelorn", "cut", str(TABLE_OF_BELL), "--rings", str(at / "rings.csv")], ["./run", "--help"], ["./install", "-h"])
     for command in calls:
         with open("/dev/full", "w") as full:
             ends(run(*command, stdout=full), UNWRITTEN, "cannot write: No space left on device")

@@ -62,6 +62,7 @@ class Measured:
     heard: float = -math.inf  # in dB: a partial with a T60 of HEARD_T60 that is below may be missed
     noise: tuple = ()  # level and T60
     softer: bool = False  # it is no stroke but what is left after a damping
+    highest: float = math.inf  # what is above so many Hz was not looked at
 
     @property
     def short(self):
@@ -225,7 +226,7 @@ def noise_of(sound, fit, lead, rate):
 
 def measure_stroke(channels, rate, stroke, highest=math.inf, decay=DECAY, left_of_one=LEFT_OF_ONE):
     """A stroke's partials up to so many Hz, of each channel by itself, and what they leave; decays are told within such a part, and what one partial leaves is at most so much."""
-    done = Measured(stroke.begin / rate, stroke.clear / rate, stroke.end / rate)
+    done = Measured(stroke.begin / rate, stroke.clear / rate, stroke.end / rate, highest=highest)
     if done.short:
         return done
     lead, sides, left, whole = stroke.clear - stroke.begin, [], 0.0, 0.0

@@ -53,7 +53,8 @@ def lines_of(stroke):
     if stroke.noise:
         yield f"{'noise':{wide}} {'':9}  {'':14} {stroke.noise[0]:7.1f}  {'':7}  {stroke.noise[1]:8.2f}  until {stroke.clear - stroke.begin:.3f} s"
     after = f" after {stroke.clear - stroke.begin:.3f} s" if stroke.clear > stroke.begin else ""
-    yield f"unexplained: {stroke.residual:.1f} dB of the sound{after}"
+    below = f" below {stroke.highest:g} Hz" if stroke.highest < math.inf else ""
+    yield f"unexplained: {stroke.residual:.1f} dB of the sound{below}{after}"
     yield f"limits: {naming.limits(stroke)}"
 
 
