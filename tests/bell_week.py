@@ -1,7 +1,7 @@
 """The week: one bell through it by the commands of docs/WEEK.md, whose output is held to what the page prints; cut, hear's longer
 sounds, other rates and players, the drawer and its check, each with good and bad input; and the drawer's page in a browser.
 
-    /usr/bin/python3 tests/week.py [GROUP..]      (needs numpy, scipy and matplotlib; for the page chromium and poppler-utils)
+    /usr/bin/python3 tests/bell_week.py [GROUP..]      (needs numpy, scipy and matplotlib; for the page chromium and poppler-utils)
 """
 
 import hashlib
@@ -402,7 +402,7 @@ def main(arguments):
             count = group(folder)
         tried += count
         print(f"{group.__name__}: {count} cases, {time.monotonic() - began:.1f} s", flush=True)
-    print(f"week: {tried} cases: the page's commands print what it shows, and each ending has its status")
+    print(f"bell_week: {tried} cases: the page's commands print what it shows, and each ending has its status")
 
 
 if __name__ == "__main__":
