@@ -66,7 +66,7 @@ def unknown(rows, rings, chosen):
 
 # Bench files and sounds
 
-def ticks_for(rows, seconds):
+def seconds_for(rows, seconds):
     """The length to ask for: what is asked, or the usual one where the highest partial allows it."""
     if seconds is not None:
         return seconds
@@ -76,7 +76,7 @@ def ticks_for(rows, seconds):
 
 def bench_files(bells, seconds):
     """The bench files and reports of several bells, by name: of one length and one gain, so that levels can be compared."""
-    seconds = min(ticks_for(rows, seconds) for rows in bells.values())
+    seconds = min(seconds_for(rows, seconds) for rows in bells.values())
     gain = min(partials.make_of_rows(copy.deepcopy(rows), seconds=seconds)[4] for rows in bells.values())
     made = {name: partials.make_of_rows(copy.deepcopy(rows), seconds=seconds, gain=gain) for name, rows in bells.items()}
     return {name: (text, "\n".join(lines) + "\n") for name, (text, lines, *_) in made.items()}
