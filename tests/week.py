@@ -568,10 +568,10 @@ def streams(at, bell):
 
 
 def pages(folder, sizes):
-    """The runs that docs/WEEK.md shows are real."""
-    page = (ROOT / "docs" / "WEEK.md").read_text()
+    """The runs that docs/PLANNING.md shows are real."""
+    page = (ROOT / "docs" / "PLANNING.md").read_text()
     runs = re.findall(r"^    \$ \./karvelorn (.*)\n((?:    [^$\n].*\n)+)", page, flags=re.M)
-    assert len(runs) >= 3, "docs/WEEK.md shows too few runs"
+    assert len(runs) >= 3, "docs/PLANNING.md shows too few runs"
     for name in ("bell.txt", "bell.csv", "bell.report", "two_strokes.txt"):
         shutil.copy(ROOT / "examples" / name, folder)
     for arguments, lines in runs:
