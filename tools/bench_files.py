@@ -26,7 +26,7 @@ from table_reader import read_table
 TEXT = b"text="
 QUESTION_13 = "Is the text that the first line names old or 1978?"
 CLOSE_HZ, CLOSE_CENTS = 0.001, 1.0  # a report has three places; a table's row is met within a cent
-FAR_TOO_LONG = questions.FILE_MOST + 1
+READ_MOST = questions.FILE_MOST + 1
 
 
 class Named(NamedTuple):
@@ -101,8 +101,8 @@ def parted(data):
     return (line[len(TEXT):], rest) if newline and line.startswith(TEXT) else (None, data)
 
 
-def fault_lines(named, data):
-    """The bench file, and why it is none: a fault and its number."""
+def parsed(path, data):
+    """The bench file, or nothing with the number of the question that it fails and why."""
     value, rest = parted(data)
     shift = 0 if value is None else 1
     if len(data) > questions.FILE_MOST:
@@ -115,7 +115,7 @@ def fault_lines(named, data):
     text = OF_1978 if value is None else TEXTS.get(value)
     if text is None:
         return None, 13, questions.Fault(1, f"the text is {questions.shown(value)!r}", b"")
-    return BenchFile(named, text, bench, shift), 0, None
+    return BenchFile(path, text, bench, shift), 0, None
 
 
 def old_fault(place, value):
@@ -153,8 +153,8 @@ def question(number):
 
 def read(path, data=None):
     """The bench file at a path. Ends with a refusal in words where it is none, or where its machine doesn't pass question 2."""
-    data = read_file(path, FAR_TOO_LONG) if data is None else data
-    found, number, fault = fault_lines(path, data)
+    data = read_file(path, READ_MOST) if data is None else data
+    found, number, fault = parsed(path, data)
     if fault:
         raise Ending(f"{path} doesn't pass question {number}: {question(number)}\n  {fault}")
     causes = list(machine_faults(found))
@@ -239,7 +239,7 @@ def name_partials(bench_file):
         name_by_table(bench_file, table)
 
 
-def not_of_1978(bench_file, command):
+def need_1978(bench_file, command):
     """Ends where a command knows files of 1978 alone."""
     if bench_file.is_old:
         raise Ending(f"{bench_file.path} is a file of the older text, and {command} knows files of 1978 alone", Status.REFUSED)

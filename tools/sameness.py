@@ -214,7 +214,7 @@ def answer(table, path):
         raise ending if ending.status == Status.UNREAD else Ending(f"{table}: {ending}", ending.status) from None
     data = read_file(path, questions.FILE_MOST + 1)
     file = bench_files.read(path, data)
-    bench_files.not_of_1978(file, "same")
+    bench_files.need_1978(file, "same")
     rung = as_rung("same", file, data)
     if rung.refused or not rung.known:
         raise Ending(f"{path} isn't rung whole: refused with {rung.refused} in pass {len(rung.lines) + 1}: {bench_files.question(rung.refused)}" if rung.known else f"{path}: the program ring here doesn't know files with a text= line")
