@@ -85,7 +85,8 @@ def gathered(asked):
         sound = os.path.join(folder, "bell.wav")
         with open(sound, "wb") as file:
             file.write(files["bell.wav"])
-        files["bell.png"], measured, status = heard.drawn("drawer", sound, asked.table)
+        files["bell.png"], measured, status, told = heard.drawn("drawer", sound, asked.table)
+        status = heard.judged("drawer", files["bell.png"], status, told)
     files["bell.measured"] = measured.encode()
     cut = None
     if asked.ring is not None:

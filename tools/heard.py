@@ -142,7 +142,7 @@ def need_table(table):
 
 
 def drawn(command, sound, table):
-    """A sound measured and drawn: the picture's bytes, what is printed of it, and whether all agrees, as a status."""
+    """A sound measured and drawn: the picture's bytes, what is printed of it, the status with which that ended and what was told."""
     need_libraries(LIBRARIES, "no picture was made")
     if table:
         need_table(table)
@@ -153,22 +153,27 @@ def drawn(command, sound, table):
                               env={**os.environ, "TMPDIR": folder, "PYTHONIOENCODING": "utf-8", "PYTHONDONTWRITEBYTECODE": "1"})
         told = done.stderr.decode(errors="replace").strip()
         data = read_file(picture) if os.path.isfile(picture) else b""
-    if not data or done.returncode not in (Status.DONE, Status.UNLIKE):
-        if done.stdout:
-            say(done.stdout.decode(errors="replace"), end="")
-        raise undrawn(done.returncode, told)
+    return data, done.stdout.decode(errors="replace"), done.returncode, told
+
+
+def judged(command, picture, status, told):
+    """The status of what was measured and drawn; raised where that wasn't whole."""
+    if not picture or status not in (Status.DONE, Status.UNLIKE):
+        raise undrawn(status, told)
     if told:
         tell(command, told.removeprefix("picture: "))
-    return data, done.stdout.decode(errors="replace"), Status(done.returncode)
+    return Status(status)
 
 
 def seen(files):
     """Measures and draws a sound; prints its partials and writes the picture. Answers whether all agrees, as a status."""
-    picture, lines, status = drawn("hear", files.sound or files.file, files.table)
-    write_whole({files.picture: picture}, [files.file])
-    tell("hear", f"wrote {files.picture}")
-    say(lines, end="")
-    return status
+    picture, lines, status, told = drawn("hear", files.sound or files.file, files.table)
+    if picture:
+        write_whole({files.picture: picture}, [files.file])
+        tell("hear", f"wrote {files.picture}")
+    if lines:
+        say(lines, end="")
+    return judged("hear", picture, status, told)
 
 
 def undrawn(status, told):
