@@ -16,7 +16,8 @@
  *   the pointer may be NULL;
  * - a pointer that a call answers through (read, written, clipped, taken, equal, alike, point, place) is not NULL and
  *   has valid memory for one, clipped for KARVELORN_MARKS. What was there before is not looked at, and the call always
- *   sets it, in a refusal too;
+ *   sets it, in a refusal too; numbers is not NULL and has valid memory for KARVELORN_MODIFIERS, and of these words a
+ *   call sets those that it has numbers for;
  * - what a call writes (the runs that are not const, delay memory too, and what it answers through) overlaps nothing
  *   else that is handed to the same call, and nothing else reads or writes it during the call. Runs that are const may
  *   overlap each other.
@@ -37,9 +38,13 @@
  *   11 Of the delay units in mode 1000 that modifiers below T div 2 invoke and that don't act as inactive: has each X+Z
  *      at most 65535 and Y at most Z?
  *   12 Do the modifiers below T div 2 that invoke delay units name different ones, whatever the units' modes?
+ *   14 Has each entry of a chain its two words, with names that stand in their run and are entries before it, and are
+ *      all names an entry's?
+ *   15 Are the earliest numbers for a chain at most 127?
  * A pass asks 1, 2, 5, 6, 7, 8, 10, 11 and 12 in this sequence. An update asks 1 and 2, then 3 and 4 as each command
  * has its turn; a compare asks 1 and 2, then 5 and 6 of each order, karvelorn_parts the same, then 1 of the run for the
- * contents and 7 of the read list, and karvelorn_any_order 1 and 2. These four ask none of 10 to 12. No call answers 9.
+ * contents and 7 of the read list, and karvelorn_any_order 1 and 2. These four ask none of 10 to 12. karvelorn_chain,
+ * which is handed no machine, asks 14 and then 15, and no other call asks these. No call answers 9.
  * A refused call leaves every run as it was, but for an update that refuses a command (3 or 4): what it did before that
  * command stays done.
  *
@@ -126,6 +131,7 @@
 #define KARVELORN_UPDATE_TICKS 4343
 #define KARVELORN_MEMORY_WORDS 65536
 #define KARVELORN_MARKS 64
+#define KARVELORN_MODIFIERS 128
 
 #ifdef __cplusplus
 extern "C" {
@@ -285,6 +291,29 @@ uint32_t karvelorn_old_compare(const uint32_t *machine, size_t words, const uint
 uint32_t karvelorn_old_parts(const uint32_t *machine, size_t words, const uint32_t *first, size_t first_entries,
                              const uint32_t *second, size_t second_entries, uint32_t *contents, size_t contents_words,
                              uint32_t *items, size_t items_len, uint32_t *point, uint32_t *place);
+
+/* Numbers for a chain of modifiers that read what others of it write to modifier-this. Modifiers are taken by number,
+ * and a reader with too low a number misses a write: it sees the writes of modifiers up to its number less 4 where its
+ * read is early, and up to its number less 1 where it is late. A is read late in latch, invoke delay unit, one zero and
+ * the two-pole and two-zero functions, and early in all others; B is always read early.
+ *
+ *   entries, entries_len  the modifiers in sequence, two words for each: 1 where its read is early or 0 where it is
+ *                         late, then where its names end in names. A modifier that reads modifier-this both ways is
+ *                         early
+ *   names, names_len      the names of all entries, one after the other. Those of an entry begin where those of the
+ *                         entry before it end, at 0 for the first. A name is the place, from 0 on, of an entry before
+ *                         it in the list, whose write it must see
+ *   numbers               gets the number of each entry, from the first on. The words past the last entry stay
+ *
+ * The numbers rise along the list, and an entry that is named stands at least 4 below its reader where that reads
+ * early, and at least 1 below where it reads late. Of all such numbers they are the lowest, at each entry.
+ *
+ * Answers 0, 14 or 15. An odd number of words, a first word above 1, ends that fall or pass names_len, a last end below
+ * it, and an entry that names itself, a later one or a place outside get 14, wherever in the list; then 15 says that all
+ * such numbers pass 127. A refused call leaves numbers as they were. No entries and no names are answered 0.
+ */
+uint32_t karvelorn_chain(const uint32_t *entries, size_t entries_len, const uint32_t *names, size_t names_len,
+                         uint32_t numbers[KARVELORN_MODIFIERS]);
 
 #ifdef __cplusplus
 }

@@ -108,6 +108,7 @@ class Faults:
         self.old_places_for_all_111 = False
         self.old_feeders_by_gfm = False
         self.old_sides_by_next = False
+        self.old_contents_set_gn = False
         self.old_update_after_pass = False
         self.old_commands_taken = False
         self.text_13_before_9 = False

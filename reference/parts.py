@@ -65,6 +65,8 @@ def silent(machine, text=OF_1978):
         at = layout.generator_at(g)
         for register, value in text.settings(generator_words(machine, g)).items():
             bare[at + register] = value
+        if faults.old_contents_set_gn and text is not OF_1978:
+            bare[at + layout.GN] = 1
         bare[at + layout.GL] = asymptote(machine[at + layout.GMODE], 0, text)
     return bare
 

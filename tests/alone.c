@@ -13,6 +13,7 @@ void _start(void)
     static uint32_t contents[KARVELORN_WORDS], point, place;
     static size_t count;
     static uint8_t clipped[64];
+    static uint32_t numbers[KARVELORN_MODIFIERS];
     karvelorn_fresh(machine, KARVELORN_WORDS);
     karvelorn_pass(machine, KARVELORN_WORDS, &word, 1, 0, 0, 0, 0, memory, KARVELORN_MEMORY_WORDS, &count, &count,
                    clipped);
@@ -20,4 +21,5 @@ void _start(void)
     karvelorn_compare(machine, KARVELORN_WORDS, &word, 1, &word, 1, &word);
     karvelorn_any_order(machine, KARVELORN_WORDS, &word);
     karvelorn_parts(machine, KARVELORN_WORDS, &word, 1, &word, 1, contents, KARVELORN_WORDS, 0, 0, &point, &place);
+    karvelorn_chain(0, 0, 0, 0, numbers);
 }

@@ -7,7 +7,7 @@
 #include "runs.h"
 
 enum { ENTRIES, NAMES, READ_RUNS, NUMBERS = READ_RUNS, RUNS };
-enum { MODIFIERS = 128, HELD = 1000 };
+enum { HELD = 1000 };
 
 static void answer(const run *r) {
     uint32_t number = karvelorn_chain(r[ENTRIES].words, r[ENTRIES].length, r[NAMES].words, r[NAMES].length,
@@ -23,8 +23,8 @@ int main(void) {
     while (fread(lengths, sizeof lengths[0], READ_RUNS, stdin) == READ_RUNS) {
         run runs[RUNS];
         for (int i = 0; i < READ_RUNS; i++) runs[i] = read_run(lengths[i]);
-        runs[NUMBERS] = new_run(MODIFIERS);
-        for (uint32_t i = 0; i < MODIFIERS; i++) runs[NUMBERS].words[i] = HELD + i;
+        runs[NUMBERS] = new_run(KARVELORN_MODIFIERS);
+        for (uint32_t i = 0; i < KARVELORN_MODIFIERS; i++) runs[NUMBERS].words[i] = HELD + i;
         answer(runs);
         for (int i = 0; i < RUNS; i++) free_run(&runs[i]);
     }

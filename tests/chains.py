@@ -5,7 +5,7 @@
 Run from the repository root. Builds tests/chains.c with include/karvelorn.h and
 target/staticlib/libkarvelorn.a (which it has rt make where it is missing or older than the code).
 All chains of up to four entries and COUNT at random, good and damaged: the number and all 128
-words must be the reference's. Then chains of up to 18 entries are put to use through
+words must be the reference's, within a stack of 256 kB. Then chains of up to 18 entries are put to use through
 tests/passes.c: in one pass each reader finds the bit of every entry that it names, and an early
 reader whose number is lowered by one loses it. Fails too where the requests met something too
 seldom. With --fault the reference has one fault of reference/faults.py on: the comparison must
@@ -25,6 +25,7 @@ from passes import PASSES
 
 COUNT, SEED = 21000, 11
 USES = 1000
+STACK = 256 * 1024
 HEAD, NUMBER = struct.Struct("<2I"), struct.Struct("<I")
 
 # How often each kind is met at least, in COUNT chains at random and all small ones; and in USES.
@@ -57,7 +58,7 @@ def show(request, expected, got):
         print(f"  {title}: number {given[0]}, {given[1]}")
 
 
-CHAINS = Test("chains", request_bytes, answer_bytes, show)
+CHAINS = Test("chains", request_bytes, answer_bytes, show, stack=STACK)
 
 
 # What the requests met

@@ -4,10 +4,10 @@ the sound, and what isn't as the table says is told.
     /usr/bin/python3 tests/circle.py [PROGRAM]      (PROGRAM: target/bin/wav where none is named; needs numpy and scipy)
 
 Bells, doublets, close sets, strokes and channels: each partial is found without the table's help, gets its own name, and is
-within 1 cent or 0.1 Hz, 0.5 dB and 5 % of its decay, or the report names it as not reachable with the registers' steps; and
-no other partial is found. Of partials 46 to 60 dB down none is missed or wrong, though some may be told to be unsure. Doublets
-without a table, of 0.03 to 1.1 beats: two are found, each right or told not to be told apart, or one, and then they are nearer
-than the distance that is printed. Short sounds: two partials nearer than half a beat are said not to be told apart. Tables that are
+within 1 cent or 0.1 Hz, 0.5 dB and 5 % of its decay (10 % where it is more than 40 dB below the loudest), or the report names
+it as not reachable with the registers' steps, or it is told to be unsure (at most 1 in 100); and no other partial is found. Of partials 46 to 60 dB down none is missed or wrong, though some may be told to be unsure. Doublets
+without a table, of 0.03 to 1.1 beats: two are found, each right or told not to be told apart, or one that is told not to be one;
+or one without a word, and then they are within 0.15 of a beat. Short sounds: two partials nearer than half a beat are said not to be told apart. Tables that are
 stale or another bell's, rows missing and rows too many: each such row and each such peak is told, and no other. Shows too
 that it can fail: beside tables that are off by a little more, every partial is found wanting.
 """
@@ -31,7 +31,9 @@ import sounds  # noqa: E402
 BELLS = [(5, 265, 1), (8, 400, 2), (12, 200, 3), (20, 265, 4), (40, 265, 5), (40, 128, 6)]
 DOUBLETS, CLOSE, STROKES, SIDES, SHORT, STALE, QUIET, ONE = 10, 2, 5, 4, 12, 400, 10, 40  # so many of each
 HIGHEST = 60.0  # levels of a bell spread over so many dB
-NAMED_MOST = 0.15  # no more than this part of all partials may be named as not reachable
+SOFT, SOFT_DECAY = 40.0, 0.1  # of a partial so many dB below the loudest the decay comes back within this part of it
+NAMED_MOST, TOLD_MOST = 0.15, 0.01  # no more than these parts of all partials may be named as not reachable, or told to be unsure
+ONE_MOST = 0.15  # doublets of fewer beats may count as one
 
 
 def bell(draw, count, n):
@@ -126,15 +128,16 @@ class Sound:
             off.append("frequency")
         if abs(p.db + 20 * math.log10(2 ** 19 / tables.FULL) - self.gain - row.db + db) > tables.LEVEL:
             off.append("level")
-        if abs(p.t60 / row.t60 * decay - 1) > tables.DECAY:
+        soft = row.db < max(other.db for other in self.rows) - SOFT
+        if abs(p.t60 / row.t60 * decay - 1) > (SOFT_DECAY if soft else tables.DECAY):
             off.append("decay")
         return off + (["told"] if p.near or p.unsure else [])
 
 
-def faults_of(sound, what):
-    """What doesn't come back of a sound beside its own table, in each stroke; and whether a table that is off would be seen."""
+def faults_of(sound, what, counts):
+    """What doesn't come back of a sound beside its own table, in each stroke; and whether a table that is off would be seen. Partials that are told to be unsure are counted."""
     words = sound.told(sound.rows)
-    unreached = sound.unreached()
+    unreached, told = sound.unreached(), counts["told"]
     for stroke in sound.measured:
         for row in sound.rows:
             found = [p for p in stroke.partials if p.row is row]
@@ -144,14 +147,16 @@ def faults_of(sound, what):
                 yield f"{what}: {row.name}, {row.hz:.3f} Hz {row.db:.2f} dB {row.t60:.3f} s, was not found"
                 continue
             off = sound.off(row, found[0])
-            if off:
+            if "told" in off:
+                counts["told"] += 1
+            elif off:
                 yield f"{what}: {row.name}: {', '.join(off)}: {row.hz:.3f} Hz {row.db:.2f} dB {row.t60:.3f} s was measured as {found[0]} in a sound of {sound.seconds:.2f} s"
             elif not (sound.off(row, found[0], cents=2.1 * max(1, 1200 * math.log2(1 + 0.1 / row.hz))) and sound.off(row, found[0], db=1.1) and sound.off(row, found[0], decay=1.2)):
                 yield f"{what}: {row.name}: a table that is off was not told apart"
         for p in stroke.partials:
-            if not p.row:
+            if not p.row and not p.near and not p.unsure:
                 yield f"{what}: {p.hz:.3f} Hz {p.db:.2f} dB {p.t60:.3f} s is not in the table"
-    if words and not unreached:
+    if words and not unreached and counts["told"] == told:
         yield f"{what}: said {words}"
 
 
@@ -193,7 +198,7 @@ def one_faults(sound, gap, what, counts):
         near = [p for p in stroke.partials if abs(p.hz - sound.rows[1].hz) < 5]
         if len(near) == 1 and not near[0].near and not near[0].unsure:
             counts["one"] += 1
-            if gap > analysis.BEAT / (stroke.end - stroke.clear):
+            if gap > ONE_MOST / (stroke.end - stroke.clear):
                 yield f"{what}: {gap:.3f} Hz apart, {sound.seconds:.2f} s: counted as one, {near}"
         for p in near if len(near) > 1 else []:
             if not p.near and not p.unsure and min(abs(p.hz * sound.exact / sound.rate - row.hz) for row in sound.rows[1:]) > analysis.within(p.hz):
@@ -273,7 +278,7 @@ def all_faults(program, folder, counts):
     for sound, what in bells:
         counts["partials"] += len(sound.rows)
         counts["named"] += len(sound.unreached())
-        yield from faults_of(sound, what)
+        yield from faults_of(sound, what, counts)
     for seed in range(SHORT):
         draw = random.Random(f"short {seed}")
         gap, hz = draw.uniform(0.2, 1.2), draw.uniform(300, 1000)
@@ -302,15 +307,16 @@ def all_faults(program, folder, counts):
 
 def main():
     program = sys.argv[1] if len(sys.argv) > 1 else str(ROOT / "target" / "bin" / "wav")
-    counts = {"partials": 0, "named": 0, "quiet": 0, "unsure": 0, "one": 0}
+    counts = {"partials": 0, "named": 0, "told": 0, "quiet": 0, "unsure": 0, "one": 0}
     with tempfile.TemporaryDirectory() as folder:
         faults = list(all_faults(program, folder, counts))
     print("\n".join(faults))
-    if counts["named"] > NAMED_MOST * counts["partials"]:
-        faults.append("too many")
-        print(f"{counts['named']} of {counts['partials']} partials are named as not reachable")
+    for what, most in (("named", NAMED_MOST), ("told", TOLD_MOST)):
+        if counts[what] > most * counts["partials"]:
+            faults.append("too many")
+            print(f"{counts[what]} of {counts['partials']} partials are {'named as not reachable' if what == 'named' else 'told to be unsure'}")
     print(f"{len(BELLS)} bells, {DOUBLETS} sounds with 3 doublets each, {CLOSE} close sets, {STROKES} sounds of 2 or 3 strokes, {SIDES} of two channels: {counts['partials']} partials, "
-          f"{counts['named']} named as not reachable with the registers' steps; {SHORT} short sounds, {STALE} wrong tables; "
+          f"{counts['named']} named as not reachable with the registers' steps, {counts['told']} told to be unsure; {SHORT} short sounds, {STALE} wrong tables; "
           f"{counts['quiet']} partials beside quiet ones, {counts['unsure']} told to be unsure; {ONE} doublets without a table, {counts['one']} counted as one; {len(faults)} wrong")
     sys.exit(1 if faults else 0)
 

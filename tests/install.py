@@ -49,10 +49,18 @@ def commands(folder, prefix):
     assert run("./karvelorn", "hear", "--no-picture", "bell.txt", **here).status == 0 and (at / "bell.wav").read_bytes()[:4] == b"RIFF"
     assert run("./karvelorn", "compare", "bell.txt", **here).out.startswith("The second order, by pitch: ")
     assert run("./karvelorn", "partials", "bell.csv", "-o", "new.txt", "--passes", "9000", **here).status == 0
+    assert run("./karvelorn", "same", "bell.csv", "new.txt", **here).status == 0 and "\ngenerator 2 (tierce): runs" in run("./karvelorn", "show", "new.txt", **here).out
+    assert run("./karvelorn", "renumber", "new.txt", "tierce=3", "-o", "moved.txt", **here).status == 0 and (at / "moved.report").exists()
     seen = run("./karvelorn", "hear", "new.txt", "--table", "bell.csv", **here)
     assert (seen.status in (Status.DONE, Status.UNLIKE)) and (at / "new.png").exists(), seen
     taken = run("./karvelorn", "measure", "new.wav", "-o", "again.csv", **here)
     assert (taken.status in (Status.DONE, Status.UNLIKE)) and "name,hz,db,t60" in (at / "again.csv").read_text(), taken
+    ended = run("./karvelorn", "hear", "--no-picture", "--seconds", "0.01", "bell.txt", **here)
+    assert ended.status == 0 and len((at / "bell.wav").read_bytes()) > 44 + 6 * 150, ended
+    shutil.copy(ROOT / "examples" / "rings.csv", at)
+    assert run("./karvelorn", "cut", "bell.csv", "--rings", "rings.csv", **here).status == Status.UNLIKE
+    assert run("./karvelorn", "drawer", "d5", "bell.csv", "new.txt", **here).status in (Status.DONE, Status.UNLIKE) and "rattle" in (at / "d5" / "index.html").read_text()
+    assert "the same 9,000 frames, bit for bit" in run("./karvelorn", "drawer", "check", "d5", **here).out
     assert run("./karvelorn", "--version", **here).out == f"karvelorn {VERSION}\n" and "hear" in run("./karvelorn", "--help", **here).out
     refused(run("./karvelorn", "run", **here), Status.MISUSED, "name a file")
     return rung.out
@@ -71,7 +79,7 @@ def in_place(folder):
     assert files_below(prefix) == before, "a command has left something under the prefix"
     completion = prefix / "share" / "bash-completion" / "completions" / "karvelorn"
     asked = run("bash", "-c", 'source "$1"; COMP_WORDS=("$2" ""); COMP_CWORD=1; _karvelorn; echo "${COMPREPLY[@]}"', "bash", completion, prefix / "bin" / "karvelorn")
-    assert asked.out.split() == ["measure", "partials", "run", "hear", "compare", "--help", "--version"], asked
+    assert asked.out.split() == ["measure", "partials", "show", "same", "run", "hear", "cut", "compare", "renumber", "drawer", "--help", "--version"], asked
     stale = prefix / "libexec" / "karvelorn" / "tools" / "of_an_earlier_version.py"
     stale.write_text("")
     listed = prefix / "libexec" / "karvelorn" / "LIST"

@@ -5,12 +5,13 @@ are runs of bytes that the test makes; an answer must be the reference's, byte f
 """
 
 import os
+import resource
 import subprocess
 import sys
 from array import array
 from glob import glob
 from itertools import islice
-from typing import Callable, NamedTuple
+from typing import Callable, NamedTuple, Optional
 
 ROOT = os.path.dirname(os.path.dirname(os.path.abspath(__file__)))
 sys.path.insert(0, ROOT)
@@ -24,13 +25,15 @@ LIBRARY = os.path.join(ROOT, "target", "staticlib", "libkarvelorn.a")
 
 
 class Test(NamedTuple):
-    """A test: its name, a request and an answer as bytes, and how a difference is shown."""
+    """A test: its name, a request and an answer as bytes, how a difference is shown; its text, and
+    the most bytes of stack that its program has, or None for as many as there are."""
 
     name: str
     request_bytes: Callable
     answer_bytes: Callable
     show: Callable
     text: Text = NEW_TEXT
+    stack: Optional[int] = None
 
     @property
     def title(self):
@@ -41,6 +44,11 @@ class Test(NamedTuple):
     def program(self):
         """The path of the C program."""
         return os.path.join(ROOT, "target", self.title)
+
+    def limit_stack(self):
+        """The limit for the program's stack, in a child that is to run it."""
+        if self.stack:
+            resource.setrlimit(resource.RLIMIT_STACK, (self.stack, self.stack))
 
     def by(self, options):
         """The test of the text that the options name."""
@@ -57,10 +65,11 @@ def library_is_new():
 
 
 def build(test):
-    """The test's program, over the static library."""
+    """The test's program, over the static library. It takes its place whole: another test may be running it."""
     if not library_is_new():
         subprocess.run(["rt", "staticlib", "karvelorn"], cwd=ROOT, check=True, stdout=subprocess.DEVNULL)
     source = os.path.join(ROOT, "tests", test.name + ".c")
+    made = f"{test.program}-{os.getpid()}"
     defined = ["-DOLD_TEXT"] if test.text is OLD_TEXT else []
     # Put in its place whole: a test beside this one may run the same program.
     made = f"{test.program}.{os.getpid()}"
@@ -92,7 +101,7 @@ def unpacked(data):
 def differing(test, batch, first, shown):
     """Asks a batch; shows the first differences, gives how many differ."""
     asked = b"".join(test.request_bytes(request) for request, _ in batch)
-    done = subprocess.run([test.program], input=asked, stdout=subprocess.PIPE)
+    done = subprocess.run([test.program], input=asked, stdout=subprocess.PIPE, preexec_fn=test.limit_stack)
     at, differ = 0, 0
     for number, (request, expected) in enumerate(batch, first):
         good = test.answer_bytes(expected)
@@ -180,11 +189,12 @@ def run(test, options, asked, pairs, answered):
     if not options.dry:
         with switched_on(options.fault):
             return asked()
-    showing = 0
+    showing, made = 0, 0
     for request, answer in pairs:
         with switched_on(options.fault):
             showing += answered(request) != answer
-    print(f"fault {options.fault} shows in {showing} of {options.count} answers")
+        made += 1
+    print(f"fault {options.fault} shows in {showing} of {made} answers")
     return 0 if showing else 1
 
 

@@ -1,5 +1,6 @@
 """Cases of tests/tools.py about what hear says of a sound: what doesn't agree with the table beside it, channels, doublets, and sounds too short."""
 
+import re
 import shutil
 from pathlib import Path
 
@@ -43,6 +44,12 @@ def sides(folder, file, table):
     rows = {line.split()[0]: line.split() for line in done.out.splitlines()[1:]}
     assert rows["hum"][-3:-1] == ["-12.0", "left"] and "right" in rows["tierce"] and "right" in rows["tierce-b"] and rows["nominal"][-2] == "both", done
     assert "beat of 0.91 Hz with tierce-b" in done.out and "limits: two partials less than 0.13 Hz apart may count as one" in done.out, done
+    near = Path(folder, "near.csv")  # a doublet of a tenth of a beat, measured without its table
+    near.write_text("name,hz,db,t60\nhum,150,-8,14\nd,968.875,-6,11.4\nd-b,968.912,-13.7,9.6\n")
+    assert call("partials", partials, near, "-o", near.with_suffix(".txt"), "--passes", "57000").status == 0
+    near.unlink()
+    done = ends(call("hear", heard, near.with_suffix(".txt")), Status.UNLIKE)
+    assert "more than one partial near 968.9 Hz" in done.out and re.search(r"^! (\S+|\S+ Hz): its peak is not that of one partial: two or more there can't be told apart in 2\.9\d s of sound$", done.out, re.M) and "968.9, " not in done.out, done
     shutil.copy(ROOT / "examples" / "belfry.txt", Path(folder, "belfry.txt"))
     done = ends(call("hear", heard, Path(folder, "belfry.txt")), Status.UNLIKE)
     assert done.out.startswith("! too short to measure") and "nominal" not in done.out and Path(folder, "belfry.png").exists(), done
@@ -53,4 +60,4 @@ def sides(folder, file, table):
     refused(run(*draw, file, "-o", other), Status.REFUSED, "no sound that can be read")
     refused(run("/usr/bin/python3", "-S", *draw[1:], sound, "-o", other), Status.MISSING, "numpy, scipy, matplotlib are needed")
     assert not other.exists()
-    return 6
+    return 7

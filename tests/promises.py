@@ -20,6 +20,7 @@ REACHABLE = {
     ("compare", "compare"): "compareOf",
     ("any_order", "any_order"): "anyOrderOf",
     ("parts", "parts"): "partsOf",
+    ("chain", "chain"): "chainOf",
     ("bench_file", "read"): "readOf",
     ("bench_gathering", "gather"): "gathered",
     ("bench_wave", "wave"): "waveOf",
@@ -34,6 +35,7 @@ REACHABLE = {
     ("karvelorn", "karvelorn_old_pass"): "passOf",
     ("karvelorn", "karvelorn_old_compare"): "compareOf",
     ("karvelorn", "karvelorn_old_parts"): "partsOf",
+    ("karvelorn", "karvelorn_chain"): "chainOf",
 }
 
 # Calls that read and write: what a program reads or writes has no contract in the language.
@@ -56,6 +58,9 @@ FORMS = (
     ("turn takes self and gives it back", "generator", r"pub fn turn\(mut self, [^)]*\) -> Generator"),
     ("the place in the quarter by arithmetic on its number", "sine", r"let backwards = \(k / 2048 % 2\) as usize;\s*j \^ \(2047 \* backwards\)\n\}"),
     ("the sine's sign by arithmetic on the quarter's number", "sine", r"\{\n\s*k / 2048 / 2\n\}"),
+    ("an entry's number by a function that calls itself once, for the entry before", "chain_numbers",
+     r"pub fn find\(entries: &\[u32\], names: &\[u32\], i: usize, numbers: &mut Numbers\) -> u32\n(?:    .*\n)*\{\n    if i == 0 \{[^}]*\}\n"
+     r"    let previous = i - 1;\n    let before = find\(entries, names, previous, numbers\);\n(?:(?!.*\bfind\()    .*\n)*\}"),
     ("decay takes self and gives it back", "generator", r"pub fn decay\(mut self, [^)]*\) -> Generator"),
 )
 

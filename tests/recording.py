@@ -1,6 +1,7 @@
 """From a recording to the table of its partials: bells made here, with noise 50 dB below the peak, the clapper's noise, a
 room's first echoes and a doublet, at 44.1 and 48 kHz, come back within 1 cent and 10 % of each T60, with their names and no
-other partial. Of partials 46 to 60 dB down in that noise none comes back wrong, and none above the printed level is missed.
+other partial. Of partials 46 to 60 dB down in that noise none comes back wrong, and none above the printed level is missed. In a hall
+and between far walls the echoes are waited out: what is in the table is within 1 cent and 10 %.
 Every common form of file is read alike; the mains' hum, clipping, a second stroke and bad files are told.
 
     /usr/bin/python3 tests/recording.py      (needs numpy and scipy, and soundfile for FLAC)
@@ -13,6 +14,7 @@ import tempfile
 from pathlib import Path
 
 import numpy as np
+from scipy import signal
 from scipy.io import wavfile
 
 from calls import ROOT, Status, ends, names, refused, run
@@ -22,7 +24,8 @@ import recording
 from recording_cases import wave_file, whole_numbers
 from table_reader import read_table
 
-BELLS, QUIET = 8, 6
+BELLS, QUIET, ROOMS = 8, 6, 4
+SURE_LEAST = 0.7  # of the partials in rooms at least so many are in the table
 SEVEN = (("hum", -6, 14), ("prime", -8, 7), ("tierce", -2, 6), ("quint", -18, 3), ("nominal", 0, 4), ("superquint", -6, 2.5), ("octave nominal", -10, 2))
 
 
@@ -102,6 +105,44 @@ def quiet():
     return faults, counts
 
 
+def hall(draw, sound, rate):
+    """A sound in a hall: an even tail that falls by 60 dB in 0.8 s, 8 dB below the sound itself."""
+    times = np.arange(int(1.2 * rate)) / rate
+    tail = np.random.default_rng(draw.randrange(2 ** 32)).normal(0, 1, len(times)) * np.exp(-6.9 * times / 0.8) * (times > 0.01)
+    tail *= 10 ** (-8 / 20) / np.sqrt((tail ** 2).sum())
+    tail[0] = 1.0
+    return signal.fftconvolve(sound, tail)[:len(sound)]
+
+
+def between_walls(draw, sound, rate):
+    """A sound with four echoes of far walls, 0.1 to 0.7 s late."""
+    heard = sound.copy()
+    for _ in range(4):
+        late = int(draw.uniform(0.1, 0.7) * rate)
+        heard[late:] += sound[:-late] * draw.uniform(0.05, 0.25) * draw.choice([-1, 1])
+    return heard
+
+
+def rooms():
+    """Bells in halls and between far walls: each partial in the table is right, no other is there, and most are in it."""
+    faults, counts = [], {"right": 0, "unsure": 0, "missed": 0}
+    for seed in range(ROOMS):
+        draw, rate = random.Random(f"room {seed}"), (44100, 48000)[seed % 2]
+        rows = rows_of(draw)
+        heard = (hall, between_walls)[seed // 2 % 2](draw, struck(draw, rows, rate, 6), rate)
+        found, _, _ = recording.measured(recorded(draw, heard, rate)[:, None], rate, measuring.RATIOS["just"], measuring.HIGHEST)
+        for word, hz, _, t60 in rows:
+            near = [p for p in found if abs(naming.cents(p.hz, hz)) < 8 and abs(p.hz - hz) < 0.3]
+            sure = [p for p in near if recording.told(p)]
+            right = [p for p in sure if abs(naming.cents(p.hz, hz)) < 1 and abs(p.t60 / t60 - 1) < 0.1]
+            counts["right" if right else "unsure" if near else "missed"] += 1
+            faults += [f"room {seed}: {word} {hz:.3f} Hz {t60:.2f} s: {p}" for p in sure if p not in right]
+        faults += [f"room {seed}: {p} is not there" for p in found if recording.told(p) and all(abs(p.hz - row[1]) > 0.3 for row in rows)]
+    if counts["right"] < SURE_LEAST * sum(counts.values()):
+        faults.append(f"in rooms only {counts}")
+    return faults, counts
+
+
 def forms(folder):
     """One sound in every form: the same table, within what the bits change."""
     draw = random.Random("forms")
@@ -172,9 +213,10 @@ def main():
         forms(folder)
         faults = bells(folder)
     more, counts = quiet()
-    faults += more
+    in_rooms, heard = rooms()
+    faults += more + in_rooms
     print("\n".join(faults))
-    print(f"{BELLS} recordings of {len(SEVEN) + 1} partials each, 6 forms of file, {said} calls that are told; of {6 * QUIET} partials 46 to 60 dB down {counts['right']} are right, {counts['unsure']} told to be unsure, {counts['missed']} below what is printed; {len(faults)} wrong")
+    print(f"{BELLS} recordings of {len(SEVEN) + 1} partials each, 6 forms of file, {said} calls that are told; of {6 * QUIET} partials 46 to 60 dB down {counts['right']} are right, {counts['unsure']} told to be unsure, {counts['missed']} below what is printed; of {8 * ROOMS} partials in {ROOMS} rooms {heard['right']} are right, {heard['unsure']} told to be unsure, {heard['missed']} missed; {len(faults)} wrong")
     sys.exit(1 if faults else 0)
 
 

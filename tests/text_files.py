@@ -41,7 +41,9 @@ def shown():
                 b"pass=1 left=0 right=0\npass=2 left=65520 right=0\n")
     yield known("shown, by 1978", NEW_LINE + b"passes=2\n" + TONE_1978,
                 b"pass=1 left=0 right=0\npass=2 left=131040 right=0\n")
-    for name, text in examples(OLD_TEXT).items():
+    texts = examples(OLD_TEXT)
+    assert "old_bell.txt" in texts, "the example is missing"
+    for name, text in texts.items():
         script = os.path.join(ROOT, "examples", name.replace(".txt", ".py"))
         written = subprocess.run([sys.executable, script], stdout=subprocess.PIPE, check=True).stdout
         assert written == text, f"{name} is not what its script writes"
@@ -49,6 +51,9 @@ def shown():
         lines = made.printed.count(b"\n")
         assert made.printed.count(b"left=0 ") < lines // 4, f"{name} is silent"
         assert made.printed.count(b"right=0\n") < 3 * lines // 4, f"{name} has no second stroke"
+        # Told in pass 1,400, the prime adds in 1,401, and its sum is fed in 1,402.
+        heard = [line for line in made.printed.splitlines() if not line.endswith(b" right=0")]
+        assert name != "old_bell.txt" or heard[0].startswith(b"pass=1402 "), f"{name} strikes elsewhere"
         yield made
 
 

@@ -218,7 +218,7 @@ def question_words(folder):
 
 def helps(_folder):
     """Each script and tool has -h, --help and --version; the help has each option, the exit statuses and an example."""
-    callers = [("./karvelorn",), ("./hear",), ("./run",), ("./compare",), ("./install",), ("./karvelorn", "partials"), ("./karvelorn", "measure"), ("./karvelorn", "hear"), (PYTHON, "tools/compared.py"), (PYTHON, "tools/rung.py"), (PYTHON, "tools/picture.py")]
+    callers = [("./karvelorn",), ("./hear",), ("./run",), ("./compare",), ("./install",), ("./karvelorn", "partials"), ("./karvelorn", "measure"), ("./karvelorn", "hear"), ("./karvelorn", "show"), ("./karvelorn", "same"), ("./karvelorn", "renumber"), ("./karvelorn", "cut"), ("./karvelorn", "drawer"), (PYTHON, "tools/compared.py"), (PYTHON, "tools/rung.py"), (PYTHON, "tools/picture.py")]
     for caller in callers:
         text = run(*caller, "--help")
         assert text.status == 0 and not text.err and run(*caller, "-h") == text, text
@@ -228,9 +228,9 @@ def helps(_folder):
     table = dict(re.findall(r"^\| (\d+) \| (.*) \|$", (ROOT / "README.md").read_text().split("| Exit status |")[1].split("\n\n")[0], flags=re.M))
     assert {int(number) for number in table} == set(map(int, statuses.Status)), table
     listed = run("./karvelorn", "--help").out
-    places = [listed.index(f" {name} ") for name in ("measure", "partials", "run", "hear", "compare")]
-    assert places == sorted(places) and listed.index("Monday") < listed.index("Wednesday") < listed.index("Thursday"), listed
-    assert run("./karvelorn", "--commands").out.split() == ["measure", "partials", "run", "hear", "compare"]
+    places = [listed.index(f" {name} ") for name in ("measure", "partials", "show", "same", "run", "hear", "cut", "compare", "renumber", "drawer")]
+    assert places == sorted(places) and listed.index("Monday") < listed.index("Tuesday") < listed.index("Wednesday") < listed.index("Thursday") < listed.index("Friday"), listed
+    assert run("./karvelorn", "--commands").out.split() == ["measure", "partials", "show", "same", "run", "hear", "cut", "compare", "renumber", "drawer"]
     refused(run("./karvelorn"), MISUSED, "no command")
     refused(run("./karvelorn", "ring"), MISUSED, "no such command: ring")
     assert "The gate: " in run(".ci/run", "--help").out and run(".ci/run", "-h").status == 0 and run(".ci/run", "--version").out == run("./hear", "--version").out
@@ -243,11 +243,11 @@ def completion(folder):
     Path(folder, "bell one.txt").write_text("")
     shutil.copy(ROOT / "tools" / "completion.bash", folder)
     ask = 'source ./completion.bash; COMP_WORDS=("$@"); COMP_CWORD=$(($# - 1)); _karvelorn; printf "%s\\n" "${COMPREPLY[@]}"'
-    for words, wanted in ((("",), {"measure", "partials", "run", "hear", "compare", "--help", "--version"}), (("he",), {"hear"}), (("partials", "--"), {"--help", "--version", "--passes", "--rate", "--seconds", "--gain"}),
-                          (("hear", "--no"), {"--no-picture"}), (("hear", "-o"), {"-o"}), (("hear", "bell"), {"bell one.txt"})):
+    for words, wanted in ((("",), {"measure", "partials", "show", "same", "run", "hear", "cut", "compare", "renumber", "drawer", "--help", "--version"}), (("he",), {"hear"}), (("partials", "--"), {"--help", "--version", "--passes", "--rate", "--seconds", "--gain", "--ratios", "--highest"}),
+                          (("show", "--g"), {"--graph"}), (("hear", "--no"), {"--no-picture"}), (("hear", "-o"), {"-o"}), (("hear", "bell"), {"bell one.txt"})):
         done = run("bash", "-c", ask, "bash", ROOT / "karvelorn", *words, cwd=folder)
         assert set(done.out.splitlines()) == wanted, (words, done)
-    return 6
+    return 7
 
 
 def places(folder):
@@ -298,7 +298,8 @@ def no_tracebacks(folder):
     """A closed pipe, a closed or full standard output, files that can't be read, a full disk: a line and a status."""
     at, long = Path(folder), Path(folder, "bell.txt")
     shutil.copy(BELL, long)
-    calls = (["./run", str(long)], ["./compare", str(long)], ["./karvelorn", "--help"], ["./karvelorn", "partials", str(TABLE_OF_BELL), "-o", str(at / "new.txt")], ["./run", "--help"], ["./install", "-h"])
+    (at / "rings.csv").write_text("ring,hum,prime,tierce,quint,nominal\n1,1,1,1,1,1\n")
+    calls = (["./run", str(long)], ["./compare", str(long)], ["./karvelorn", "--help"], ["./karvelorn", "partials", str(TABLE_OF_BELL), "-o", str(at / "new.txt")], ["./karvelorn", "cut", str(TABLE_OF_BELL), "--rings", str(at / "rings.csv")], ["./run", "--help"], ["./install", "-h"])
     for command in calls:
         with open("/dev/full", "w") as full:
             ends(run(*command, stdout=full), UNWRITTEN, "cannot write: No space left on device")
@@ -365,7 +366,18 @@ def interrupted(folder):
     out, told = process.communicate(timeout=20)
     assert (process.returncode, out, told) == (Status.INTERRUPTED, "", "hear: interrupted\n"), (process.returncode, told)
     assert names(folder) == ["bell.txt", "bell.wav"], names(folder)
-    return 3
+    return 3 + while_starting()
+
+
+def while_starting():
+    """Ctrl-C while Python is still starting, at 24 moments of it: no traceback."""
+    for moment in range(24):
+        process = subprocess.Popen([str(ROOT / "run"), str(SHORT)], stdout=subprocess.DEVNULL, stderr=subprocess.PIPE, text=True, start_new_session=True, preexec_fn=heeding)
+        time.sleep(0.003 * moment)
+        os.killpg(process.pid, signal.SIGINT)
+        told = process.communicate(timeout=20)[1]
+        assert (process.returncode, told) in ((-signal.SIGINT, ""), (Status.INTERRUPTED, "run: interrupted\n")), (moment, process.returncode, told)
+    return 24
 
 
 GROUPS = (tables, channels_and_clipping, example, outputs, older, recordings, bells, unlike_tables, without_libraries, question_words, helps, completion, places, no_tracebacks, without_rights, interrupted, building)

@@ -26,6 +26,12 @@ SURE, SURE_BESIDE = 3.0, 8.0  # so many standard deviations wide; beside another
 LASTING = 0.005  # what falls by less than e to this does not decay
 DAMPED = 0.03  # a damping is judged by so many seconds before and after it
 HEARD_T60, HEARD_MARGIN = 2.0, 3.0  # a partial of such a T60 is found if it is so many dB above where it stands out of what is left
+SETTLING, SETTLING_MOST, UNSETTLED = 0.05, 0.4, 0.01  # whether echoes still come in is judged by frames of so many seconds, in so much of the sound, by so much of its amplitude
+SETTLING_LEAST_HZ, SETTLING_ABOVE, SETTLING_SECONDS = 500.0, 1.2, 3.0  # up to that, or to so many times the loudest peak, in so much of the sound
+# What is left around the peak of one partial is at most so many dB of it: in a sound of this machine, by how many dB the partial
+# falls within it, and in a recording. Where it is more, and so much more than farther off, the peak is that of two or more.
+LEFT_OF_ONE, LEFT_OF_ONE_RECORDED = ((20.0, -74.0), (45.0, -68.0), (math.inf, -57.0)), ((math.inf, -40.0),)
+LEFT_ABOVE, LEFT_OF_LOUDEST = 12.0, -75.0  # and more than this of the loudest peak, beside which the steps of others are small
 NOISE_PEAK = math.sqrt(3)  # even noise has so many times its root mean square as its peak
 
 
@@ -39,6 +45,7 @@ class Partial:
     unsure: set = field(default_factory=set)  # which of hz, db and t60 the sound doesn't tell
     spread: float = 0.0  # how many Hz its frequency may be off
     near: list = field(default_factory=list)  # the partials, or the table's rows, from which it can't be told apart
+    several: bool = False  # its peak is not that of one partial
     name: str = ""
     cents: float = math.nan  # off the just ratio of its name
     row: object = None  # the table's row that names it
@@ -55,6 +62,7 @@ class Measured:
     heard: float = -math.inf  # in dB: a partial with a T60 of HEARD_T60 that is below may be missed
     noise: tuple = ()  # level and T60
     softer: bool = False  # it is no stroke but what is left after a damping
+    highest: float = math.inf  # what is above so many Hz was not looked at
 
     @property
     def short(self):
@@ -120,7 +128,20 @@ def overlap(p, other, seconds):
     return other is not p and abs(p.hz - other.hz) < 3 / seconds + 3 / p.t60 + 3 / other.t60
 
 
-def partials_of(fit, lead, decay):
+def is_several(fit, i, left_of_one):
+    """Whether the peak of a damped sine is not that of one: it leaves too much around its frequency."""
+    place, reach = fit.places()[i], max(3.0, 2 * fit.widths()[i])
+    inside = slice(max(1, int(place - reach)), int(place + reach) + 2)
+    around = [fit.left[max(1, int(place - 8 * reach)):max(1, int(place - 2 * reach))], fit.left[int(place + 2 * reach):int(place + 8 * reach)]]
+    own = fit.amplitudes[i] / 2 * damped.response(fit.exponents[i], fit.turns[inside], fit.count)
+    left, usual = energy(fit.left[inside]) / len(own), np.median(np.abs(np.concatenate(around)) ** 2) / math.log(2)
+    falls = -20 / math.log(10) * fit.exponents[i].real * fit.count
+    most = next(most for below, most in left_of_one if falls < below)
+    loudest = damped.heights(fit).max() ** 2
+    return bool(left > 10 ** (most / 10) * energy(own) / len(own) and left > 10 ** (LEFT_ABOVE / 10) * usual and left > 10 ** (LEFT_OF_LOUDEST / 10) * loudest)
+
+
+def partials_of(fit, lead, decay, left_of_one):
     """The partials of a fit, with what can't be told of each: a decay is told within such a part of it."""
     chosen, db = listed(fit, lead)
     off_exponents, off_amplitudes = damped.spreads(fit)
@@ -128,18 +149,21 @@ def partials_of(fit, lead, decay):
     lasting = decays * fit.seconds < LASTING
     found = [Partial(fit.exponents[i].imag * fit.rate / (2 * np.pi), float(db[i]), math.inf if lasting[i] else damped.DECAY_TO_T60 / decays[i]) for i in chosen]
     for i, p in zip(chosen, found):
-        sure = SURE_BESIDE if any(overlap(p, other, fit.seconds) for other in found) else SURE
+        beside = any(overlap(p, other, fit.seconds) for other in found)
+        sure = SURE_BESIDE if beside else SURE
         off = sure * off_exponents[i] * fit.rate
         unsure = {"hz": off > 2 * math.pi * within(p.hz), "db": sure * off_amplitudes[i] > 10 ** (LEVEL / 20) - 1, "t60": off > decay * decays[i] and not lasting[i]}
         p.unsure, p.spread = {what for what, is_unsure in unsure.items() if is_unsure}, off / (2 * math.pi)
+        p.several = not beside and is_several(fit, i, left_of_one)
+        p.unsure |= set(unsure) if p.several else set()
     mark_near(found, fit.seconds)
     return found
 
 
 def mark_near(found, seconds):
-    """Marks the partials that can't be told apart: nearer than a beat of the sound, or unsure with peaks that overlap."""
+    """Marks the partials that can't be told apart: nearer than a beat of the sound, or with peaks that overlap of which both are unsure, or the louder one is."""
     for p in found:
-        p.near = [other for other in found if other is not p and (abs(p.hz - other.hz) * seconds < BEAT or (p.unsure and other.unsure and overlap(p, other, seconds)))]
+        p.near = [other for other in found if other is not p and (abs(p.hz - other.hz) * seconds < BEAT or (overlap(p, other, seconds) and other.unsure and (p.unsure or p.db < other.db)))]
 
 
 def joined(left, right):
@@ -176,6 +200,20 @@ def heard_from(fit, lead):
     return max(stands_out, loudest - SPAN, QUIETEST)
 
 
+def settles(sound, rate, before):
+    """The second from which on what partials leave of a sound, after so many samples of it, stays small: it has come down to what it stays at, or to a part of the sound. Judged up to a little above the loudest peak."""
+    hz, level = spectrum(sound, rate)
+    top = max(SETTLING_LEAST_HZ, SETTLING_ABOVE * hz[np.argmax(np.where(hz > damped.LOWEST, level, -math.inf))])
+    fewer = max(1, int(rate / (2.5 * top)))
+    slow = signal.resample_poly(sound, 1, fewer) if fewer > 1 else sound
+    fit = damped.explained(slow[before // fewer:], rate / fewer)
+    size = int(SETTLING * fit.rate)
+    left, level = (strokes.frame_levels(np.fft.irfft(bins, fit.count)[:, None], size) for bins in (fit.left, fit.bins))
+    most = int(SETTLING_MOST * len(left))
+    loud = left[:most] > np.maximum(2 * np.median(left[len(left) // 3:]), UNSETTLED * level[:most]) if most else np.zeros(0, bool)
+    return float((np.flatnonzero(loud)[-1] + 1) * SETTLING) if loud.any() else 0.0
+
+
 def noise_of(sound, fit, lead, rate):
     """Level and T60 of the noise before a fit's sound begins, so many samples long: what its partials don't explain there."""
     chosen = listed(fit, lead)[0]
@@ -186,16 +224,16 @@ def noise_of(sound, fit, lead, rate):
     return 20 / math.log(10) * start + 20 * math.log10(NOISE_PEAK), damped.DECAY_TO_T60 / -fall if fall < 0 else math.inf
 
 
-def measure_stroke(channels, rate, stroke, highest=math.inf, decay=DECAY):
-    """A stroke's partials up to so many Hz, of each channel by itself, and what they leave; decays are told within such a part."""
-    done = Measured(stroke.begin / rate, stroke.clear / rate, stroke.end / rate)
+def measure_stroke(channels, rate, stroke, highest=math.inf, decay=DECAY, left_of_one=LEFT_OF_ONE):
+    """A stroke's partials up to so many Hz, of each channel by itself, and what they leave; decays are told within such a part, and what one partial leaves is at most so much."""
+    done = Measured(stroke.begin / rate, stroke.clear / rate, stroke.end / rate, highest=highest)
     if done.short:
         return done
     lead, sides, left, whole = stroke.clear - stroke.begin, [], 0.0, 0.0
     same = all(np.array_equal(channels[:, 0], channels[:, side]) for side in range(channels.shape[1]))
     for side in range(1 if same else 2):
         fit = damped.explained(channels[stroke.clear:stroke.end, side], rate, highest)
-        sides.append(partials_of(fit, lead, decay))
+        sides.append(partials_of(fit, lead, decay, left_of_one))
         done.heard = max(done.heard, heard_from(fit, lead))
         left, whole = left + left_by(fit, lead), whole + energy(fit.bins)
         if lead and not done.noise:

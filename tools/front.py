@@ -5,23 +5,25 @@ A command is a line of COMMANDS: its day, its name, its module here (with a func
 does. --help lists them in the order of the week of a bench file; bash completion asks for them.
 """
 
-import signal
+import interrupts  # noqa: F401  (first)
 
-if signal.getsignal(signal.SIGINT) != signal.SIG_IGN:
-    signal.signal(signal.SIGINT, signal.SIG_DFL)  # until there is something to clear away
+import importlib
+import sys
 
-import importlib  # noqa: E402
-import sys  # noqa: E402
-
-from command_line import Ending, Status, ended, finish, say, version  # noqa: E402
-from statuses import table  # noqa: E402
+from command_line import Ending, Status, ended, finish, say, version
+from statuses import table
 
 COMMANDS = (
     ("Monday", "measure", "measuring", "a recording becomes a table of its partials"),
-    ("Monday", "partials", "partials", "a table of measured partials becomes a bench file"),
+    ("Monday", "partials", "partials", "a table of measured partials becomes a bench file (and a recording a table, as by measure)"),
+    ("Tuesday", "show", "shown", "a bench file in words, with what looks wrong, and as a graph"),
+    ("Tuesday", "same", "sameness", "is a bench file still the bell of its table?"),
     ("Wednesday", "run", "rung", "a bench file is rung pass by pass: a line for each"),
     ("Wednesday", "hear", "heard", "a bench file is heard and seen: its sound, its picture and its partials"),
+    ("Wednesday", "cut", "cutting", "what a cut at each ring makes of a bell, by the foundry's table of rings"),
     ("Thursday", "compare", "compared", "is it the same bell with its generators in another order?"),
+    ("Thursday", "renumber", "renumbered", "the generators moved to other numbers, in a bench file that rings the same"),
+    ("Friday", "drawer", "drawers", "what was decided is kept in a folder with a page, and can be checked bit for bit"),
 )
 MODULES = {name: module for _, name, module, _ in COMMANDS}
 
@@ -37,7 +39,7 @@ def help_lines():
         yield f"  {on if on != day else '':10} {name:10} {does}"
         day = on
     yield from ("", "options:", "  -h, --help  this list", "  --version   print the version and end", "  --commands  the names of the commands alone, a line each",
-                "", "example:", "  karvelorn measure bell.flac -o bell.csv; karvelorn partials bell.csv -o bell.txt && karvelorn hear bell.txt && karvelorn compare bell.txt", "", "exit status:")
+                "", "example:", "  karvelorn partials bell.flac -o bell.csv; karvelorn partials bell.csv -o bell.txt && karvelorn hear bell.txt && karvelorn compare bell.txt", "", "exit status:")
     yield from table()
 
 

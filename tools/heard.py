@@ -13,9 +13,11 @@ import re
 import subprocess
 import sys
 import tempfile
+from argparse import ArgumentTypeError
 from contextlib import suppress
 from typing import NamedTuple
 
+import longer
 import questions
 import sounds
 from building import built
@@ -36,6 +38,7 @@ class Files(NamedTuple):
     table: str
     sound: str
     picture: str
+    other_rate: str
 
 
 def parser():
@@ -47,7 +50,25 @@ def parser():
     asked.add_argument("-o", dest="output", metavar="SOUND", help="the sound (NAME.wav where this isn't asked); the picture goes beside it")
     asked.add_argument("--table", metavar="CSV", help="a table of partials that gives them their names (NAME.csv beside FILE, where there is one)")
     asked.add_argument("--no-picture", action="store_true", help="only the sound, for which no library is needed")
+    asked.add_argument("--seconds", metavar="S", type=seconds_asked, help=f"the sound lasts so long, up to {longer.SECONDS_MOST:g}: beyond the file's passes the machine rings on through the library, for which gcc is needed once")
+    asked.add_argument("--rate", metavar="HZ", type=rate_asked, help="beside the exact sound one at 44100 or 48000 Hz, NAME.HZ.wav, by scipy's resample_poly; needs numpy and scipy")
+    asked.add_argument("--play", action="store_true", help="hand the sound to a player that is there: aplay, paplay or play")
     return asked
+
+
+def seconds_asked(text):
+    """A length on the command line."""
+    seconds = float(text)
+    if not 0 < seconds <= longer.SECONDS_MOST:
+        raise ArgumentTypeError(f"a sound lasts up to {longer.SECONDS_MOST:g} s: {text}")
+    return seconds
+
+
+def rate_asked(text):
+    """Another rate on the command line."""
+    if text not in map(str, longer.RATES):
+        raise ArgumentTypeError(f"another rate is {' or '.join(map(str, longer.RATES))} Hz: {text}")
+    return int(text)
 
 
 def head_of(file, base):
@@ -67,27 +88,35 @@ def files_of(asked):
         raise Ending("name a file: the results are written beside it", Status.MISUSED)
     base = os.path.splitext(asked.output or file)[0]
     recording = sounds.is_sound(head_of(file, base))
-    if recording and (asked.no_picture or asked.output):
+    if recording and (asked.no_picture or asked.output or asked.seconds or asked.rate):
         raise Ending(f"{file} is a sound already: only its picture is made", Status.MISUSED)
     beside = os.path.splitext(file)[0] + ".csv"
     table = asked.table or (beside if os.path.isfile(beside) else None)
     if asked.table:
         read_file(asked.table, 1)
-    files = Files(file, table, None if recording else asked.output or base + ".wav", base + ".png")
+    files = Files(file, table, None if recording else asked.output or base + ".wav", base + ".png", f"{base}.{asked.rate}.wav" if asked.rate else None)
     if files.sound and same_file(files.sound, files.picture):
         raise Ending(f"{files.sound} can't be the sound: the picture goes there", Status.MISUSED)
-    for output in filter(None, (files.sound, files.picture)):
+    if files.other_rate and same_file(files.sound, files.other_rate):
+        raise Ending(f"{files.sound} can't be the sound: that at {asked.rate} Hz goes there", Status.MISUSED)
+    for output in filter(None, (files.sound, files.picture, files.other_rate)):
         destination(output, [given for given in (file, table) if given])
     return files
 
 
 # Sound
 
-def sound_of(file):
-    """The sound of a bench file: the bytes of a WAVE file, whole."""
+def sound_of(file, seconds=None):
+    """The sound of a bench file: the bytes of a WAVE file, whole; for so many seconds, where that is asked."""
     text = read_file(file, questions.FILE_MOST + 1)
-    program, = built("hear", "wav")
-    tell("hear", f"ringing {file}")
+    sound = sound_of_text("hear", file, text)
+    return sound if seconds is None else longer.rung_on("hear", file, text, sound, seconds)
+
+
+def sound_of_text(command, file, text):
+    """The same of a bench file's text, for a command."""
+    program, = built(command, "wav")
+    tell(command, f"ringing {file}")
     try:
         done = subprocess.run([program], input=text, stdout=subprocess.PIPE, stderr=subprocess.PIPE)
     except OSError as error:
@@ -112,28 +141,39 @@ def need_table(table):
         raise Ending(f"no picture was made: {table}: {ending}", ending.status) from None
 
 
-def seen(files):
-    """Measures and draws a sound; prints its partials and writes the picture. Answers whether all agrees, as a status."""
+def drawn(command, sound, table):
+    """A sound measured and drawn: the picture's bytes, what is printed of it, the status with which that ended and what was told."""
     need_libraries(LIBRARIES, "no picture was made")
-    if files.table:
-        need_table(files.table)
-    tell("hear", "measuring and drawing")
+    if table:
+        need_table(table)
+    tell(command, "measuring and drawing")
     with tempfile.TemporaryDirectory(prefix="karvelorn-") as folder:
-        picture, table = os.path.join(folder, "picture.png"), ["--table", files.table] if files.table else []
-        done = subprocess.run([sys.executable, str(HOME / "tools" / "picture.py"), files.sound or files.file, "-o", picture, *table], stdin=subprocess.DEVNULL, stdout=subprocess.PIPE, stderr=subprocess.PIPE,
+        picture, named = os.path.join(folder, "picture.png"), ["--table", table] if table else []
+        done = subprocess.run([sys.executable, str(HOME / "tools" / "picture.py"), sound, "-o", picture, *named], stdin=subprocess.DEVNULL, stdout=subprocess.PIPE, stderr=subprocess.PIPE,
                               env={**os.environ, "TMPDIR": folder, "PYTHONIOENCODING": "utf-8", "PYTHONDONTWRITEBYTECODE": "1"})
         told = done.stderr.decode(errors="replace").strip()
-        drawn = read_file(picture) if os.path.isfile(picture) else b""
-    if drawn:
-        write_whole({files.picture: drawn}, [files.file])
+        data = read_file(picture) if os.path.isfile(picture) else b""
+    return data, done.stdout.decode(errors="replace"), done.returncode, told
+
+
+def judged(command, picture, status, told):
+    """The status of what was measured and drawn; raised where that wasn't whole."""
+    if not picture or status not in (Status.DONE, Status.UNLIKE):
+        raise undrawn(status, told)
+    if told:
+        tell(command, told.removeprefix("picture: "))
+    return Status(status)
+
+
+def seen(files):
+    """Measures and draws a sound; prints its partials and writes the picture. Answers whether all agrees, as a status."""
+    picture, lines, status, told = drawn("hear", files.sound or files.file, files.table)
+    if picture:
+        write_whole({files.picture: picture}, [files.file])
         tell("hear", f"wrote {files.picture}")
-    if done.stdout:
-        say(done.stdout.decode(errors="replace"), end="")
-    if drawn and done.returncode in (Status.DONE, Status.UNLIKE):
-        if told:
-            tell("hear", told.removeprefix("picture: "))
-        return Status(done.returncode)
-    raise undrawn(done.returncode, told)
+    if lines:
+        say(lines, end="")
+    return judged("hear", picture, status, told)
 
 
 def undrawn(status, told):
@@ -145,16 +185,24 @@ def undrawn(status, told):
 
 # Older files
 
-def kept(asides):
+def kept(asides, command="hear"):
     """What hear had made before goes where a new one has taken its place; all else stays under its other name, and is told."""
     for path, aside in asides.items():
         if not os.path.exists(path):
-            tell("hear", f"{path} was there from before and is not of this ringing: it is now {os.path.basename(aside)}")
-        elif made_here(aside):
+            tell(command, f"{path} was there from before and is not of this ringing: it is now {os.path.basename(aside)}")
+        elif made_here(aside) or same_bytes(aside, path):
             with suppress(FileNotFoundError):
                 os.unlink(aside)
         elif os.path.exists(aside):
-            tell("hear", f"what was {path} was not made by hear: it is kept as {os.path.basename(aside)}")
+            tell(command, f"what was {path} was not made by {command}: it is kept as {os.path.basename(aside)}")
+
+
+def same_bytes(one, other):
+    """Whether two files have the same bytes."""
+    try:
+        return read_file(one) == read_file(other)
+    except Ending:
+        return False
 
 
 def set_older_aside(outputs):
@@ -162,17 +210,32 @@ def set_older_aside(outputs):
     return {path: aside for path in outputs if (aside := set_aside(path))}
 
 
+def written(files, asked):
+    """Makes and writes the sounds."""
+    if asked.rate:
+        need_libraries(("numpy", "scipy"), f"no sound at {asked.rate} Hz was made")
+    sound = sound_of(files.file, asked.seconds)
+    write_whole({files.sound: sound}, [files.file])
+    tell("hear", f"wrote {files.sound}")
+    if files.other_rate:
+        other, lowered = longer.resampled(sound, asked.rate)
+        write_whole({files.other_rate: other}, [files.file])
+        tell("hear", f"wrote {files.other_rate}{f', lowered by {lowered:.2f} dB so that it fits' if lowered else ''}")
+
+
 def main(arguments):
     asked = parser().parse_args(arguments)
     files = files_of(asked)
-    asides = set_older_aside(filter(None, (files.sound, files.picture)))
+    asides = set_older_aside(filter(None, (files.sound, files.picture, files.other_rate)))
     try:
         if files.sound:
-            write_whole({files.sound: sound_of(files.file)}, [files.file])
-            tell("hear", f"wrote {files.sound}")
-        return Status.DONE if asked.no_picture else seen(files)
+            written(files, asked)
+        status = Status.DONE if asked.no_picture else seen(files)
     finally:
         kept(asides)
+    if asked.play:
+        longer.play("hear", files.other_rate or files.sound or files.file)
+    return status
 
 
 if __name__ == "__main__":

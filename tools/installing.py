@@ -7,11 +7,16 @@ On everybody's path comes one name, bin/karvelorn. Programs and tools stand unde
 of what was put where; by that list they are taken away.
 """
 
+import interrupts  # noqa: F401  (first)
+
+import json
 import os
 
 from building import LIBRARY, LIBRARY_CRATE, PROGRAMS, built, made
 from command_line import HOME, Ending, Parser, Status, start, tell, version
 from outputs import temporary_beside
+import longer
+import versions
 
 OWN = "libexec/karvelorn"
 LIST = f"{OWN}/LIST"
@@ -38,6 +43,9 @@ def contents(prefix):
     yield "bin/karvelorn", (HOME / "karvelorn").read_bytes(), True
     for program in PROGRAMS:
         yield f"{OWN}/programs/{program}", made(program).read_bytes(), True
+    if longer.PROGRAM.exists():
+        yield f"{OWN}/programs/{longer.PROGRAM.name}", longer.PROGRAM.read_bytes(), True
+    yield f"{OWN}/{versions.BUILD}", json.dumps(versions.versions(), indent=1).encode(), False
     yield f"{OWN}/VERSION", (HOME / "VERSION").read_bytes(), False
     for folder in ("tools", "reference"):
         for path in sorted((HOME / folder).glob("*.py")):
@@ -134,6 +142,10 @@ def main(arguments):
     root = os.environ.get("DESTDIR", "") + prefix
     if not away:
         built("install", *PROGRAMS, LIBRARY_CRATE)
+        try:
+            longer.host("install")
+        except Ending as ending:
+            tell("install", f"without what rings on after a bench file's passes: {ending}")
         tell("install", f"putting programs, tools, library and header under {root}")
     try:
         count = uninstall(root) if away else install(root, prefix)

@@ -14,37 +14,9 @@ import os
 from command_line import Ending, Parser, Status, need_libraries, read_file, say, start, tell
 from outputs import destination, set_aside, write_whole
 from partials import positive, unlike
-from table_reader import decoded
+from ratios import RATIOS, ratios_of
 
-HIGHEST = 8000.0  # what is above so many Hz is not looked at
-RATIO_MOST = 100.0
-RATIOS = {
-    "just": {"hum": 1 / 2, "prime": 1.0, "tierce": 6 / 5, "quint": 3 / 2, "nominal": 2.0, "superquint": 3.0, "octave nominal": 4.0},
-    "tempered": {"hum": 1 / 2, "prime": 1.0, "tierce": 2 ** (3 / 12), "quint": 2 ** (7 / 12), "nominal": 2.0, "superquint": 2 ** (19 / 12), "octave nominal": 4.0},
-}
-
-
-def own_ratios(path):
-    """Ratios from a file of lines `name,ratio`."""
-    ratios = {}
-    try:
-        lines = decoded(read_file(path)).splitlines()
-    except Ending as ending:
-        raise ending if ending.status == Status.UNREAD else Ending(f"{path}: {ending}") from None
-    for number, line in enumerate(lines, 1):
-        if not line.strip() or line.startswith("#"):
-            continue
-        name, _, text = (part.strip() for part in line.partition(","))
-        try:
-            ratio = float(text)
-        except ValueError:
-            ratio = 0.0
-        if not name.isprintable() or not name or name in ratios or name[0] in "\"#" or not 0 < ratio < RATIO_MOST:
-            raise Ending(f"{path}: line {number}: a line must be name,ratio, each name once and a ratio above 0 and below {RATIO_MOST:g}: {line!r}")
-        ratios[name] = ratio
-    if not ratios:
-        raise Ending(f"{path} has no line name,ratio")
-    return ratios
+HIGHEST = 8000.0  # what is above so many Hz is not looked at (recording.py has it too, for hear)
 
 
 def table_of(asked):
@@ -52,7 +24,7 @@ def table_of(asked):
     need_libraries(("numpy", "scipy"), "no table was made")
     import analysis
     import recording
-    ratios = RATIOS[asked.ratios] if asked.ratios in RATIOS else own_ratios(asked.ratios)
+    ratios = ratios_of(asked.ratios)
     rate, channels = analysis.read_sound(asked.recording)
     tell("measure", f"measuring {asked.recording}")
     try:

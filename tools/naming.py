@@ -8,16 +8,12 @@ import numpy as np
 from scipy import optimize
 
 import analysis
+from ratios import BEATING, cents
 
 NAMES = {"hum": 0.5, "prime": 1.0, "tierce": 1.2, "quint": 1.5, "nominal": 2.0}
 ROW_CENTS, ROW_HERTZ = 2.0, 0.2  # a row names a peak within so many cents, or so many Hz where that is more
 RATIO_CENTS = 80.0  # a just ratio names a peak within so many cents
 RESIDUAL, RECORDED_RESIDUAL = -40.0, -20.0  # more than this, in dB of the sound or of a recording, may not be left unexplained: noise 50 dB below the peak leaves about -30
-BEATING = 10.0  # two partials so many Hz apart beat
-
-
-def cents(hz, other):
-    return 1200 * math.log2(hz / other)
 
 
 def reach(hz):
@@ -145,6 +141,8 @@ def not_told(stroke):
             if tuple(names) not in said:
                 said.add(tuple(names))
                 yield f"{' and '.join(names)} can't be told apart in {seconds:.2f} s of sound"
+        elif p.several:
+            yield f"{called(p)}: its peak is not that of one partial: two or more there can't be told apart in {seconds:.2f} s of sound"
         elif p.unsure:
             what = {"hz": "frequency", "db": "level", "t60": "decay"}
             yield f"{called(p)}: {' and '.join(what[u] for u in what if u in p.unsure)} can't be told in {seconds:.2f} s of sound"

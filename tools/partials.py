@@ -1,7 +1,9 @@
 #!/usr/bin/env python3
-"""From a table of partials to a bench file, with a report of what the registers make of each.
+"""From a table of partials to a bench file, with a report of what the registers make of each. (Of a recording: to the table, as
+`karvelorn measure` does.)
 
     karvelorn partials TABLE -o FILE [--rate HZ | --seconds S] [--passes N] [--gain DB]
+    karvelorn partials RECORDING -o TABLE.csv [--ratios R] [--highest HZ]
 
 TABLE has a line `name,hz,db,t60` or `name,hz,db,t60,channel` and then one for each partial: its name, its frequency in
 Hz, its level in dB (0 is the most that one generator gives), the time in seconds in which it falls by 60 dB, and `left`,
@@ -20,6 +22,7 @@ import os
 from command_line import Ending, Parser, Status, read_file, say, start, tell
 from outputs import destination, made_here, same_file, set_aside, write_whole
 from reference import layout
+from sounds import is_sound
 from table_reader import QUIET, read_table
 
 Wrong = Ending  # what is wrong with a table or with what is asked for
@@ -229,7 +232,11 @@ def report_beside(file):
 
 def make(table, passes=MOST_PASSES, rate=None, seconds=None, gain=None):
     """The bench file of a table, and the report's lines; its rows, with their registers, and N and the gain."""
-    rows = read_table(table)
+    return make_of_rows(read_table(table), passes, rate, seconds, gain)
+
+
+def make_of_rows(rows, passes=MOST_PASSES, rate=None, seconds=None, gain=None):
+    """The same of a table's rows."""
     if not 1 <= passes <= MOST_PASSES:
         raise Wrong(f"a bell has 1 to {MOST_PASSES} passes: {passes}", Status.MISUSED)
     n = ticks(rate, seconds, passes)
@@ -259,15 +266,37 @@ def level(text):
 def parser():
     """What may be asked."""
     asked = Parser("partials", "Makes a bench file of a table of measured partials: each becomes a generator. The report says what the registers make of each, what\n"
-                   "clips and what they can't reach; it is printed and stands beside the bench file (NAME.report).",
-                   "karvelorn partials bell.csv -o bell.txt --seconds 6")
-    asked.add_argument("table", metavar="TABLE", help="lines name,hz,db,t60[,channel], as a spreadsheet writes them or by hand")
-    asked.add_argument("-o", dest="file", metavar="FILE", required=True, help="the bench file")
+                   "clips and what they can't reach; it is printed and stands beside the bench file (NAME.report). Of a recording (WAVE or FLAC, told by its\n"
+                   "first bytes) it makes the table, as karvelorn measure does.",
+                   "karvelorn partials recording.flac -o bell.csv\nkarvelorn partials bell.csv -o bell.txt --seconds 6")
+    asked.add_argument("table", metavar="TABLE", help="lines name,hz,db,t60[,channel], as a spreadsheet writes them or by hand; or a recording")
+    asked.add_argument("-o", dest="file", metavar="FILE", required=True, help="the bench file; of a recording the table, NAME.csv")
     asked.add_argument("--passes", metavar="N", type=int, default=MOST_PASSES, help=f"how many passes, 1 to {MOST_PASSES} (so many where this isn't asked)")
     asked.add_argument("--rate", metavar="HZ", type=positive, help="about so many passes a second")
     asked.add_argument("--seconds", metavar="S", type=positive, help="the passes last about so long")
     asked.add_argument("--gain", metavar="DB", type=level, help=f"added to all levels, {-QUIET} to {QUIET}; without it levels are lowered until nothing clips")
+    asked.add_argument("--ratios", metavar="R", help="of a recording: names by ratios to the prime: just, tempered, or a file of lines name,ratio (just where this isn't asked)")
+    asked.add_argument("--highest", metavar="HZ", type=positive, help="of a recording: what is above isn't looked at")
     return asked
+
+
+def is_recording(path):
+    """Whether a file that is there begins as sounds do."""
+    try:
+        return path != "-" and os.path.isfile(path) and is_sound(read_file(path, 4))
+    except Ending:
+        return False
+
+
+def of_recording(asked):
+    """The table of a recording, as `measure` makes it."""
+    import measuring
+    if asked.rate or asked.seconds or asked.gain or asked.passes != MOST_PASSES:
+        raise Ending(f"{asked.table} is a recording, of which a table is made: --passes, --rate, --seconds and --gain are for a table, of which a bench file is made", Status.MISUSED)
+    if not asked.file.lower().endswith(".csv"):
+        raise Ending(f"{asked.table} is a recording, of which a table is made: name it NAME.csv, not {asked.file}", Status.MISUSED)
+    more = [("--ratios", asked.ratios), ("--highest", asked.highest)]
+    return measuring.main([asked.table, "-o", asked.file, *(str(word) for name, value in more if value is not None for word in (name, value))])
 
 
 def beside(file, ending):
@@ -296,6 +325,10 @@ def unlike(file, text):
 
 def main(arguments):
     asked = parser().parse_args(arguments)
+    if is_recording(asked.table):
+        return of_recording(asked)
+    if asked.ratios is not None or asked.highest is not None:
+        raise Ending(f"--ratios and --highest are for a recording, and {asked.table} is none", Status.MISUSED)
     report_at = report_beside(asked.file)
     if same_file(report_at, asked.file) or same_file(report_at, asked.table):
         raise Ending(f"{report_at} can't be the table or the bench file: the report goes there", Status.MISUSED)

@@ -28,6 +28,7 @@ import numpy as np  # noqa: E402
 
 import analysis  # noqa: E402
 import naming  # noqa: E402
+import recording  # noqa: E402
 from outputs import destination, made_here, write_whole  # noqa: E402
 from table_reader import read_table  # noqa: E402
 
@@ -37,20 +38,23 @@ MARK = "crimson"
 
 def lines_of(stroke):
     """The table of a stroke's partials as text."""
-    yield "partial       Hz       cents off just     dB  channel  T60 in s"
+    wide = max([10, *(len(p.name) for p in stroke.partials)])
+    yield f"{'partial':{wide}}    Hz       cents off just     dB  channel  T60 in s"
     for p in stroke.partials:
         if p.near:
-            yield f"{p.name or '-':10} {'?':>9}  {'':14} {'?':>7}  {p.channel:7}  {'?':>8}  can't be told apart from {' and '.join(naming.called(q) for q in p.near)}"
+            yield f"{p.name or '-':{wide}} {'?':>9}  {'':14} {'?':>7}  {p.channel:7}  {'?':>8}  can't be told apart from {' and '.join(naming.called(q) for q in p.near)}"
             continue
         hz, db, t60 = ("?" if what in p.unsure else text for what, text in (("hz", f"{p.hz:.3f}"), ("db", f"{p.db:.1f}"), ("t60", f"{p.t60:.2f}" if p.t60 < math.inf else "none")))
         off = "" if math.isnan(p.cents) else f"{round(p.cents, 1) + 0.0:+8.1f}"
         other = naming.beat_of(p, stroke.partials)
         beat = f"  beat of {other.hz - p.hz:.2f} Hz with {naming.called(other)}" if other and not other.near and not ({"hz"} & (p.unsure | other.unsure)) else ""
-        yield f"{p.name or '-':10} {hz:>9}  {off:>14} {db:>7}  {p.channel:7}  {t60:>8}{beat}"
+        beat = f"  more than one partial near {p.hz:.1f} Hz" if p.several else beat
+        yield f"{p.name or '-':{wide}} {hz:>9}  {off:>14} {db:>7}  {p.channel:7}  {t60:>8}{beat}"
     if stroke.noise:
-        yield f"{'noise':10} {'':9}  {'':14} {stroke.noise[0]:7.1f}  {'':7}  {stroke.noise[1]:8.2f}  until {stroke.clear - stroke.begin:.3f} s"
-    after = f" after {stroke.clear - stroke.begin:.3f} s" if stroke.noise else ""
-    yield f"unexplained: {stroke.residual:.1f} dB of the sound{after}"
+        yield f"{'noise':{wide}} {'':9}  {'':14} {stroke.noise[0]:7.1f}  {'':7}  {stroke.noise[1]:8.2f}  until {stroke.clear - stroke.begin:.3f} s"
+    after = f" after {stroke.clear - stroke.begin:.3f} s" if stroke.clear > stroke.begin else ""
+    below = f" below {stroke.highest:g} Hz" if stroke.highest < math.inf else ""
+    yield f"unexplained: {stroke.residual:.1f} dB of the sound{below}{after}"
     yield f"limits: {naming.limits(stroke)}"
 
 
@@ -152,11 +156,12 @@ def seen(sound, table):
     """Measures a sound and draws it; answers the picture, the lines of the report, and whether all agrees."""
     rows = read_table(table) if table else []
     rate, channels = analysis.read_sound(sound)
-    measured = analysis.measure(channels, rate)
+    ours = made_here(sound)
+    measured = analysis.measure(channels, rate) if ours else recording.measured_strokes(channels, rate)
     noise = next((row for row in rows if row.noise), None)
     rows = [row for row in rows if not row.noise]
     naming.name_all(measured, rows)
-    found = naming.findings(measured, rows, noise, table, naming.RESIDUAL if made_here(sound) else naming.RECORDED_RESIDUAL)
+    found = naming.findings(measured, rows, noise, table, naming.RESIDUAL if ours else naming.RECORDED_RESIDUAL)
     return draw(os.path.basename(sound), channels, rate, measured, rows, found), list(report(measured, found)), not found
 
 

@@ -36,6 +36,8 @@ QUESTIONS = {
     11: "Of the delay lines that run: is X+Z at most 65,535 and Y at most Z?",
     12: "Do the modifiers that invoke delay units name different ones?",
     13: "Is the text that the file names known?",
+    14: "Do a chain's entries have their form, and name only entries before them?",
+    15: "Are a chain's earliest numbers at most 127?",
 }
 
 

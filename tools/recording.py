@@ -12,11 +12,13 @@ import analysis
 import naming
 import strokes
 from command_line import Ending, Status
+from ratios import strike_note
 
 ECHO = 0.4  # what begins so soon after a stroke is its echo
-SETTLED = 0.15  # partials are measured from so many seconds after a stroke on, when its noise and the first echoes are over
+SETTLED = 0.15  # partials are measured from so many seconds after a stroke on, at the earliest: its noise and the first echoes are over
+WAITS = 3  # so many times it is looked for where its echoes have settled
+HIGHEST = 8000.0  # what is above so many Hz is not looked at, where nothing else is asked
 NEAR = 120.0  # a ratio names the loudest partial within so many cents
-MULTIPLES = {"nominal": 2.0, "superquint": 3.0, "octave nominal": 4.0}  # the strike note is that of which these are nearly multiples
 MAINS = (50.0, 60.0)
 CLIPPED = 3  # so many samples one after the other at the peak are clipped
 DECAY = 0.1  # a decay is told within so much
@@ -53,6 +55,35 @@ def strokes_in(channels, rate):
     return [strokes.Stroke(s.begin, min(max(s.clear, s.begin + int(SETTLED * rate)), s.end), s.end) for s in joined], before
 
 
+def waited_out(channels, rate, stroke):
+    """A stroke from where the echoes of the room have settled."""
+    side = int(np.argmax((channels[stroke.begin:stroke.end] ** 2).sum(0)))
+    for _ in range(WAITS):
+        sound = channels[stroke.begin:min(stroke.end, stroke.clear + int(analysis.SETTLING_SECONDS * rate)), side]
+        before = stroke.clear - stroke.begin
+        later = int(analysis.settles(sound, rate, before) * rate) if len(sound) - before > 2 * analysis.SHORTEST * rate else 0
+        if not later:
+            break
+        stroke = strokes.Stroke(stroke.begin, stroke.clear + later, stroke.end)
+    return stroke
+
+
+def measured_stroke(channels, rate, stroke, highest):
+    """A stroke, measured from where its echoes have settled."""
+    done = analysis.measure_stroke(channels, rate, waited_out(channels, rate, stroke), highest, DECAY, analysis.LEFT_OF_ONE_RECORDED)
+    done.noise = ()  # what is before is echoes too
+    return done
+
+
+def measured_strokes(channels, rate, highest=HIGHEST):
+    """The strokes of a recording, each measured by itself."""
+    done = []
+    for stroke in strokes_in(channels, rate)[0]:
+        done.append(measured_stroke(channels, rate, stroke, min(highest, rate / 2)))
+        done[-1].softer = analysis.is_softer(channels, rate, stroke.begin)
+    return done
+
+
 def mains_in(partials):
     """The partials that are the mains' hum: they don't decay, and are multiples of 50 or 60 Hz."""
     return [p for p in partials if (p.t60 > 40 or "t60" in p.unsure) and any(abs(p.hz - f * round(p.hz / f)) < 0.3 and round(p.hz / f) in range(1, 13) for f in MAINS)]
@@ -79,12 +110,6 @@ def name(partials, ratios):
         p.name = p.name or next(free)
 
 
-def heard_pitch(partials):
-    """The strike note in Hz: of nominal, superquint and octave nominal half, a third and a fourth, the mean by their levels."""
-    chosen = [(p.hz / MULTIPLES[p.name], 10 ** (p.db / 20)) for p in partials if p.name in MULTIPLES and not p.near and "hz" not in p.unsure]
-    return sum(hz * weight for hz, weight in chosen) / sum(weight for _, weight in chosen) if chosen else math.nan
-
-
 def told(p):
     """Whether a partial's frequency and decay are told."""
     return not p.near and not p.unsure and p.t60 < math.inf
@@ -108,16 +133,16 @@ def measured(channels, rate, ratios, highest):
     """The partials of a recording's longest stroke, named; lines that tell of it, and sentences of what is unsure."""
     found, before = strokes_in(channels, rate)
     stroke = max(found, key=lambda s: s.end - s.clear)
-    done = analysis.measure_stroke(channels, rate, stroke, highest, DECAY)
+    done = measured_stroke(channels, rate, stroke, highest)
     if done.short:
         raise Ending(f"too short to measure: {done.end - done.clear:.3f} s of sound, and {analysis.SHORTEST:g} s are needed", Status.UNLIKE)
     mains = mains_in(done.partials)
     done.partials = [p for p in done.partials if p not in mains]
     name(done.partials, ratios)
-    lines = [f"{len(found)} stroke{'s' if len(found) > 1 else ''}, measured from {done.begin:.3f} to {done.end:.3f} s; {done.residual:.1f} dB of the sound below {highest:g} Hz unexplained", naming.limits(done, loudest_of(done.partials))]
+    lines = [f"{len(found)} stroke{'s' if len(found) > 1 else ''}, measured from {done.clear:.3f} to {done.end:.3f} s; {done.residual:.1f} dB of the sound below {highest:g} Hz unexplained", naming.limits(done, loudest_of(done.partials))]
     if before is not None:
         lines.append(f"before the stroke: what is heard is {20 * math.log10(np.abs(channels).max() / (loudness(before) + 1e-9)):.1f} dB below the peak")
-    pitch = heard_pitch(done.partials)
+    pitch = strike_note([p for p in done.partials if not p.near and "hz" not in p.unsure])
     lines += [] if math.isnan(pitch) else [f"strike note: {pitch:.3f} Hz, from nominal, superquint and octave nominal as far as they are told"]
     for p in done.partials:
         other = naming.beat_of(p, done.partials)

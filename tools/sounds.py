@@ -26,6 +26,16 @@ class Format(NamedTuple):
     bits: int
 
 
+def wave_file(rate, data):
+    """A WAVE file of two channels of 24 bits, from the bytes of its frames."""
+    return struct.pack("<4sI4s4sIHHIIHH4sI", b"RIFF", 36 + len(data), b"WAVE", b"fmt ", 16, PCM, 2, rate, 6 * rate, 6, 24, b"data", len(data)) + data
+
+
+def frames_of(data):
+    """The rate, and the bytes of the frames, of a WAVE file that the program wav made."""
+    return struct.unpack_from("<I", data, 24)[0], data[44:]
+
+
 def is_sound(data):
     """Whether a file begins as sounds do."""
     return data[:4] in KINDS

@@ -22,7 +22,7 @@ class Status(IntEnum):
 
 
 MEANINGS = {
-    Status.DONE: "the whole result was written; of a question (compare): yes, for every pass",
+    Status.DONE: "the whole result was written; of a question (compare, same, drawer check): yes, for every pass",
     Status.NO: "of a question: no",
     Status.REFUSED: "refused: the file, its machine, an order or a table isn't as it must be; standard error or the answer says where",
     Status.UNREAD: "a file can't be read",
@@ -30,7 +30,7 @@ MEANINGS = {
     Status.MISUSED: "a wrong call: an option, a number of files, an output that is an input or no regular file",
     Status.MISSING: "something that is needed isn't there or can't be built; what it is and how to get it is told",
     Status.UNTIL: "of a question: yes, but only until what is told (a trigger, a command)",
-    Status.UNLIKE: "a sound is not what the table says, or can't be measured whole; what can be made of it is written all the same",
+    Status.UNLIKE: "a sound is not what the table says, or can't be measured whole, or a ring has no figure; what can be made of it is written all the same; of show: something looks wrong",
     Status.FAULT: "a fault of this software",
     Status.INTERRUPTED: "interrupted (Ctrl-C; by another signal 128 and its number)",
 }

@@ -36,6 +36,11 @@ use Rattle.equal_any_order.proofs.AnyOrder.{any-order-says, any-order-refused, 
 use Rattle.equal_any_order.proofs.MarksApart.{marks-equal, forth-sets, back-sets}
 use Rattle.equal_parts.proofs.Parts.{parts-says, none-shown, contents-part}
 use Rattle.equal_parts.proofs.Shown.{found-differs}
+use Rattle.chain.proofs.Claimed.{chain-numbers, chain-least, chain-none, chain-names}
+use Rattle.chain_views.proofs.Seen.{chain-sees}
+use Rattle.equal_ringings.proofs.Throughout.{whole-ringings, compare-throughout}
+use Rattle.equal_ringings.proofs.WokenLater.{woken-agree, throughout-apart}
+use Rattle.bench_passes.proofs.Heard.{heard-rung}
 use Rattle.order_pitch.proofs.Sorted.{by-pitch-sorted, by-pitch-passes, sorted-is-by-pitch}
 use Rattle.wave_format.proofs.Samples.{sample-exact}
 use Rattle.bench_ringing.proofs.Printing.{printed-heard}
@@ -63,6 +68,10 @@ claims =
       none-shown = none-shown;
       contents-part = contents-part;
       found-differs = found-differs;
+      whole-ringings = whole-ringings;
+      compare-throughout = compare-throughout;
+      throughout-apart = (woken-agree, throughout-apart);
+      heard-rung = heard-rung;
       sorted-by-pitch = by-pitch-sorted;
       sorted-alone = sorted-is-by-pitch;
       sorted-passes = by-pitch-passes;
@@ -104,6 +113,11 @@ claims =
       marks-back = back-sets;
       line-returns = line-returns;
       table-returns = table-returns;
+      chain-numbers = chain-numbers;
+      chain-least = chain-least;
+      chain-none = chain-none;
+      chain-names = chain-names;
+      chain-sees = chain-sees;
       entry-largest = entry-largest;
       older-entry = older-entry;
       older-exponential = older-exponential;

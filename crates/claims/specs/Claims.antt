@@ -1,6 +1,6 @@
 -- Every claim that the demands, document 01 and the requests of document 02 make beyond the contracts of the calls. One value of this record, `claims` in proofs/Proved.antt, is the proof of all.
 -- Assumes nothing.
-use Prim.Native.Nat.{ℕ, _+_, _*_, _%_, _^_, _≤_, _<_}
+use Prim.Native.Nat.{ℕ, suc, _+_, _*_, _%_, _^_, _≤_, _<_}
 use mathlib.Core.Bool.{true, false}
 use mathlib.Core.List.{List, [], _∷_}
 use mathlib.Core.Logic.{_↔_, _≢_}
@@ -8,7 +8,7 @@ use mathlib.Core.Path.{_≡_}
 use lib.IntN.{pos, _*ℤ_}
 use lib.ListN.{length, getD, set}
 use Rattle.words.specs.Words.{signed}
-use Rattle.layout.specs.Layout.{counterAt, dxAt, quadrantWords, generators, machineLength, updateTicksAt}
+use Rattle.layout.specs.Layout.{counterAt, dxAt, lingeringAt, quadrantWords, generators, machineLength, updateTicksAt}
 use Rattle.layout.specs.Machine.{Machine, Order, Items, Commands, Memory, ticksOf, updateTicks, updateTicksOf, lowCounter}
 use Rattle.layout.specs.Widths.{counterBits, lingerBits}
 use Rattle.texts.specs.declared.Text.{Text}
@@ -50,6 +50,14 @@ use Rattle.equal_orders.specs.WorkedExamples.{WorkedExamples, forth, back}
 use Rattle.equal_any_order.specs.EveryOrder.{Passes, EveryTwoEqual, Apart}
 use Rattle.equal_any_order.specs.MarksApart.{upAndDown}
 use Rattle.equal_parts.specs.Parting.{PartingContents}
+use Rattle.chain_entries.specs.Entries.{Chain, size, isEarly, namesIn, nameOf}
+use Rattle.chain_entries.specs.Fits.{Fits}
+use Rattle.chain_numbers.specs.Earliest.{modifiers}
+use Rattle.chain_numbers.specs.Numberings.{Numbering, PassesLast}
+use Rattle.chain.specs.Chain.{chainOf}
+use Rattle.chain_views.specs.Sees.{Sees}
+use Rattle.equal_ringings.specs.Ringings.{NoneWaits, EqualThroughout}
+use Rattle.equal_ringings.specs.WokenLater.{wokenLater, wokenFirst, wokenLast}
 use Rattle.bench_text.specs.Text.{lineBytes, decimal}
 use Rattle.bench_numbers.specs.Numbers.{decimalIn}
 use Rattle.bench_numbers.specs.declared.Number.the-variants.{Is}
@@ -58,6 +66,7 @@ use Rattle.bench_ringing.specs.Ringing.{updateAfter, printed, outputOf}
 use Rattle.bench_ringing.specs.Heard.{heard, linesHeard}
 use Rattle.bench_ringing.specs.Steps.{rungFrom}
 use Rattle.bench_gathering.specs.Gathering.{printedFrom}
+use Rattle.bench_passes.specs.Passes.{rungByNumber}
 
 pub record Claims : Type 0 where
   -- Demand 3: on a machine that passes questions 1 and 2, two orders that pass 5 and 6 are equal exactly when they agree on the four points.
@@ -89,6 +98,16 @@ pub record Claims : Type 0 where
       → Differ (passBy text (partsOf text m o₁ o₂ contents items .contents) (partsOf text m o₁ o₂ contents items .items) o₁)
       (passBy text (partsOf text m o₁ o₂ contents items .contents) (partsOf text m o₁ o₂ contents items .items) o₂)
       (differenceShown text (partsOf text m o₁ o₂ contents items .contents) (partsOf text m o₁ o₂ contents items .items) o₁ o₂)
+  -- Passes one after the other: on a machine that passes questions 1 and 2, with no generator below T in 1001 or 1101, two orders that pass 5 and 6, each used throughout,
+  -- leave the same machine, delay memory and written data after every list of passes exactly when they agree on the four points; a compare's yes says so.
+  pub whole-ringings : (text : Text) (m : Machine) → Good text m → NoneWaits text m → (o₁ o₂ : Order) → Passes m o₁ → Passes m o₂ → EqualThroughout text m o₁ o₂ ↔ Agree text m o₁ o₂
+  pub compare-throughout : (text : Text) (m : Machine) (o₁ o₂ : Order) → compareOf text m o₁ o₂ .number ≡ 0 → NoneWaits text m
+      → (compareOf text m o₁ o₂ .equal ≡ true) ↔ EqualThroughout text m o₁ o₂
+  -- With a generator in 1001 that need not be: on a shown machine two orders agree and part in the second pass.
+  pub throughout-apart : Agree Of1978 wokenLater wokenFirst wokenLast × (EqualThroughout Of1978 wokenLater wokenFirst wokenLast → ⊥)
+  -- The machines that the bench program goes through without commands, from one that isn't lingering, are those that passes by number leave.
+  pub heard-rung : (text : Text) (passes : ℕ) (m : Machine) (memory : Memory) → Good text m → getD m lingeringAt 0 ≡ 0 → (k : ℕ) → k < length (heard text passes m memory [] .machines)
+      → getD (heard text passes m memory [] .machines) k [] ≡ rungByNumber text (suc k) m memory .machine
   -- The order by pitch is sorted by pitch, no other order is, and it passes 5 and 6.
   pub sorted-by-pitch : (m : Machine) → SortedByPitch m (byPitch m)
   pub sorted-alone : (m : Machine) (order : Order) → SortedByPitch m order → order ≡ byPitch m
@@ -162,6 +181,19 @@ pub record Claims : Type 0 where
       → Turns (unit 0 .z + 3) unit memory word → OnlyTurnsWrite (slot (unit 0)) (unit 0 .z + 1) unit memory word → due (unit (unit 0 .z + 3)) ≡ word 0
   pub table-returns : (unit : ℕ → Delay) (memory : ℕ → Memory) (word : ℕ → ℕ) → unit 0 .p ≢ line → Turns 3 unit memory word
       → due (unit 3) ≡ getD (memory 0) (address (unit 0) (word 0)) 0
+  -- The numbers that a chain of modifiers is given rise along the list, each writer is at least 4 below an early reader and 1 below a late one, and none passes 127.
+  pub chain-numbers : (c : Chain) (run : List ℕ) → length run ≡ modifiers → chainOf c run .number ≡ 0
+      → Numbering c (λ i. getD (chainOf c run .numbers) i 0) × ((i : ℕ) → i < size c → getD (chainOf c run .numbers) i 0 < modifiers)
+  -- Every other numbering has at each entry a number at least as high, whether or not it passes 127.
+  pub chain-least : (c : Chain) (run : List ℕ) → length run ≡ modifiers → chainOf c run .number ≡ 0
+      → (f : ℕ → ℕ) → Numbering c f → (i : ℕ) → i < size c → getD (chainOf c run .numbers) i 0 ≤ f i
+  -- The number is 15 exactly where the chain fits and every numbering passes 127; and 14 exactly where it doesn't fit: some word or end is none of the form,
+  -- or an entry names itself, a later one or a place outside the list.
+  pub chain-none : (c : Chain) (run : List ℕ) → (chainOf c run .number ≡ 15) ↔ (Fits c × ((f : ℕ → ℕ) → Numbering c f → PassesLast c f))
+  pub chain-names : (c : Chain) (run : List ℕ) → (chainOf c run .number ≡ 14) ↔ (¬ (Fits c))
+  -- With these numbers the write of each entry that is named is among those that its reader sees, by the early view of a pass or by the late one.
+  pub chain-sees : (c : Chain) (run : List ℕ) → length run ≡ modifiers → chainOf c run .number ≡ 0 → (i k : ℕ) → i < size c → k < namesIn (c .entries) i
+      → Sees (isEarly (c .entries) i) (getD (chainOf c run .numbers) i 0) (getD (chainOf c run .numbers) (nameOf c i k) 0)
   -- Entry f of an exponential table of n is the largest of all e with e^n times 2^f at most 4,093^n, for every n. Entry 4f of the table is entry f of
   -- document 01's table of 256, and so the exponential of 4h is what document 01's was of h. Number by number that table is the one that `olderTable` lists.
   pub entry-largest : (n f : ℕ) → 0 < n → Largest (within n f) (exponentialEntry n f)

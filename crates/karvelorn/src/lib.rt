@@ -9,6 +9,8 @@ ghost use Rattle.compare.specs.Compare.{compareOf};
 ghost use Rattle.any_order.specs.AnyOrder.{anyOrderOf};
 ghost use Rattle.parts.specs.Parts.{partsOf};
 ghost use Rattle.texts.specs.declared.Text.the-variants.{Of1978, Old};
+ghost use Rattle.chain.specs.Chain.{chainOf};
+use chain_numbers::Numbers;
 use sums::Clipped;
 use texts::Text;
 
@@ -217,4 +219,12 @@ pub extern "C" fn karvelorn_old_parts(
     ensures { λ r. ⌜ record { number = r; point = now (point .exit); place = now (place .exit); contents = now (contents .exit); items = now (items .exit) } ≡ partsOf Old (now (m .entry)) (now (first .entry)) (now (second .entry)) (now (contents .entry)) (now (items .entry)) ⌝ }
 {
     parts(Text::Old, m, first, second, contents, items, point, place)
+}
+
+// Numbers for a chain of modifiers. The answer is the number of the refusing question or 0; numbers get those of the entries.
+#[no_mangle]
+pub extern "C" fn karvelorn_chain(entries: &[u32], names: &[u32], numbers: &mut Numbers) -> u32
+    ensures { λ r. ⌜ record { number = r; numbers = now (numbers .exit) } ≡ chainOf (record { entries = now (entries .entry); names = now (names .entry) }) (now (numbers .entry)) ⌝ }
+{
+    chain::chain(entries, names, numbers)
 }

@@ -12,4 +12,5 @@ pub mod PassDelays
 pub mod PassCounts
 pub mod PassClipped
 pub mod PassesInSequence
+pub mod Untaken
 pub mod OldPass

@@ -1,0 +1,3 @@
+pub mod Loops
+pub mod Tests
+pub mod Fitting

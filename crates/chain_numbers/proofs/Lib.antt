@@ -1,0 +1,4 @@
+pub mod Highest
+pub mod Earliest
+pub mod Loops
+pub mod Finding

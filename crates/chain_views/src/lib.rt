@@ -1,0 +1,1 @@
+// What modifiers see by the numbers of a chain: definitions and laws alone, no code.
