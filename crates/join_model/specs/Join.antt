@@ -1,0 +1,95 @@
+-- Two machines of the 1978 text joined to one (document 02, Q-12).
+-- Assumes nothing.
+use Prim.Native.Nat.{ℕ, _+_, _-_}
+use mathlib.Core.Bool.{Bool, cond, not, _&&_, _||_}
+use mathlib.Core.List.{[], _∷_}
+use lib.Dec.{eqb, leb, ltb}
+use lib.ListN.{getD}
+use Rattle.lists.specs.Lists.{tabulate, allBelow}
+use Rattle.modes.specs.Modes.{wait, runningC, readData, writeData, writeDAC}
+use Rattle.layout.specs.Layout.{machineLength, generatorAt, quadrantAt, dacAt, tAt, nAt, updateTicksAt, dacs, quadrantWords, generators}
+use Rattle.layout.specs.Machine.{Machine, ticksOf, updateTicks, gsumAt, gfmAt, functionAt}
+use Rattle.texts.specs.Texts.{runModeAt, dacNumberAt}
+use Rattle.texts.specs.declared.Text.the-variants.{Of1978}
+use Rattle.questions.specs.Questions.{Question, asked}
+use Rattle.machine.specs.Questions.{question1, question2}
+use Rattle.sums.specs.Sums.{generatorThis, generatorLast}
+
+-- Some number below n passes a test.
+abbrev pub anyBelow : (ℕ → Bool) → ℕ → Bool
+anyBelow p n = not (allBelow (λ k. not (p k)) n)
+
+-- Whether a machine uses a sum word: it is GSUM or GFM of a generator below T, in whatever run mode. Whether it uses a DAC: a 0010 below T names it.
+unfoldable pub usesWord : Machine → ℕ → Bool
+usesWord m w = anyBelow (λ g. eqb (gsumAt m g) w || eqb (gfmAt m g) w) (ticksOf m)
+
+unfoldable pub usesDac : Machine → ℕ → Bool
+usesDac m d = anyBelow (λ g. eqb (runModeAt Of1978 m g) writeDAC && eqb (dacNumberAt Of1978 m g) d) (ticksOf m)
+
+-- Whether place i is one of n places from a place on.
+abbrev pub among : ℕ → ℕ → ℕ → Bool
+among at n i = leb at i && ltb i (at + n)
+
+-- Whether the second machine's word at place i is brought over to the same place: a generator sum word, this or last, or a DAC word, that it uses.
+unfoldable pub broughtOver : Machine → ℕ → Bool
+broughtOver b i =
+    cond (among (quadrantAt generatorThis) quadrantWords i) (usesWord b (i - quadrantAt generatorThis))
+    (cond (among (quadrantAt generatorLast) quadrantWords i) (usesWord b (i - quadrantAt generatorLast))
+    (among (dacAt 0) dacs i && usesDac b (i - dacAt 0)))
+
+-- Word i of the joined machine. The second's generators below its T follow the first's T; its sum words and DACs in use are brought over;
+-- T is the sum, and the update ticks are those of this T and the first's N. Everything else is the first's.
+unfoldable pub joinedWord : Machine → Machine → ℕ → ℕ
+joinedWord a b i =
+    cond (among (generatorAt (ticksOf a)) (generatorAt (ticksOf b)) i) (getD b (i - generatorAt (ticksOf a)) 0)
+    (cond (broughtOver b i) (getD b i 0)
+    (cond (eqb i tAt) (ticksOf a + ticksOf b)
+    (cond (eqb i updateTicksAt) (updateTicks (ticksOf a + ticksOf b) (getD a nAt 0))
+    (getD a i 0))))
+
+unfoldable pub joined : Machine → Machine → Machine
+joined a b = tabulate (joinedWord a b) 0 machineLength
+
+-- Question 16: the sum of both T is at most 256.
+abbrev pub question16 : Machine → Machine → Question
+question16 a b = record { number = 16; yes = leb (ticksOf a + ticksOf b) generators }
+
+-- A machine that sounds by its generators alone: below T no reader, no writer and no modifier-quadrant GFM, and of all modifiers none that is active.
+abbrev pub ownGenerator : Machine → ℕ → Bool
+ownGenerator m g = not (eqb (runModeAt Of1978 m g) readData) && (not (eqb (runModeAt Of1978 m g) writeData) && ltb (gfmAt m g) quadrantWords)
+
+abbrev pub idleModifier : Machine → ℕ → Bool
+idleModifier m k = eqb (functionAt m k) 0
+
+unfoldable pub selfContained : Machine → Bool
+selfContained m = allBelow (ownGenerator m) (ticksOf m) && allBelow (idleModifier m) 128
+
+-- Whether generator 0 waits for its lower neighbour, or can come to wait: in 1001 or 1101.
+unfoldable pub awaitsNeighbour : Machine → Bool
+awaitsNeighbour m = eqb (runModeAt Of1978 m 0) wait || eqb (runModeAt Of1978 m 0) runningC
+
+-- Question 17: both machines sound by their generators alone, and the second's generator 0, which gets a lower neighbour, doesn't wait for it.
+abbrev pub question17 : Machine → Machine → Question
+question17 a b = record { number = 17; yes = selfContained a && (selfContained b && not (awaitsNeighbour b)) }
+
+-- Question 18: no sum word and no DAC is used by both.
+unfoldable pub nothingShared : Machine → Machine → Bool
+nothingShared a b = allBelow (λ w. not (usesWord a w && usesWord b w)) quadrantWords && allBelow (λ d. not (usesDac a d && usesDac b d)) dacs
+
+abbrev pub question18 : Machine → Machine → Question
+question18 a b = record { number = 18; yes = nothingShared a b }
+
+-- The questions of the call, in sequence: 1 and 2 of the first machine, 1 and 2 of the second, 16, 17, 18.
+unfoldable pub joinRefusal : Machine → Machine → ℕ
+joinRefusal a b =
+    asked (question1 a ∷ question2 Of1978 a ∷ question1 b ∷ question2 Of1978 b ∷ question16 a b ∷ question17 a b ∷ question18 a b ∷ [])
+
+-- What the call answers and leaves of the first machine: the joined one, and in a refusal what it was.
+pub record Answer : Type 0 where
+  pub number : ℕ
+  pub machine : Machine
+
+unfoldable pub joinOf : Machine → Machine → Answer
+joinOf a b =
+    let n = joinRefusal a b in
+    record { number = n; machine = cond (eqb n 0) (joined a b) a }
