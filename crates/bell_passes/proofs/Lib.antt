@@ -1,0 +1,8 @@
+pub mod TempLoaded
+pub mod TempSettings
+pub mod Stretches
+pub mod OwnPass
+pub mod Sounding
+pub mod OnePass
+pub mod ManyPasses
+pub mod TwoBells

@@ -1,0 +1,3 @@
+pub mod Temp
+pub mod Changes
+pub mod TwoBells
