@@ -18,7 +18,7 @@ use Rattle.texts.specs.declared.Text.the-variants.{Of1978}
 use Rattle.questions.specs.Questions.{Question, asked}
 use Rattle.machine.specs.Questions.{question1, question2}
 use Rattle.pass_laws.specs.Good.{Good}
-use Rattle.join_model.specs.Join.{usesWord, usesDac, ownGenerator, idleModifier, selfContained, awaitsNeighbour, nothingShared, joined, joinRefusal, joinOf, question16, question17, question18}
+use Rattle.join_model.specs.Join.{usesWord, usesDac, ownGenerator, ownGenerators, idleModifiers, selfContained, awaitsNeighbour, wordsApart, dacsApart, joined, joinRefusal, joinOf, question16, question17, question18}
 use Rattle.join_model.specs.Bells.{SelfContained}
 
 not-true : (x : Bool) → not x ≡ true → x ≡ false
@@ -41,21 +41,21 @@ neither true y e = absurd (true≢false (sym e))
 neither false true e = absurd (true≢false (sym e))
 neither false false e = (refl, refl)
 
--- A machine that sounds by its generators alone, by its test.
+-- A machine that sounds by its generators alone, by its tests.
 pub self-contained : (m : Machine) → selfContained m ≡ true → SelfContained m
-unfolding selfContained
+unfolding ownGenerators idleModifiers
 self-contained m e =
     record {
       no-reader = λ g h. eqb-false (runModeAt Of1978 m g) readData (not-true (eqb (runModeAt Of1978 m g) readData) (parts g h .0));
       no-writer = λ g h. eqb-false (runModeAt Of1978 m g) writeData (not-true (eqb (runModeAt Of1978 m g) writeData) (parts g h .1));
       inputs = λ g h. ltb-true (gfmAt m g) quadrantWords (parts g h .2);
-      inactive = λ k h. eqb-true (functionAt m k) 0 (below-at (idleModifier m) 128 (and-second (allBelow (ownGenerator m) (ticksOf m)) (allBelow (idleModifier m) 128) e) k h);
+      inactive = λ k h. eqb-true (functionAt m k) 0 (below-at (λ k. eqb (functionAt m k) 0) 128 (and-second (ownGenerators m) (idleModifiers m) e) k h);
     }
   where
     parts : (g : ℕ) → g < ticksOf m → (not (eqb (runModeAt Of1978 m g) readData) ≡ true) × (not (eqb (runModeAt Of1978 m g) writeData) ≡ true) × (ltb (gfmAt m g) quadrantWords ≡ true)
     parts g h =
         all-three (not (eqb (runModeAt Of1978 m g) readData)) (not (eqb (runModeAt Of1978 m g) writeData)) (ltb (gfmAt m g) quadrantWords)
-        (below-at (ownGenerator m) (ticksOf m) (and-first (allBelow (ownGenerator m) (ticksOf m)) (allBelow (idleModifier m) 128) e) g h)
+        (below-at (ownGenerator m) (ticksOf m) (and-first (ownGenerators m) (idleModifiers m) e) g h)
 
 -- The second's generator 0 neither waits nor can come to wait.
 no-waiting : (m : Machine) → not (awaitsNeighbour m) ≡ true → (runModeAt Of1978 m 0 ≢ wait) × (runModeAt Of1978 m 0 ≢ runningC)
@@ -65,20 +65,14 @@ no-waiting m e =
     (eqb-false (runModeAt Of1978 m 0) wait (n .0), eqb-false (runModeAt Of1978 m 0) runningC (n .1))
 
 -- What one uses the other doesn't.
-module _ (a b : Machine) (e : nothingShared a b ≡ true) where
-  abbrev words : Bool
-  words = allBelow (λ w. not (usesWord a w && usesWord b w)) quadrantWords
-
-  abbrev feeders : Bool
-  feeders = allBelow (λ d. not (usesDac a d && usesDac b d)) dacs
-
+module _ (a b : Machine) (e : (wordsApart a b && dacsApart a b) ≡ true) where
   word-apart : (w : ℕ) → w < quadrantWords → usesWord a w ≡ true → usesWord b w ≡ false
-  unfolding nothingShared
-  word-apart w h u = not-both (usesWord a w) (usesWord b w) (below-at (λ w. not (usesWord a w && usesWord b w)) quadrantWords (and-first words feeders e) w h) u
+  unfolding wordsApart
+  word-apart w h u = not-both (usesWord a w) (usesWord b w) (below-at (λ w. not (usesWord a w && usesWord b w)) quadrantWords (and-first (wordsApart a b) (dacsApart a b) e) w h) u
 
   dac-apart : (d : ℕ) → d < dacs → usesDac a d ≡ true → usesDac b d ≡ false
-  unfolding nothingShared
-  dac-apart d h u = not-both (usesDac a d) (usesDac b d) (below-at (λ d. not (usesDac a d && usesDac b d)) dacs (and-second words feeders e) d h) u
+  unfolding dacsApart
+  dac-apart d h u = not-both (usesDac a d) (usesDac b d) (below-at (λ d. not (usesDac a d && usesDac b d)) dacs (and-second (wordsApart a b) (dacsApart a b) e) d h) u
 
 -- A question that is answered yes, and those after it.
 asked-yes : (q : Question) (qs : List Question) → q .number ≢ 0 → asked (q ∷ qs) ≡ 0 → (q .yes ≡ true) × (asked qs ≡ 0)

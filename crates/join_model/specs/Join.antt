@@ -58,11 +58,14 @@ question16 a b = record { number = 16; yes = leb (ticksOf a + ticksOf b) generat
 abbrev pub ownGenerator : Machine → ℕ → Bool
 ownGenerator m g = not (eqb (runModeAt Of1978 m g) readData) && (not (eqb (runModeAt Of1978 m g) writeData) && ltb (gfmAt m g) quadrantWords)
 
-abbrev pub idleModifier : Machine → ℕ → Bool
-idleModifier m k = eqb (functionAt m k) 0
+unfoldable pub ownGenerators : Machine → Bool
+ownGenerators m = allBelow (ownGenerator m) (ticksOf m)
 
-unfoldable pub selfContained : Machine → Bool
-selfContained m = allBelow (ownGenerator m) (ticksOf m) && allBelow (idleModifier m) 128
+unfoldable pub idleModifiers : Machine → Bool
+idleModifiers m = allBelow (λ k. eqb (functionAt m k) 0) 128
+
+abbrev pub selfContained : Machine → Bool
+selfContained m = ownGenerators m && idleModifiers m
 
 -- Whether generator 0 waits for its lower neighbour, or can come to wait: in 1001 or 1101.
 unfoldable pub awaitsNeighbour : Machine → Bool
@@ -73,11 +76,14 @@ abbrev pub question17 : Machine → Machine → Question
 question17 a b = record { number = 17; yes = selfContained a && (selfContained b && not (awaitsNeighbour b)) }
 
 -- Question 18: no sum word and no DAC is used by both.
-unfoldable pub nothingShared : Machine → Machine → Bool
-nothingShared a b = allBelow (λ w. not (usesWord a w && usesWord b w)) quadrantWords && allBelow (λ d. not (usesDac a d && usesDac b d)) dacs
+unfoldable pub wordsApart : Machine → Machine → Bool
+wordsApart a b = allBelow (λ w. not (usesWord a w && usesWord b w)) quadrantWords
+
+unfoldable pub dacsApart : Machine → Machine → Bool
+dacsApart a b = allBelow (λ d. not (usesDac a d && usesDac b d)) dacs
 
 abbrev pub question18 : Machine → Machine → Question
-question18 a b = record { number = 18; yes = nothingShared a b }
+question18 a b = record { number = 18; yes = wordsApart a b && dacsApart a b }
 
 -- The questions of the call, in sequence: 1 and 2 of the first machine, 1 and 2 of the second, 16, 17, 18.
 unfoldable pub joinRefusal : Machine → Machine → ℕ
