@@ -21,13 +21,13 @@ use Rattle.pass_laws.specs.Good.{Good}
 use Rattle.join_model.specs.Join.{usesWord, usesDac, among, broughtOver, joinedWord, joined}
 
 -- The tests among n places.
-among-in : (at n i : ℕ) → at ≤ i → i < at + n → among at n i ≡ true
+pub among-in : (at n i : ℕ) → at ≤ i → i < at + n → among at n i ≡ true
 among-in at n i a b = rw (le-leb at i a, lt-ltb i (at + n) b)
 
-among-before : (at n i : ℕ) → i < at → among at n i ≡ false
+pub among-before : (at n i : ℕ) → i < at → among at n i ≡ false
 among-before at n i a = rw (lt-leb at i a)
 
-among-behind : (at n i : ℕ) → at + n ≤ i → among at n i ≡ false
+pub among-behind : (at n i : ℕ) → at + n ≤ i → among at n i ≡ false
 among-behind at n i a = go (leb at i)
   where
     go : (x : Bool) → (x && ltb i (at + n)) ≡ false
