@@ -31,6 +31,7 @@ QUESTIONS = {
     10: "Has delay memory 65,536 words, none above 20 bits?",
     11: "Of the delay lines that run: is X+Z at most 65,535 and Y at most Z?",
     12: "Do the modifiers that invoke delay units name different ones?",
+    13: "Is the text that the file names known?",
 }
 
 

@@ -31,7 +31,8 @@ use Rattle.generator.specs.declared.Generator.{Generator}
 use Rattle.generator.specs.Generator.{loaded}
 use Rattle.old_modes.proofs.RunModes.{loaded-mode}
 use Rattle.pass_model.specs.Generators.{generatorsOf, State, generatorOf, told, step, steps, begun}
-use Rattle.pass_model.proofs.Keeps.{runOf, turn-keeps}
+use Rattle.generator_turn.specs.GeneratorTurn.{runOf}
+use Rattle.pass_model.proofs.Keeps.{turn-keeps}
 use Rattle.pass_model.specs.Pass.{Call, passRefusal, passOf}
 use Rattle.pass_laws.proofs.Frames.{apart-other, not-there, step-below, steps-length, steps-beyond, steps-quadrants}
 use Rattle.pass_laws.proofs.TextTurns.{sixteen, same-generator}
