@@ -1,5 +1,3 @@
-pub mod TempLoaded
-pub mod TempSettings
 pub mod Stretches
 pub mod OwnPass
 pub mod Sounding

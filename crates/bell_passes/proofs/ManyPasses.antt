@@ -2,8 +2,7 @@
 -- Assumes nothing.
 use mathlib.Core.Path.{_≡_, refl, sym, ap, _∙_}
 use mathlib.Core.Bool.{true}
-use mathlib.Core.List.{_∷_}
-use Prim.Native.Nat.{ℕ, zero, suc, _<_}
+use Prim.Native.Nat.{ℕ, zero, suc}
 use lib.ListN.{replicate}
 use Rattle.layout.specs.Machine.{Machine, Memory, ticksOf}
 use Rattle.texts.specs.declared.Text.the-variants.{Of1978}
@@ -11,14 +10,13 @@ use Rattle.delay_questions.specs.Questions.{memoryGood}
 use Rattle.order_lists.specs.Sequences.{byNumber}
 use Rattle.pass_model.specs.Pass.{passOf}
 use Rattle.pass_laws.specs.Good.{Good}
-use Rattle.pass_laws.specs.Passes.{rungBy, noData, passesByNumber}
+use Rattle.pass_laws.specs.Passes.{rungBy, noData}
 use Rattle.pass_laws.proofs.PassSound.{pass-sound}
 use Rattle.pass_laws.proofs.PassSettings.{pass-settings}
 use Rattle.pass_laws.proofs.PassDelays.{pass-memory}
 use Rattle.pass_laws.proofs.PassesInSequence.{rung-ticks}
 use Rattle.join_model.specs.Join.{usesWord, usesDac}
 use Rattle.join_model.specs.Bells.{Bell}
-use Rattle.join_model.specs.Plays.{Plays}
 use Rattle.bell_passes.specs.TwoBells.{after}
 use Rattle.bell_passes.proofs.OwnPass.{numberCall, onePass}
 use Rattle.bell_passes.proofs.OnePass.{word-kept, dac-kept, bell-pass}

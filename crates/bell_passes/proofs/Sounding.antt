@@ -33,7 +33,7 @@ use Rattle.order_agreement.specs.Agreement.{settingsOf, replacesWord, addsToWor
 use Rattle.equal_endings.specs.Follows.{turnAt, pAt, sendsAt}
 use Rattle.equal_endings.specs.Ends.{toldIn, takenIn, wordAfter, StageEnds}
 use Rattle.equal_endings.proofs.Ends.{stage-ends}
-use Rattle.bell_passes.proofs.TempSettings.{follows-1978}
+use Rattle.equal_contents.proofs.Settings.{follows-settings}
 use Rattle.join_model.specs.Join.{usesWord, usesDac}
 use Rattle.join_model.specs.Bells.{SelfContained, Other, Stands}
 use Rattle.join_model.specs.Plays.{Plays}
@@ -177,7 +177,7 @@ module _ (a j : Machine) (at : ℕ) (ga : Good Of1978 a) (gj : Good Of1978 j) (o
       go true e =
           let h = ltb-true 0 at e in
           let k : at + 0 ≡ at = omega arith in
-          follows-1978 j gj .turns (at + 0) (omega (arith, s .room, some-a)) .unit
+          follows-settings Of1978 j gj .turns (at + 0) (omega (arith, s .room, some-a)) .unit
           (rw k (ne-eqb (runModeAt Of1978 j at) wait (s .seam h .0))) (toldIn (generatorsOf Of1978) j (byNumber (ticksOf j)) (at + 0))
       go false e =
           let k : at + 0 ≡ 0 = omega (arith, ltb-false 0 at e) in
@@ -195,10 +195,10 @@ module _ (a j : Machine) (at : ℕ) (ga : Good Of1978 a) (gj : Good Of1978 j) (o
 
   -- What the generators leave.
   ends-a : StageEnds (generatorsOf Of1978) a (settingsOf Of1978 a) [] [] (byNumber (ticksOf a)) (takenIn (generatorsOf Of1978) a [] [] (byNumber (ticksOf a)))
-  ends-a = stage-ends (generatorsOf Of1978) (settingsOf Of1978 a) a (follows-1978 a ga) [] [] (byNumber (ticksOf a)) (by-number-order (ticksOf a))
+  ends-a = stage-ends (generatorsOf Of1978) (settingsOf Of1978 a) a (follows-settings Of1978 a ga) [] [] (byNumber (ticksOf a)) (by-number-order (ticksOf a))
 
   ends-j : StageEnds (generatorsOf Of1978) j (settingsOf Of1978 j) [] [] (byNumber (ticksOf j)) (takenIn (generatorsOf Of1978) j [] [] (byNumber (ticksOf j)))
-  ends-j = stage-ends (generatorsOf Of1978) (settingsOf Of1978 j) j (follows-1978 j gj) [] [] (byNumber (ticksOf j)) (by-number-order (ticksOf j))
+  ends-j = stage-ends (generatorsOf Of1978) (settingsOf Of1978 j) j (follows-settings Of1978 j gj) [] [] (byNumber (ticksOf j)) (by-number-order (ticksOf j))
 
   added-same : (w g : ℕ) → g < ticksOf a → addedBy j w (at + g) ≡ addedBy a w g
   added-same w g h =

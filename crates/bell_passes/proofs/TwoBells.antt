@@ -1,7 +1,6 @@
 -- What is claimed of two bells in one ring: one law of a bell that stands anywhere among the generators serves all.
 -- Assumes nothing.
 use mathlib.Core.Path.{_≡_, sym, ap, _∙_}
-use mathlib.Core.Logic.{_≢_}
 use mathlib.Core.Bool.{true}
 use Prim.Native.Nat.{ℕ, _+_, _/_, _^_, _≤_, _<_}
 use native.Mathlib.Omega.{arith}
@@ -17,7 +16,7 @@ use Rattle.sums.specs.Sums.{generatorThis, generatorLast}
 use Rattle.pass_laws.specs.Good.{Good}
 use Rattle.pass_laws.specs.Passes.{noData, passesByNumber}
 use Rattle.pass_laws.proofs.PassesInSequence.{rung-memory, by-number-parts}
-use Rattle.join_model.specs.Join.{usesWord, usesDac, joinOf}
+use Rattle.join_model.specs.Join.{joinOf}
 use Rattle.join_model.specs.Bells.{SelfContained, Bell}
 use Rattle.join_model.specs.Plays.{Plays}
 use Rattle.join_model.proofs.Pairs.{pair-from, left-joined}
@@ -93,7 +92,7 @@ module _ (a j n : Machine) (at lo hi : ℕ) (bell : Bell a j at) (good : Good Of
               feeders = λ h d l m k u q e.
                   let b : h < 256 = omega (arith, ticks, few-j) in
                   let was = sym (mode h b) ∙ q in
-                  s .feeders h d (omega (arith, ticks)) m k u was (c .settings .dacs h b was ∙ e);
+                  s .feeders h d (omega (arith, ticks)) m k u was (c .settings .sending h b was ∙ e);
               seam = λ h.
                   let some = sound-controls Of1978 a (bell .alone .is-sound) .tLow in
                   let same = mode at (omega (arith, s .room, few-j, some)) in

@@ -6,7 +6,7 @@ use lib.ListN.{getD}
 use Rattle.layout.specs.Layout.{generatorAt}
 use Rattle.layout.specs.Machine.{Machine}
 use Rattle.texts.specs.declared.Text.the-variants.{Of1978}
-use Rattle.bell_passes.specs.Temp.{SameSettings}
+use Rattle.equal_orders.specs.Equal.{SameSettings}
 
 -- Machine n is machine m but for words of generators lo to hi-1, which keep the settings: GMODE, GSUM, GFM and the DAC numbers of 0010s.
 pub record Changed (lo hi : ℕ) (m n : Machine) : Type 0 where

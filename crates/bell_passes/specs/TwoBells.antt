@@ -9,7 +9,7 @@ use Rattle.delay_questions.specs.Questions.{memoryGood}
 use Rattle.order_lists.specs.Sequences.{byNumber}
 use Rattle.pass_model.specs.Pass.{passRefusal}
 use Rattle.pass_laws.specs.Good.{Good}
-use Rattle.pass_laws.specs.Passes.{callOf, Rung, noData, passesByNumber}
+use Rattle.pass_laws.specs.Passes.{callOf, noData, passesByNumber}
 use Rattle.join_model.specs.Join.{joinOf}
 use Rattle.join_model.specs.Plays.{Plays}
 use Rattle.bell_passes.specs.Changes.{Changed}

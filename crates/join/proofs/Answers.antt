@@ -7,13 +7,12 @@ use mathlib.Core.List.{List, [], _∷_}
 use Prim.Native.Nat.{ℕ, _+_, _≤_}
 use native.Mathlib.Omega.{arith}
 use borrow.Author.Tests.{ne-eqb, leb-true}
-use lib.Dec.{leb}
 use Rattle.layout.specs.Machine.{Machine, ticksOf}
 use Rattle.texts.specs.declared.Text.the-variants.{Of1978}
 use Rattle.questions.specs.Questions.{Question, asked}
 use Rattle.machine.specs.Questions.{question1, question2}
 use Rattle.machine.proofs.Asked.{machine-passes}
-use Rattle.join_model.specs.Join.{Answer, question16, question17, question18, joined, joinRefusal, joinOf}
+use Rattle.join_model.specs.Join.{Answer, question16, question17, question18, joinRefusal, joinOf}
 use Rattle.join_questions.specs.Marks.{Usable, marksOf}
 use Rattle.join_questions.proofs.Answers.{is-usable}
 use Rattle.join.specs.Stores.{stored}

@@ -15,11 +15,11 @@ use Rattle.lists.proofs.Tables.{tabulate-length, tabulate-at}
 use Rattle.fills.proofs.Filled.{filled-length}
 use Rattle.layout.specs.Layout.{machineLength, generatorAt, tAt, nAt, updateTicksAt}
 use Rattle.layout.specs.Machine.{Machine, ticksOf, updateTicks}
-use Rattle.join_model.specs.Join.{usesWord, usesDac, among, broughtOver, joinedWord, joined}
-use Rattle.join_model.proofs.JoinedWords.{among-before, among-behind}
+use Rattle.join_model.specs.Join.{usesWord, usesDac, among, broughtOver, firstWord, joinedWord, joined}
+use Rattle.join_model.proofs.JoinedWords.{among-before, low-stays, high-stays}
 use Rattle.join_questions.specs.Marks.{Usable, dacsUsedAt, marksOf}
 use Rattle.join_questions.proofs.Marking.{word-marks, dac-marks}
-use Rattle.join.specs.Stores.{chosen, copied, broughtFrom, broughtUsed, stored}
+use Rattle.join.specs.Stores.{copied, broughtFrom, broughtUsed, stored}
 use Rattle.join.proofs.Storing.{among-true, filled-word, choice, chosen-length, chosen-word}
 
 module _ (a b : Machine) (whole : length a ≡ machineLength) (sum : ticksOf a + ticksOf b ≤ 256) (used : List Bool) where
@@ -115,15 +115,6 @@ module _ (b : Machine) (used : List Bool) (m : Machine) (whole : length m ≡ ma
             ∙ rw (among-before 4096 16 i (omega arith), last-is i, among-before 3904 64 i (omega arith), this-is i, g, word-used (i - 3840) (omega arith))
         by-this false g = by-last g (among 3904 64 i) refl
 
--- Nothing is brought over to generators, T or the update ticks.
-low-stays : (b : Machine) (i : ℕ) → i < 3840 → broughtOver b i ≡ false
-unfolding broughtOver
-low-stays b i h = rw (among-before 3840 64 i h, among-before 3904 64 i (omega arith), among-before 4096 16 i (omega arith))
-
-high-stays : (b : Machine) (i : ℕ) → 4112 ≤ i → broughtOver b i ≡ false
-unfolding broughtOver
-high-stays b i h = rw (among-behind 3840 64 i (omega arith), among-behind 3904 64 i (omega arith), among-behind 4096 16 i (omega arith))
-
 module _ (a b : Machine) (whole : length a ≡ machineLength) (sum : ticksOf a + ticksOf b ≤ 256) (u : Usable b) {used : List Bool} (marks : used ≡ marksOf b) where
   abbrev t : ℕ
   t = ticksOf a + ticksOf b
@@ -159,7 +150,7 @@ module _ (a b : Machine) (whole : length a ≡ machineLength) (sum : ticksOf a +
 
   -- At each place it is the joined machine's word.
   joined-same : (i : ℕ) → i < machineLength → getD (stored a b used) i 0 ≡ joinedWord a b i
-  unfolding joinedWord
+  unfolding joinedWord firstWord
   joined-same i h = stored-word i h ∙ by-generators (among (generatorAt (ticksOf a)) (generatorAt (ticksOf b)) i) refl
     where
       at : ℕ
@@ -171,15 +162,14 @@ module _ (a b : Machine) (whole : length a ≡ machineLength) (sum : ticksOf a +
       own : ℕ
       own = cond (eqb i tAt) t (cond (eqb i updateTicksAt) count (getD before i 0))
 
-      by-brought : among at (generatorAt (ticksOf b)) i ≡ false → (x : Bool) → broughtOver b i ≡ x
-          → own ≡ cond x (getD b i 0) (cond (eqb i tAt) t (cond (eqb i updateTicksAt) count (getD a i 0)))
+      by-brought : among at (generatorAt (ticksOf b)) i ≡ false → (x : Bool) → broughtOver b i ≡ x → own ≡ cond x (getD b i 0) (firstWord a b i)
       by-brought e true f =
-          let apart : (k : ℕ) → 4112 ≤ k → i ≡ k → ⊥ = λ k l q. true≢false (sym f ∙ ap (broughtOver b) q ∙ high-stays b k l) in
+          let apart : (k : ℕ) → 4112 ≤ k → i ≡ k → ⊥ = λ k l q. true≢false (sym f ∙ ap (broughtOver b) q ∙ high-stays a b sum k l) in
           rw (ne-eqb i tAt (apart tAt (lit≤ tt)), ne-eqb i updateTicksAt (apart updateTicksAt (lit≤ tt)), before-word i, f)
       by-brought e false f = rw (before-word i, f, copied-word a b whole sum used i, e)
 
       by-generators : (x : Bool) → among at (generatorAt (ticksOf b)) i ≡ x
-          → own ≡ cond x (getD b (i - at) 0) (cond (broughtOver b i) (getD b i 0) (cond (eqb i tAt) t (cond (eqb i updateTicksAt) count (getD a i 0))))
+          → own ≡ cond x (getD b (i - at) 0) (cond (broughtOver b i) (getD b i 0) (firstWord a b i))
       by-generators true e =
           let k = among-true at (generatorAt (ticksOf b)) i e in
           let low = k .0 in
@@ -188,7 +178,7 @@ module _ (a b : Machine) (whole : length a ≡ machineLength) (sum : ticksOf a +
             ne-eqb i tAt (λ q. omega arith),
             ne-eqb i updateTicksAt (λ q. omega arith),
             before-word i,
-            low-stays b i (omega arith),
+            low-stays a b sum i (omega arith),
             copied-word a b whole sum used i,
             e,
           )

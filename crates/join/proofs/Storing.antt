@@ -11,12 +11,12 @@ use lib.ListN.{length, getD, set, take, drop}
 use Rattle.lists.proofs.Below.{and-first, and-second}
 use Rattle.lists.proofs.Parts.{part-from}
 use Rattle.fills.specs.Fills.{filled}
-use Rattle.fills.proofs.Filled.{filled-length, filled-other, filled-at, filled-none, filled-next}
+use Rattle.fills.proofs.Filled.{filled-length, filled-other, filled-at, filled-next}
 use Rattle.join_model.specs.Join.{among}
 use Rattle.join_model.proofs.JoinedWords.{among-in}
 use Rattle.layout.specs.Layout.{tAt, nAt, updateTicksAt}
 use Rattle.layout.specs.Machine.{Machine, ticksOf, updateTicks}
-use Rattle.join.specs.Stores.{chosen, copied, broughtFrom, broughtUsed, stored}
+use Rattle.join.specs.Stores.{chosen, copied, broughtUsed, stored}
 
 -- One word more.
 pub copy-next : (at k : ℕ) (f : ℕ → ℕ) (m : List ℕ) {now : List ℕ} → now ≡ filled at 1 k f m → set now (at + k) (f k) ≡ filled at 1 (k + 1) f m

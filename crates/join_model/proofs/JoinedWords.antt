@@ -11,14 +11,14 @@ use lib.ListN.{length, getD}
 use Rattle.lists.proofs.Below.{and-first, and-second}
 use Rattle.lists.proofs.Tables.{tabulate-at, tabulate-length}
 use Rattle.layout.specs.Layout.{machineLength, generatorAt, modifierAt, quadrantAt, dacAt, tAt, nAt, updateTicksAt, MMODE}
-use Rattle.layout.specs.Machine.{Machine, ticksOf, updateTicks, updateTicksOf, functionAt}
+use Rattle.layout.specs.Machine.{Machine, ticksOf, updateTicksOf, functionAt}
 use Rattle.texts.specs.declared.Text.the-variants.{Of1978}
 use Rattle.machine.specs.Questions.{regions, testAt}
 use Rattle.machine.proofs.Regions.{region, start, unit-test}
 use Rattle.machine.proofs.SoundMachine.{sound-at, sound-from, sound-controls}
 use Rattle.sums.specs.Sums.{generatorThis, generatorLast}
 use Rattle.pass_laws.specs.Good.{Good}
-use Rattle.join_model.specs.Join.{usesWord, usesDac, among, broughtOver, joinedWord, joined}
+use Rattle.join_model.specs.Join.{usesWord, usesDac, among, broughtOver, firstWord, joinedWord, joined}
 
 -- The tests among n places.
 pub among-in : (at n i : ℕ) → at ≤ i → i < at + n → among at n i ≡ true
@@ -66,23 +66,26 @@ module _ (a b : Machine) (sum : ticksOf a + ticksOf b ≤ 256) where
 
   -- A place outside of them.
   outside-word : (i : ℕ) → i < machineLength → among (generatorAt (ticksOf a)) (generatorAt (ticksOf b)) i ≡ false
-      → getD (joined a b) i 0
-      ≡ cond (broughtOver b i) (getD b i 0)
-      (cond (eqb i tAt) (ticksOf a + ticksOf b) (cond (eqb i updateTicksAt) (updateTicks (ticksOf a + ticksOf b) (getD a nAt 0)) (getD a i 0)))
+      → getD (joined a b) i 0 ≡ cond (broughtOver b i) (getD b i 0) (firstWord a b i)
   unfolding joinedWord
   outside-word i h e = at-place i h ∙ rw e
 
-  -- What doesn't come over and is neither T nor the update ticks is the first's.
+  -- The first's word, where it is neither T nor the update ticks.
+  first-own : (i : ℕ) → i ≢ tAt → i ≢ updateTicksAt → firstWord a b i ≡ getD a i 0
+  unfolding firstWord
+  first-own i t u = rw (ne-eqb i tAt t, ne-eqb i updateTicksAt u)
+
+  -- What isn't brought over and is neither T nor the update ticks is the first's.
   first-word : (i : ℕ) → i < machineLength → among (generatorAt (ticksOf a)) (generatorAt (ticksOf b)) i ≡ false → broughtOver b i ≡ false → i ≢ tAt → i ≢ updateTicksAt
       → getD (joined a b) i 0 ≡ getD a i 0
-  first-word i h e f t u = outside-word i h e ∙ rw (f, ne-eqb i tAt t, ne-eqb i updateTicksAt u)
+  first-word i h e f t u = outside-word i h e ∙ rw (f, first-own i t u)
 
   -- Below sum memory nothing comes over but generators.
-  low-stays : (i : ℕ) → i < 3840 → broughtOver b i ≡ false
+  pub low-stays : (i : ℕ) → i < 3840 → broughtOver b i ≡ false
   unfolding broughtOver
   low-stays i h = rw (among-before 3840 64 i h, among-before 3904 64 i (omega arith), among-before 4096 16 i (omega arith))
 
-  high-stays : (i : ℕ) → 4112 ≤ i → broughtOver b i ≡ false
+  pub high-stays : (i : ℕ) → 4112 ≤ i → broughtOver b i ≡ false
   unfolding broughtOver
   high-stays i h = rw (among-behind 3840 64 i (omega arith), among-behind 3904 64 i (omega arith), among-behind 4096 16 i (omega arith))
 
@@ -90,12 +93,14 @@ module _ (a b : Machine) (sum : ticksOf a + ticksOf b ≤ 256) where
   past-generators i h = among-behind (generatorAt (ticksOf a)) (generatorAt (ticksOf b)) i (omega arith)
 
   pub ticks-joined : ticksOf (joined a b) ≡ ticksOf a + ticksOf b
+  unfolding firstWord
   ticks-joined = outside-word tAt (lit< tt) (past-generators tAt (lit≤ tt)) ∙ rw (high-stays tAt (lit≤ tt))
 
   n-joined : getD (joined a b) nAt 0 ≡ getD a nAt 0
   n-joined = first-word nAt (lit< tt) (past-generators nAt (lit≤ tt)) (high-stays nAt (lit≤ tt)) (eqb-false nAt tAt refl) (eqb-false nAt updateTicksAt refl)
 
   count-joined : getD (joined a b) updateTicksAt 0 ≡ updateTicksOf (joined a b)
+  unfolding firstWord
   count-joined =
       outside-word updateTicksAt (lit< tt) (past-generators updateTicksAt (lit≤ tt)) ∙ rw (high-stays updateTicksAt (lit≤ tt), ticks-joined, n-joined)
 
@@ -121,7 +126,7 @@ module _ (a b : Machine) (sum : ticksOf a + ticksOf b ≤ 256) where
   this-word w h =
       let e : 3840 + w - 3840 ≡ w = omega arith in
       outside-word (3840 + w) (omega arith) (past-generators (3840 + w) (omega arith))
-      ∙ rw (among-in 3840 64 (3840 + w) (omega arith) (omega arith), e, ne-eqb (3840 + w) tAt (λ z. omega arith), ne-eqb (3840 + w) updateTicksAt (λ z. omega arith))
+      ∙ rw (among-in 3840 64 (3840 + w) (omega arith) (omega arith), e, first-own (3840 + w) (λ z. omega arith) (λ z. omega arith))
 
   pub last-word : (w : ℕ) → w < 64 → getD (joined a b) (quadrantAt generatorLast + w) 0 ≡ cond (usesWord b w) (getD b (quadrantAt generatorLast + w) 0) (getD a (quadrantAt generatorLast + w) 0)
   unfolding broughtOver
@@ -132,8 +137,7 @@ module _ (a b : Machine) (sum : ticksOf a + ticksOf b ≤ 256) where
         among-behind 3840 64 (3904 + w) (omega arith),
         among-in 3904 64 (3904 + w) (omega arith) (omega arith),
         e,
-        ne-eqb (3904 + w) tAt (λ z. omega arith),
-        ne-eqb (3904 + w) updateTicksAt (λ z. omega arith),
+        first-own (3904 + w) (λ z. omega arith) (λ z. omega arith),
       )
 
   pub dac-word : (d : ℕ) → d < 16 → getD (joined a b) (dacAt d) 0 ≡ cond (usesDac b d) (getD b (dacAt d) 0) (getD a (dacAt d) 0)
@@ -146,8 +150,7 @@ module _ (a b : Machine) (sum : ticksOf a + ticksOf b ≤ 256) where
         among-behind 3904 64 (4096 + d) (omega arith),
         among-in 4096 16 (4096 + d) (omega arith) (omega arith),
         e,
-        ne-eqb (4096 + d) tAt (λ z. omega arith),
-        ne-eqb (4096 + d) updateTicksAt (λ z. omega arith),
+        first-own (4096 + d) (λ z. omega arith) (λ z. omega arith),
       )
 
   -- It is a good machine.

@@ -6,13 +6,12 @@ use mathlib.Core.Bool.{Bool, true, false, cond, not, _&&_, _||_, true≢false}
 use mathlib.Core.List.{List, [], _∷_}
 use Prim.Native.Nat.{ℕ, _+_, _≤_, _<_}
 use borrow.Author.Tests.{eqb-true, eqb-false, leb-true, ltb-true}
-use lib.Dec.{eqb, ltb}
+use lib.Dec.{eqb}
 use lib.ListN.{length}
-use Rattle.lists.specs.Lists.{allBelow}
 use Rattle.lists.proofs.Below.{and-first, and-second, below-at}
-use Rattle.modes.specs.Modes.{wait, runningC, readData, writeData}
+use Rattle.modes.specs.Modes.{wait, runningC}
 use Rattle.layout.specs.Layout.{machineLength, quadrantWords, dacs}
-use Rattle.layout.specs.Machine.{Machine, ticksOf, gfmAt, functionAt}
+use Rattle.layout.specs.Machine.{Machine, ticksOf, functionAt}
 use Rattle.texts.specs.Texts.{runModeAt}
 use Rattle.texts.specs.declared.Text.the-variants.{Of1978}
 use Rattle.questions.specs.Questions.{Question, asked}
@@ -25,6 +24,7 @@ not-true : (x : Bool) → not x ≡ true → x ≡ false
 not-true true e = absurd (true≢false (sym e))
 not-true false e = refl
 
+-- Three tests together.
 all-three : (x y z : Bool) → (x && (y && z)) ≡ true → (x ≡ true) × (y ≡ true) × (z ≡ true)
 all-three true true true q = (refl, refl, refl)
 all-three true true false q = absurd (true≢false (sym q))
@@ -46,16 +46,14 @@ pub self-contained : (m : Machine) → selfContained m ≡ true → SelfContaine
 unfolding ownGenerators idleModifiers
 self-contained m e =
     record {
-      no-reader = λ g h. eqb-false (runModeAt Of1978 m g) readData (not-true (eqb (runModeAt Of1978 m g) readData) (parts g h .0));
-      no-writer = λ g h. eqb-false (runModeAt Of1978 m g) writeData (not-true (eqb (runModeAt Of1978 m g) writeData) (parts g h .1));
-      inputs = λ g h. ltb-true (gfmAt m g) quadrantWords (parts g h .2);
+      no-reader = λ g h. eqb-false _ _ (not-true _ (all-three _ _ _ (own g h) .0));
+      no-writer = λ g h. eqb-false _ _ (not-true _ (all-three _ _ _ (own g h) .1));
+      inputs = λ g h. ltb-true _ _ (all-three _ _ _ (own g h) .2);
       inactive = λ k h. eqb-true (functionAt m k) 0 (below-at (λ k. eqb (functionAt m k) 0) 128 (and-second (ownGenerators m) (idleModifiers m) e) k h);
     }
   where
-    parts : (g : ℕ) → g < ticksOf m → (not (eqb (runModeAt Of1978 m g) readData) ≡ true) × (not (eqb (runModeAt Of1978 m g) writeData) ≡ true) × (ltb (gfmAt m g) quadrantWords ≡ true)
-    parts g h =
-        all-three (not (eqb (runModeAt Of1978 m g) readData)) (not (eqb (runModeAt Of1978 m g) writeData)) (ltb (gfmAt m g) quadrantWords)
-        (below-at (ownGenerator m) (ticksOf m) (and-first (ownGenerators m) (idleModifiers m) e) g h)
+    own : (g : ℕ) → g < ticksOf m → ownGenerator m g ≡ true
+    own g h = below-at (ownGenerator m) (ticksOf m) (and-first (ownGenerators m) (idleModifiers m) e) g h
 
 -- The second's generator 0 neither waits nor can come to wait.
 no-waiting : (m : Machine) → not (awaitsNeighbour m) ≡ true → (runModeAt Of1978 m 0 ≢ wait) × (runModeAt Of1978 m 0 ≢ runningC)

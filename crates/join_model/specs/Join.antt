@@ -19,12 +19,19 @@ use Rattle.sums.specs.Sums.{generatorThis, generatorLast}
 abbrev pub anyBelow : (ℕ → Bool) → ℕ → Bool
 anyBelow p n = not (allBelow (λ k. not (p k)) n)
 
--- Whether a machine uses a sum word: it is GSUM or GFM of a generator below T, in whatever run mode. Whether it uses a DAC: a 0010 below T names it.
+-- Whether generator g names a sum word, by GSUM or GFM; whether it feeds a DAC: it is in 0010 and names it.
+abbrev pub namesWord : Machine → ℕ → ℕ → Bool
+namesWord m w g = eqb (gsumAt m g) w || eqb (gfmAt m g) w
+
+abbrev pub feedsDac : Machine → ℕ → ℕ → Bool
+feedsDac m d g = eqb (runModeAt Of1978 m g) writeDAC && eqb (dacNumberAt Of1978 m g) d
+
+-- Whether a machine uses a sum word or a DAC: a generator below T, an idle one too, names the word or feeds the DAC.
 unfoldable pub usesWord : Machine → ℕ → Bool
-usesWord m w = anyBelow (λ g. eqb (gsumAt m g) w || eqb (gfmAt m g) w) (ticksOf m)
+usesWord m w = anyBelow (namesWord m w) (ticksOf m)
 
 unfoldable pub usesDac : Machine → ℕ → Bool
-usesDac m d = anyBelow (λ g. eqb (runModeAt Of1978 m g) writeDAC && eqb (dacNumberAt Of1978 m g) d) (ticksOf m)
+usesDac m d = anyBelow (feedsDac m d) (ticksOf m)
 
 -- Whether place i is one of n places from a place on.
 abbrev pub among : ℕ → ℕ → ℕ → Bool
@@ -37,15 +44,20 @@ broughtOver b i =
     (cond (among (quadrantAt generatorLast) quadrantWords i) (usesWord b (i - quadrantAt generatorLast))
     (among (dacAt 0) dacs i && usesDac b (i - dacAt 0)))
 
--- Word i of the joined machine. The second's generators below its T follow the first's T; its sum words and DACs in use are brought over;
--- T is the sum, and the update ticks are those of this T and the first's N. Everything else is the first's.
+-- The first machine's word at place i, where T is the sum and the update ticks are those of this T and the first's N.
+unfoldable pub firstWord : Machine → Machine → ℕ → ℕ
+firstWord a b i =
+    cond (eqb i tAt) (ticksOf a + ticksOf b)
+    (cond (eqb i updateTicksAt) (updateTicks (ticksOf a + ticksOf b) (getD a nAt 0))
+    (getD a i 0))
+
+-- Word i of the joined machine: the second's generators below its T follow the first's T, its sum words and DACs in use are brought over,
+-- and everything else comes from the first.
 unfoldable pub joinedWord : Machine → Machine → ℕ → ℕ
 joinedWord a b i =
     cond (among (generatorAt (ticksOf a)) (generatorAt (ticksOf b)) i) (getD b (i - generatorAt (ticksOf a)) 0)
     (cond (broughtOver b i) (getD b i 0)
-    (cond (eqb i tAt) (ticksOf a + ticksOf b)
-    (cond (eqb i updateTicksAt) (updateTicks (ticksOf a + ticksOf b) (getD a nAt 0))
-    (getD a i 0))))
+    (firstWord a b i))
 
 unfoldable pub joined : Machine → Machine → Machine
 joined a b = tabulate (joinedWord a b) 0 machineLength

@@ -7,7 +7,7 @@ use Prim.Native.Nat.{ℕ, zero, suc, _+_, _≤_, _<_}
 use native.Mathlib.Omega.{arith}
 use native.Mathlib.Numerals.{add-one}
 use borrow.Author.Tests.{eqb-true, eqb-false, eq-eqb, ne-eqb}
-use lib.Dec.{eqb, lit<}
+use lib.Dec.{eqb}
 use lib.ListN.{length, getD, set, replicate, length-set, length-replicate}
 use lib.Seq.{getD-set-same, getD-set-other}
 use Rattle.lists.specs.Lists.{allBelow}
@@ -16,7 +16,7 @@ use Rattle.layout.specs.Machine.{Machine, ticksOf, gsumAt, gfmAt}
 use Rattle.modes.specs.Modes.{writeDAC}
 use Rattle.texts.specs.Texts.{runModeAt, dacNumberAt}
 use Rattle.texts.specs.declared.Text.the-variants.{Of1978}
-use Rattle.join_model.specs.Join.{anyBelow, usesWord, usesDac}
+use Rattle.join_model.specs.Join.{anyBelow, namesWord, feedsDac, usesWord, usesDac}
 use Rattle.join_questions.specs.Marks.{Usable, marksLength, dacsUsedAt, marked, markedTo, marksOf}
 
 -- Some number below n + 1 passes a test where n does or one below it.
@@ -75,7 +75,7 @@ module _ (m : Machine) (u : Usable m) where
         set-mark (set used (gsumAt m g) true) (gfmAt m g) k (omega (arith, length-set used (gsumAt m g) true, whole, u .gfms g h))
         ∙ ap (λ (x : Bool). eqb (gfmAt m g) k || x) (set-mark used (gsumAt m g) k (omega (arith, whole, u .gsums g h)))
 
-    word-mark : (w : ℕ) → w < dacsUsedAt → getD (marked m used g) w false ≡ ((eqb (gsumAt m g) w || eqb (gfmAt m g) w) || getD used w false)
+    word-mark : (w : ℕ) → w < dacsUsedAt → getD (marked m used g) w false ≡ (namesWord m w g || getD used w false)
     unfolding marked
     word-mark w l = go (eqb (runModeAt Of1978 m g) writeDAC) ∙ two w ∙ shuffled (eqb (gfmAt m g) w) (eqb (gsumAt m g) w) (getD used w false)
       where
@@ -89,7 +89,7 @@ module _ (m : Machine) (u : Usable m) where
         shuffled false true z = refl
         shuffled false false z = refl
 
-    dac-mark : (d : ℕ) → d < dacs → getD (marked m used g) (dacsUsedAt + d) false ≡ ((eqb (runModeAt Of1978 m g) writeDAC && eqb (dacNumberAt Of1978 m g) d) || getD used (dacsUsedAt + d) false)
+    dac-mark : (d : ℕ) → d < dacs → getD (marked m used g) (dacsUsedAt + d) false ≡ (feedsDac m d g || getD used (dacsUsedAt + d) false)
     unfolding marked
     dac-mark d l = go (eqb (runModeAt Of1978 m g) writeDAC)
       where
@@ -115,21 +115,21 @@ module _ (m : Machine) (u : Usable m) where
         go false = past
 
   -- The marks of the generators below n, and of all below T.
-  words-to : (n : ℕ) → n ≤ 256 → (w : ℕ) → w < dacsUsedAt → getD (markedTo m n) w false ≡ anyBelow (λ g. eqb (gsumAt m g) w || eqb (gfmAt m g) w) n
+  words-to : (n : ℕ) → n ≤ 256 → (w : ℕ) → w < dacsUsedAt → getD (markedTo m n) w false ≡ anyBelow (namesWord m w) n
   unfolding markedTo
   words-to zero l w h = no-marks marksLength w
   words-to (suc n) l w h =
       word-mark (markedTo m n) (marks-length n) n (omega arith) w h
-      ∙ ap (λ (x : Bool). (eqb (gsumAt m n) w || eqb (gfmAt m n) w) || x) (words-to n (omega arith) w h)
-      ∙ sym (any-next (λ g. eqb (gsumAt m g) w || eqb (gfmAt m g) w) n)
+      ∙ ap (λ (x : Bool). namesWord m w n || x) (words-to n (omega arith) w h)
+      ∙ sym (any-next (namesWord m w) n)
 
-  dacs-to : (n : ℕ) → n ≤ 256 → (d : ℕ) → d < dacs → getD (markedTo m n) (dacsUsedAt + d) false ≡ anyBelow (λ g. eqb (runModeAt Of1978 m g) writeDAC && eqb (dacNumberAt Of1978 m g) d) n
+  dacs-to : (n : ℕ) → n ≤ 256 → (d : ℕ) → d < dacs → getD (markedTo m n) (dacsUsedAt + d) false ≡ anyBelow (feedsDac m d) n
   unfolding markedTo
   dacs-to zero l d h = no-marks marksLength (dacsUsedAt + d)
   dacs-to (suc n) l d h =
       dac-mark (markedTo m n) (marks-length n) n (omega arith) d h
-      ∙ ap (λ (x : Bool). (eqb (runModeAt Of1978 m n) writeDAC && eqb (dacNumberAt Of1978 m n) d) || x) (dacs-to n (omega arith) d h)
-      ∙ sym (any-next (λ g. eqb (runModeAt Of1978 m g) writeDAC && eqb (dacNumberAt Of1978 m g) d) n)
+      ∙ ap (λ (x : Bool). feedsDac m d n || x) (dacs-to n (omega arith) d h)
+      ∙ sym (any-next (feedsDac m d) n)
 
   pub word-marks : (w : ℕ) → w < dacsUsedAt → getD (marksOf m) w false ≡ usesWord m w
   unfolding usesWord

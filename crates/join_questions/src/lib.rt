@@ -3,11 +3,13 @@ ghost use mathlib.Core.Path.{_≡_};
 ghost use mathlib.Core.Bool.{_&&_};
 ghost use mathlib.Core.List.{[], _∷_};
 ghost use Prim.Native.Nat.{_+_, _≤_, _<_};
-ghost use Rattle.layout.specs.Layout.{generators, quadrantWords, dacs};
+ghost use lib.Dec.{ltb};
+ghost use Rattle.layout.specs.Layout.{generators, quadrantWords, dacs, modifierAt, modifierWords, MMODE};
+ghost use Rattle.machine_sweep.specs.Columns.{everyWord};
 ghost use Rattle.questions.specs.Questions.{asked};
 ghost use Rattle.machine.specs.Questions.{question1, question2};
 ghost use Rattle.texts.specs.declared.Text.the-variants.{Of1978};
-ghost use Rattle.join_model.specs.Join.{ownGenerator, ownGenerators, idleModifiers, selfContained, awaitsNeighbour, question16, question17, question18};
+ghost use Rattle.join_model.specs.Join.{ownGenerator, ownGenerators, selfContained, awaitsNeighbour, question16, question17, question18};
 ghost use Rattle.join_questions.specs.Marks.{Usable, dacsUsedAt, marksLength, marked, marksOf, marksApart};
 use texts::Text;
 
@@ -78,10 +80,10 @@ fn own_generators(m: &[u32]) -> bool
     requires { ⌜ Usable (now m) ⌝ }
     ensures { λ r. ⌜ r ≡ ownGenerators (now (m .entry)) ⌝ }
 {
-    let t = layout::ticks(m);
+    let below = layout::ticks(m);
     let mut ok = true;
     let mut g: usize = 0;
-    while g < t {
+    while g < below {
         let own = own_generator(m, g);
         ok = own & ok;
         g += 1;
@@ -92,7 +94,7 @@ fn own_generators(m: &[u32]) -> bool
 // Whether no modifier is active: function 00000 leaves the four bits of AA and BB.
 fn idle_modifiers(m: &[u32]) -> bool
     requires { ⌜ Usable (now m) ⌝ }
-    ensures { λ r. ⌜ r ≡ idleModifiers (now (m .entry)) ⌝ }
+    ensures { λ r. ⌜ r ≡ everyWord (λ x. ltb x 16) (now (m .entry)) (modifierAt 0 + MMODE) modifierWords 0 128 ⌝ }
 {
     let at = layout::MODIFIERS_AT + layout::MMODE;
     machine_sweep::words_below(m, at, layout::MODIFIER_WORDS, layout::MODIFIERS, 16)

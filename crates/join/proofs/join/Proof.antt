@@ -1,6 +1,5 @@
 -- `join::join` meets its contract: the numbers are the questions', and what is let through is stored.
 -- Assumes nothing.
-use mathlib.Core.Path.{_≡_}
 use borrow.Author.Needs.{needs}
 use Rattle.join.proofs.Answers.{refused-first, both-usable, refused-pair, both-fit, both-joined}
 use Rattle.join.proofs.join.Statement.{statement}

@@ -1,7 +1,7 @@
 -- `join_questions::apart` meets its contract: none of the marks passed stands in both.
 -- Assumes nothing.
 use mathlib.Core.Path.{_≡_, ap, _∙_}
-use Prim.Native.Nat.{ℕ, _≤_, _-_}
+use Prim.Native.Nat.{_≤_, _-_}
 use native.Mathlib.Omega.{arith}
 use Rattle.join_questions.specs.Marks.{marksApart}
 use Rattle.join_questions.proofs.Answers.{apart-none, apart-next}
