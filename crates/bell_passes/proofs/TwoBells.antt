@@ -124,9 +124,10 @@ module _ (a b : Machine) (e : joinOf a b .number ≡ 0) where
 
     runs : (own : Memory) → memoryGood own ≡ true → (n : ℕ) → PassRuns n bell own × PassRuns n j memory
     runs own good-own n =
-        let r = bell-rings n bell j at played own memory good-own good in
-        (own-runs (after n bell own) (r .alone) (r .self-contained) (passesByNumber Of1978 n bell own .memory) (memory-after n bell own good-own),
-        own-runs (after n j memory) (r .joined) (r .self-contained-joined) (passesByNumber Of1978 n j memory .memory) (memory-after n j memory good))
+        let r = bell-rings n bell j at played own memory good-own good in (
+          own-runs (after n bell own) (r .alone) (r .self-contained) (passesByNumber Of1978 n bell own .memory) (memory-after n bell own good-own),
+          own-runs (after n j memory) (r .joined) (r .self-contained-joined) (passesByNumber Of1978 n j memory .memory) (memory-after n j memory good),
+        )
 
     -- After k passes other generators are changed; n passes later.
     apart-from : (lo hi : ℕ) → hi ≤ 256 → (k n : ℕ) (m : Machine) → Good Of1978 m → (other : Memory) → memoryGood other ≡ true → Changed lo hi (after k j memory) m
@@ -150,8 +151,9 @@ two-bells =
       join-second = λ a b e memory own good good-own n. plays a b e b (ticksOf a) (second a b e) memory good own good-own n;
       join-apart = λ a b e memory other good good-other k n m good-m.
           let p = pair-from a b e in
-          let few = sound-controls Of1978 a (p .good-a .is-sound) .tHigh in
-          (λ c. apart-from a b e b (ticksOf a) (second a b e) memory good 0 (ticksOf a) few k n m good-m other good-other c (λ g r h l. c .above _ (omega arith)),
-          λ c. apart-from a b e a 0 (first a b e) memory good (ticksOf a) (ticksOf a + ticksOf b) (p .sum) k n m good-m other good-other c
-          (λ g r h l. c .below _ (omega (arith, ticks-after k a memory))));
+          let few = sound-controls Of1978 a (p .good-a .is-sound) .tHigh in (
+            λ c. apart-from a b e b (ticksOf a) (second a b e) memory good 0 (ticksOf a) few k n m good-m other good-other c (λ g r h l. c .above _ (omega arith)),
+            λ c. apart-from a b e a 0 (first a b e) memory good (ticksOf a) (ticksOf a + ticksOf b) (p .sum) k n m good-m other good-other c
+                (λ g r h l. c .below _ (omega (arith, ticks-after k a memory))),
+          );
     }

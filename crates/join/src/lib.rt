@@ -57,7 +57,14 @@ fn bring_used(m: &mut [u32], second: &[u32], used: &Uses)
     let n = layout::QUADRANT_WORDS;
     bring(m, layout::GENERATOR_THIS_AT, this, used, 0, n);
     bring(m, layout::GENERATOR_LAST_AT, last, used, 0, n);
-    bring(m, layout::DACS_AT, dacs, used, join_questions::DACS_USED_AT, layout::DACS);
+    bring(
+        m,
+        layout::DACS_AT,
+        dacs,
+        used,
+        join_questions::DACS_USED_AT,
+        layout::DACS,
+    );
 }
 
 // T and the update ticks.

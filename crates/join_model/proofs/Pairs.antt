@@ -9,15 +9,15 @@ use borrow.Author.Tests.{eqb-true, eqb-false, leb-true, ltb-true}
 use lib.Dec.{eqb}
 use lib.ListN.{length}
 use Rattle.lists.proofs.Below.{and-first, and-second, below-at}
-use Rattle.modes.specs.Modes.{wait, runningC}
+use Rattle.modes.specs.Modes.{wait, runningC, readData, writeData}
 use Rattle.layout.specs.Layout.{machineLength, quadrantWords, dacs}
-use Rattle.layout.specs.Machine.{Machine, ticksOf, functionAt}
+use Rattle.layout.specs.Machine.{Machine, ticksOf, gfmAt, functionAt}
 use Rattle.texts.specs.Texts.{runModeAt}
 use Rattle.texts.specs.declared.Text.the-variants.{Of1978}
 use Rattle.questions.specs.Questions.{Question, asked}
 use Rattle.machine.specs.Questions.{question1, question2}
 use Rattle.pass_laws.specs.Good.{Good}
-use Rattle.join_model.specs.Join.{usesWord, usesDac, ownGenerator, ownGenerators, idleModifiers, selfContained, awaitsNeighbour, wordsApart, dacsApart, joined, joinRefusal, joinOf, question16, question17, question18}
+use Rattle.join_model.specs.Join.{usesWord, usesDac, readsData, writesData, ownInput, ownGenerator, ownGenerators, idleModifiers, selfContained, awaitsNeighbour, wordsApart, dacsApart, joined, joinRefusal, joinOf, question16, question17, question18}
 use Rattle.join_model.specs.Bells.{SelfContained}
 
 not-true : (x : Bool) → not x ≡ true → x ≡ false
@@ -46,14 +46,14 @@ pub self-contained : (m : Machine) → selfContained m ≡ true → SelfContaine
 unfolding ownGenerators idleModifiers
 self-contained m e =
     record {
-      no-reader = λ g h. eqb-false _ _ (not-true _ (all-three _ _ _ (own g h) .0));
-      no-writer = λ g h. eqb-false _ _ (not-true _ (all-three _ _ _ (own g h) .1));
-      inputs = λ g h. ltb-true _ _ (all-three _ _ _ (own g h) .2);
+      no-reader = λ g h. eqb-false (runModeAt Of1978 m g) readData (not-true (readsData m g) (own g h .0));
+      no-writer = λ g h. eqb-false (runModeAt Of1978 m g) writeData (not-true (writesData m g) (own g h .1));
+      inputs = λ g h. ltb-true (gfmAt m g) quadrantWords (own g h .2);
       inactive = λ k h. eqb-true (functionAt m k) 0 (below-at (λ k. eqb (functionAt m k) 0) 128 (and-second (ownGenerators m) (idleModifiers m) e) k h);
     }
   where
-    own : (g : ℕ) → g < ticksOf m → ownGenerator m g ≡ true
-    own g h = below-at (ownGenerator m) (ticksOf m) (and-first (ownGenerators m) (idleModifiers m) e) g h
+    own : (g : ℕ) → g < ticksOf m → (not (readsData m g) ≡ true) × (not (writesData m g) ≡ true) × (ownInput m g ≡ true)
+    own g h = all-three (not (readsData m g)) (not (writesData m g)) (ownInput m g) (below-at (ownGenerator m) (ticksOf m) (and-first (ownGenerators m) (idleModifiers m) e) g h)
 
 -- The second's generator 0 neither waits nor can come to wait.
 no-waiting : (m : Machine) → not (awaitsNeighbour m) ≡ true → (runModeAt Of1978 m 0 ≢ wait) × (runModeAt Of1978 m 0 ≢ runningC)

@@ -37,7 +37,7 @@ module _ (m : Machine) (g : ℕ) (h : g < ticksOf m) where
 
   pub uses-input : (w : ℕ) → gfmAt m g ≡ w → usesWord m w ≡ true
   unfolding usesWord
-  uses-input w e = any-from (namesWord m w) (ticksOf m) g h (or-second _ (eq-eqb (gfmAt m g) w e))
+  uses-input w e = any-from (namesWord m w) (ticksOf m) g h (or-second (eqb (gsumAt m g) w) (eq-eqb (gfmAt m g) w e))
 
   pub uses-feeder : (d : ℕ) → runModeAt Of1978 m g ≡ writeDAC → dacNumberAt Of1978 m g ≡ d → usesDac m d ≡ true
   unfolding usesDac

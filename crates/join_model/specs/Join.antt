@@ -66,9 +66,19 @@ joined a b = tabulate (joinedWord a b) 0 machineLength
 abbrev pub question16 : Machine → Machine → Question
 question16 a b = record { number = 16; yes = leb (ticksOf a + ticksOf b) generators }
 
+-- A generator that reads data, one that writes data, and one whose GFM names a word of the generators' quadrant.
+abbrev pub readsData : Machine → ℕ → Bool
+readsData m g = eqb (runModeAt Of1978 m g) readData
+
+abbrev pub writesData : Machine → ℕ → Bool
+writesData m g = eqb (runModeAt Of1978 m g) writeData
+
+abbrev pub ownInput : Machine → ℕ → Bool
+ownInput m g = ltb (gfmAt m g) quadrantWords
+
 -- A machine that sounds by its generators alone: below T no reader, no writer and no modifier-quadrant GFM, and of all modifiers none that is active.
 abbrev pub ownGenerator : Machine → ℕ → Bool
-ownGenerator m g = not (eqb (runModeAt Of1978 m g) readData) && (not (eqb (runModeAt Of1978 m g) writeData) && ltb (gfmAt m g) quadrantWords)
+ownGenerator m g = not (readsData m g) && (not (writesData m g) && ownInput m g)
 
 unfoldable pub ownGenerators : Machine → Bool
 ownGenerators m = allBelow (ownGenerator m) (ticksOf m)

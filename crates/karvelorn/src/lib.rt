@@ -8,6 +8,7 @@ ghost use mathlib.Core.Bool.{cond};
 ghost use Rattle.compare.specs.Compare.{compareOf};
 ghost use Rattle.any_order.specs.AnyOrder.{anyOrderOf};
 ghost use Rattle.parts.specs.Parts.{partsOf};
+ghost use Rattle.join_model.specs.Join.{joinOf};
 ghost use Rattle.texts.specs.declared.Text.the-variants.{Of1978, Old};
 use sums::Clipped;
 use texts::Text;
@@ -217,4 +218,12 @@ pub extern "C" fn karvelorn_old_parts(
     ensures { λ r. ⌜ record { number = r; point = now (point .exit); place = now (place .exit); contents = now (contents .exit); items = now (items .exit) } ≡ partsOf Old (now (m .entry)) (now (first .entry)) (now (second .entry)) (now (contents .entry)) (now (items .entry)) ⌝ }
 {
     parts(Text::Old, m, first, second, contents, items, point, place)
+}
+
+// Two machines joined: the first becomes the joined one, the second is only read. The answer is the number of the refusing question or 0.
+#[no_mangle]
+pub extern "C" fn karvelorn_join(m: &mut [u32], second: &[u32]) -> u32
+    ensures { λ r. ⌜ record { number = r; machine = now (m .exit) } ≡ joinOf (now (m .entry)) (now (second .entry)) ⌝ }
+{
+    join::join(m, second)
 }
