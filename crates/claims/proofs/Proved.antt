@@ -38,6 +38,8 @@ use Rattle.equal_parts.proofs.Parts.{parts-says, none-shown, contents-part}
 use Rattle.equal_parts.proofs.Shown.{found-differs}
 use Rattle.order_pitch.proofs.Sorted.{by-pitch-sorted, by-pitch-passes, sorted-is-by-pitch}
 use Rattle.wave_format.proofs.Samples.{sample-exact}
+use Rattle.bell_passes.proofs.TwoBells.{two-bells}
+use Rattle.bench_ringing.proofs.HeardPasses.{heard-passes, heard-all}
 use Rattle.bench_ringing.proofs.Printing.{printed-heard}
 use Rattle.bench_ringing.proofs.RungFile.{file-ticks, rung-file}
 use Rattle.bench_gathering.proofs.Gatherings.{gathered-file}
@@ -68,6 +70,9 @@ claims =
       sorted-passes = by-pitch-passes;
       order-printed-read = order-printed;
       sine-not-zero = magnitude-positive;
+      two-bells = two-bells;
+      heard-passes = heard-passes;
+      heard-all = heard-all;
       worked-examples = worked-examples;
       fresh-good = λ text. record { whole = fresh-length; is-sound = fresh-sound text };
       pass-keeps = pass-sound;

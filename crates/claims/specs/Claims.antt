@@ -1,6 +1,6 @@
 -- Every claim that the demands, document 01 and the requests of document 02 make beyond the contracts of the calls. One value of this record, `claims` in proofs/Proved.antt, is the proof of all.
 -- Assumes nothing.
-use Prim.Native.Nat.{ℕ, _+_, _*_, _%_, _^_, _≤_, _<_}
+use Prim.Native.Nat.{ℕ, suc, _+_, _*_, _%_, _^_, _≤_, _<_}
 use mathlib.Core.Bool.{true, false}
 use mathlib.Core.List.{List, [], _∷_}
 use mathlib.Core.Logic.{_↔_, _≢_}
@@ -8,7 +8,7 @@ use mathlib.Core.Path.{_≡_}
 use lib.IntN.{pos, _*ℤ_}
 use lib.ListN.{length, getD, set}
 use Rattle.words.specs.Words.{signed}
-use Rattle.layout.specs.Layout.{counterAt, dxAt, quadrantWords, generators, machineLength, updateTicksAt}
+use Rattle.layout.specs.Layout.{counterAt, lingeringAt, dxAt, quadrantWords, generators, machineLength, updateTicksAt}
 use Rattle.layout.specs.Machine.{Machine, Order, Items, Commands, Memory, ticksOf, updateTicks, updateTicksOf, lowCounter}
 use Rattle.layout.specs.Widths.{counterBits, lingerBits}
 use Rattle.texts.specs.declared.Text.{Text}
@@ -31,6 +31,7 @@ use Rattle.pass_model.specs.Generators.{generatorsOf, begun}
 use Rattle.pass_model.specs.Clipped.{noMarks, SumLeft}
 use Rattle.pass_model.specs.Pass.{unitQuestions, Call, plainCall, passOf}
 use Rattle.pass_laws.specs.Good.{Good}
+use Rattle.pass_laws.specs.Passes.{passesByNumber}
 use Rattle.pass_laws.specs.Settings.{SettingsKept}
 use Rattle.command_fields.specs.Fields.{dataOf}
 use Rattle.command_timer.specs.Timer.{behind, ttOf, timed}
@@ -50,6 +51,7 @@ use Rattle.equal_orders.specs.WorkedExamples.{WorkedExamples, forth, back}
 use Rattle.equal_any_order.specs.EveryOrder.{Passes, EveryTwoEqual, Apart}
 use Rattle.equal_any_order.specs.MarksApart.{upAndDown}
 use Rattle.equal_parts.specs.Parting.{PartingContents}
+use Rattle.bell_passes.specs.TwoBells.{TwoBells}
 use Rattle.bench_text.specs.Text.{lineBytes, decimal}
 use Rattle.bench_numbers.specs.Numbers.{decimalIn}
 use Rattle.bench_numbers.specs.declared.Number.the-variants.{Is}
@@ -98,6 +100,13 @@ pub record Claims : Type 0 where
       → (isOrderFile (orderLines o) ≡ true) × (orderOf (orderLines o) ≡ o)
   -- The sine is never 0, so that the sum of cosines divides by no 0.
   pub sine-not-zero : (k : ℕ) → 0 < magnitude k
+  -- Two bells in one ring.
+  pub two-bells : TwoBells
+  -- What is heard without commands, from a machine that isn't lingering, are the machines of passes by number in sequence, up to the first refusal: where nothing is refused, as many as were asked for.
+  pub heard-passes : (text : Text) (n : ℕ) (m : Machine) (memory : Memory) → getD m lingeringAt 0 ≡ 0 → (k : ℕ) → k < length (heard text n m memory [] .machines)
+      → getD (heard text n m memory [] .machines) k [] ≡ passesByNumber text (suc k) m memory .machine
+  pub heard-all : (text : Text) (n : ℕ) (m : Machine) (memory : Memory) (commands : Commands) → heard text n m memory commands .number ≡ 0
+      → length (heard text n m memory commands .machines) ≡ n
   -- The twelve worked examples.
   pub worked-examples : WorkedExamples
   -- A fresh machine passes questions 1 and 2, and a pass, a command and an update keep them.

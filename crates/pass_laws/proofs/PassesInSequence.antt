@@ -67,3 +67,16 @@ by-number-parts text k n m memory =
     ∙ ap (λ (r : Rung). r .machine) (rung-parts text (byNumber (ticksOf m)) (replicate k noData) (replicate n noData) m memory)
     ∙ ap (λ (t : ℕ). rungBy text (byNumber t) (first .machine) (first .memory) (replicate n noData) .machine)
     (sym (rung-ticks text (byNumber (ticksOf m)) (replicate k noData) m memory))
+
+-- The first of some passes by number, and the others.
+pub by-number-first : (text : Text) (n : ℕ) (m : Machine) (memory : Memory)
+    → passesByNumber text (suc n) m memory .machine
+    ≡ passesByNumber text n (passOf text m (callOf (byNumber (ticksOf m)) memory noData) .machine) (passOf text m (callOf (byNumber (ticksOf m)) memory noData) .memory) .machine
+unfolding rungBy
+by-number-first text n m memory =
+    let r = passOf text m (callOf (byNumber (ticksOf m)) memory noData) in
+    ap (λ (t : ℕ). rungBy text (byNumber t) (r .machine) (r .memory) (replicate n noData) .machine) (sym (pass-settings text m (callOf (byNumber (ticksOf m)) memory noData) .t))
+
+pub by-number-none : (text : Text) (m : Machine) (memory : Memory) → passesByNumber text 0 m memory .machine ≡ m
+unfolding rungBy
+by-number-none text m memory = refl
