@@ -41,10 +41,15 @@
  *   14 Has each entry of a chain its two words, with names that stand in their run and are entries before it, and are
  *      all names an entry's?
  *   15 Are the earliest numbers for a chain at most 127?
+ *   16 Is the sum of both machines' T at most 256?
+ *   17 Has neither machine, below its T, a generator in 0111 or 0011 or with a GFM of 64 or more, nor an active modifier
+ *      among all 128, and is the second's generator 0 in neither 1001 nor 1101?
+ *   18 Is there no sum word and no DAC that both machines use?
  * A pass asks 1, 2, 5, 6, 7, 8, 10, 11 and 12 in this sequence. An update asks 1 and 2, then 3 and 4 as each command
  * has its turn; a compare asks 1 and 2, then 5 and 6 of each order, karvelorn_parts the same, then 1 of the run for the
- * contents and 7 of the read list, and karvelorn_any_order 1 and 2. These four ask none of 10 to 12. karvelorn_chain,
- * which is handed no machine, asks 14 and then 15, and no other call asks these. No call answers 9.
+ * contents and 7 of the read list, and karvelorn_any_order 1 and 2; karvelorn_join asks 1 and 2 of the first machine, 1
+ * and 2 of the second, then 16, 17 and 18. These five ask none of 10 to 12. karvelorn_chain, which is handed no machine,
+ * asks 14 and then 15. No call answers 9.
  * A refused call leaves every run as it was, but for an update that refuses a command (3 or 4): what it did before that
  * command stays done.
  *
@@ -96,7 +101,8 @@
  *
  * Machines of the older text: karvelorn_old_pass, karvelorn_old_compare and karvelorn_old_parts. They are the same runs
  * of words, and karvelorn_fresh makes them too: a fresh machine is good by both texts. No word tells which text a machine
- * follows; the call does. karvelorn_update and karvelorn_any_order are for machines of 1978 alone. What differs:
+ * follows; the call does. karvelorn_update, karvelorn_any_order and karvelorn_join are for machines of 1978 alone. What
+ * differs:
  *   Question 2  GMODE has 8 bits, with modes as below, and MMODE a function as below. All other words are asked as above
  *   GMODE       run mode (3 bits), each switched as a run mode of 1978: 000 inactive, 001 pause, 010 running (1111), 011
  *               running (1110), 101 running (1101), 100 wait (1001), 110 read data (0111), 111 sends. Envelope mode (2):
@@ -276,6 +282,27 @@ uint32_t karvelorn_any_order(const uint32_t *machine, size_t words, uint32_t *al
 uint32_t karvelorn_parts(const uint32_t *machine, size_t words, const uint32_t *first, size_t first_entries,
                          const uint32_t *second, size_t second_entries, uint32_t *contents, size_t contents_words,
                          uint32_t *items, size_t items_len, uint32_t *point, uint32_t *place);
+
+/* Two bells in one ring: joins two machines of 1978 to one in which each bell sounds as it does alone. A machine uses a
+ * sum word that is GSUM or GFM of a generator below T, an idle one too, and a DAC that a generator below T in 0010
+ * names. (So two fresh machines both use word 0: 18.) The first machine becomes the joined one:
+ *   generators     the second's below its T, all their words, follow the first's T, over what the first held there
+ *   sum words      the second's that it uses, of generator-this-pass and of generator-last
+ *   DAC words      the second's that it uses
+ *   T              the sum of both, with the update ticks of this T and the first's N
+ * Everything else stays the first's.
+ *
+ *   machine, words        the first machine, and its length: KARVELORN_WORDS
+ *   second, second_words  the second machine, and its length: KARVELORN_WORDS; it is only read
+ *
+ * Passes by number (order 0 to T-1), with no items and no places, over a delay memory that passes question 10, are not
+ * refused. After each of them the sum words and DAC words that a bell uses, and the words of its generators, are those
+ * it has alone after as many passes; and a change that the host makes between two passes to the words of one bell's
+ * generators, and that keeps question 2 and the settings (karvelorn_compare), alters none of the other's from then on.
+ *
+ * Answers 0, 1, 2, 16, 17 or 18. A refusal leaves the first machine as it was.
+ */
+uint32_t karvelorn_join(uint32_t *machine, size_t words, const uint32_t *second, size_t second_words);
 
 /* A pass, a compare and parts of a machine of the older text: as karvelorn_pass, karvelorn_compare and karvelorn_parts,
  * with the differences listed above. A pass answers 0, 1, 2, 5, 6, 7, 8 or 10.

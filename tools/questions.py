@@ -38,6 +38,9 @@ QUESTIONS = {
     13: "Is the text that the file names known?",
     14: "Do a chain's entries have their form, and name only entries before them?",
     15: "Are a chain's earliest numbers at most 127?",
+    16: "Is the sum of both T at most 256?",
+    17: "Do both machines sound by generators alone, and can the second follow?",
+    18: "Do they share no sum word and no DAC?",
 }
 
 

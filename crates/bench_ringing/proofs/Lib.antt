@@ -3,3 +3,4 @@ pub mod RungFile
 pub mod Updates
 pub mod Turns
 pub mod Keeping
+pub mod HeardPasses

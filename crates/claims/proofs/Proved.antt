@@ -40,9 +40,10 @@ use Rattle.chain.proofs.Claimed.{chain-numbers, chain-least, chain-none, chain-
 use Rattle.chain_views.proofs.Seen.{chain-sees}
 use Rattle.equal_ringings.proofs.Throughout.{whole-ringings, compare-throughout}
 use Rattle.equal_ringings.proofs.WokenLater.{woken-agree, throughout-apart}
-use Rattle.bench_passes.proofs.Heard.{heard-rung}
 use Rattle.order_pitch.proofs.Sorted.{by-pitch-sorted, by-pitch-passes, sorted-is-by-pitch}
 use Rattle.wave_format.proofs.Samples.{sample-exact}
+use Rattle.bell_passes.proofs.TwoBells.{two-bells}
+use Rattle.bench_ringing.proofs.HeardPasses.{heard-passes, heard-all}
 use Rattle.bench_ringing.proofs.Printing.{printed-heard}
 use Rattle.bench_ringing.proofs.RungFile.{file-ticks, rung-file}
 use Rattle.bench_gathering.proofs.Gatherings.{gathered-file}
@@ -71,12 +72,14 @@ claims =
       whole-ringings = whole-ringings;
       compare-throughout = compare-throughout;
       throughout-apart = (woken-agree, throughout-apart);
-      heard-rung = heard-rung;
       sorted-by-pitch = by-pitch-sorted;
       sorted-alone = sorted-is-by-pitch;
       sorted-passes = by-pitch-passes;
       order-printed-read = order-printed;
       sine-not-zero = magnitude-positive;
+      two-bells = two-bells;
+      heard-passes = heard-passes;
+      heard-all = heard-all;
       worked-examples = worked-examples;
       fresh-good = λ text. record { whole = fresh-length; is-sound = fresh-sound text };
       pass-keeps = pass-sound;

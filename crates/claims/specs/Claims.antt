@@ -31,6 +31,7 @@ use Rattle.pass_model.specs.Generators.{generatorsOf, begun}
 use Rattle.pass_model.specs.Clipped.{noMarks, SumLeft}
 use Rattle.pass_model.specs.Pass.{unitQuestions, Call, plainCall, passOf}
 use Rattle.pass_laws.specs.Good.{Good}
+use Rattle.pass_laws.specs.Passes.{passesByNumber}
 use Rattle.pass_laws.specs.Settings.{SettingsKept}
 use Rattle.command_fields.specs.Fields.{dataOf}
 use Rattle.command_timer.specs.Timer.{behind, ttOf, timed}
@@ -58,6 +59,7 @@ use Rattle.chain.specs.Chain.{chainOf}
 use Rattle.chain_views.specs.Sees.{Sees}
 use Rattle.equal_ringings.specs.Ringings.{NoneWaits, EqualThroughout}
 use Rattle.equal_ringings.specs.WokenLater.{wokenLater, wokenFirst, wokenLast}
+use Rattle.bell_passes.specs.TwoBells.{TwoBells}
 use Rattle.bench_text.specs.Text.{lineBytes, decimal}
 use Rattle.bench_numbers.specs.Numbers.{decimalIn}
 use Rattle.bench_numbers.specs.declared.Number.the-variants.{Is}
@@ -66,7 +68,6 @@ use Rattle.bench_ringing.specs.Ringing.{updateAfter, printed, outputOf}
 use Rattle.bench_ringing.specs.Heard.{heard, linesHeard}
 use Rattle.bench_ringing.specs.Steps.{rungFrom}
 use Rattle.bench_gathering.specs.Gathering.{printedFrom}
-use Rattle.bench_passes.specs.Passes.{rungByNumber}
 
 pub record Claims : Type 0 where
   -- Demand 3: on a machine that passes questions 1 and 2, two orders that pass 5 and 6 are equal exactly when they agree on the four points.
@@ -105,9 +106,6 @@ pub record Claims : Type 0 where
       → (compareOf text m o₁ o₂ .equal ≡ true) ↔ EqualThroughout text m o₁ o₂
   -- With a generator in 1001 that need not be: on a shown machine two orders agree and part in the second pass.
   pub throughout-apart : Agree Of1978 wokenLater wokenFirst wokenLast × (EqualThroughout Of1978 wokenLater wokenFirst wokenLast → ⊥)
-  -- The machines that the bench program goes through without commands, from one that isn't lingering, are those that passes by number leave.
-  pub heard-rung : (text : Text) (passes : ℕ) (m : Machine) (memory : Memory) → Good text m → getD m lingeringAt 0 ≡ 0 → (k : ℕ) → k < length (heard text passes m memory [] .machines)
-      → getD (heard text passes m memory [] .machines) k [] ≡ rungByNumber text (suc k) m memory .machine
   -- The order by pitch is sorted by pitch, no other order is, and it passes 5 and 6.
   pub sorted-by-pitch : (m : Machine) → SortedByPitch m (byPitch m)
   pub sorted-alone : (m : Machine) (order : Order) → SortedByPitch m order → order ≡ byPitch m
@@ -117,6 +115,13 @@ pub record Claims : Type 0 where
       → (isOrderFile (orderLines o) ≡ true) × (orderOf (orderLines o) ≡ o)
   -- The sine is never 0, so that the sum of cosines divides by no 0.
   pub sine-not-zero : (k : ℕ) → 0 < magnitude k
+  -- Two bells in one ring.
+  pub two-bells : TwoBells
+  -- What is heard without commands, from a machine that isn't lingering, are the machines of passes by number in sequence, up to the first refusal: where nothing is refused, as many as were asked for.
+  pub heard-passes : (text : Text) (n : ℕ) (m : Machine) (memory : Memory) → getD m lingeringAt 0 ≡ 0 → (k : ℕ) → k < length (heard text n m memory [] .machines)
+      → getD (heard text n m memory [] .machines) k [] ≡ passesByNumber text (suc k) m memory .machine
+  pub heard-all : (text : Text) (n : ℕ) (m : Machine) (memory : Memory) (commands : Commands) → heard text n m memory commands .number ≡ 0
+      → length (heard text n m memory commands .machines) ≡ n
   -- The twelve worked examples.
   pub worked-examples : WorkedExamples
   -- A fresh machine passes questions 1 and 2, and a pass, a command and an update keep them.

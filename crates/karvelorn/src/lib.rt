@@ -8,6 +8,7 @@ ghost use mathlib.Core.Bool.{cond};
 ghost use Rattle.compare.specs.Compare.{compareOf};
 ghost use Rattle.any_order.specs.AnyOrder.{anyOrderOf};
 ghost use Rattle.parts.specs.Parts.{partsOf};
+ghost use Rattle.join_model.specs.Join.{joinOf};
 ghost use Rattle.texts.specs.declared.Text.the-variants.{Of1978, Old};
 ghost use Rattle.chain.specs.Chain.{chainOf};
 use chain_numbers::Numbers;
@@ -227,4 +228,12 @@ pub extern "C" fn karvelorn_chain(entries: &[u32], names: &[u32], numbers: &mut 
     ensures { λ r. ⌜ record { number = r; numbers = now (numbers .exit) } ≡ chainOf (record { entries = now (entries .entry); names = now (names .entry) }) (now (numbers .entry)) ⌝ }
 {
     chain::chain(entries, names, numbers)
+}
+
+// Two machines joined: the first becomes the joined one, the second is only read. The answer is the number of the refusing question or 0.
+#[no_mangle]
+pub extern "C" fn karvelorn_join(m: &mut [u32], second: &[u32]) -> u32
+    ensures { λ r. ⌜ record { number = r; machine = now (m .exit) } ≡ joinOf (now (m .entry)) (now (second .entry)) ⌝ }
+{
+    join::join(m, second)
 }

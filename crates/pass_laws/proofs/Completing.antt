@@ -21,7 +21,7 @@ use Rattle.machine.specs.Questions.{sound}
 use Rattle.sums.specs.Sums.{generatorThis, generatorLast, modifierThis, closed}
 use Rattle.sums.proofs.Blocks.{Outside, outside-after}
 use Rattle.sums.proofs.Memory.{Quadrants}
-use Rattle.sums.proofs.Closing.{closed-length, closed-outside, closed-generator-last}
+use Rattle.sums.proofs.Closing.{closed-length, closed-outside, closed-generator-this, closed-generator-last}
 use Rattle.modifier.specs.declared.Modifier.{Modifier}
 use Rattle.modifier.specs.Modifier.{stored}
 use Rattle.modifier_delay.specs.Invoke.{unitOf}
@@ -131,6 +131,13 @@ module _ (text : Text) (t : ℕ) (h : Held) (s : Sums) where
         getD-set-other (closed wordsAfter sumsAfter) counterAt (quadrantAt generatorLast + w) ((getD (closed wordsAfter sumsAfter) counterAt 0 + 1) % 2 ^ counterBits) 0 (λ z. omega arith)
         ∙ closed-generator-last wordsAfter sumsAfter after-quadrants (same-reach (words-length text t h s (t / 2)) r) w b
         ∙ ap (λ (l : List ℕ). getD l w 0) (other-after generatorThis (λ z. omega arith))
+
+    -- One of generator-this is cleared.
+    pub completed-this : Reaches (h .words) → (w : ℕ) → w < 64 → getD (completed text t h s .words) (quadrantAt generatorThis + w) 0 ≡ 0
+    unfolding completed counted
+    completed-this r w b =
+        getD-set-other (closed wordsAfter sumsAfter) counterAt (quadrantAt generatorThis + w) ((getD (closed wordsAfter sumsAfter) counterAt 0 + 1) % 2 ^ counterBits) 0 (λ z. omega arith)
+        ∙ closed-generator-this wordsAfter sumsAfter after-quadrants (same-reach (words-length text t h s (t / 2)) r) w b
 
     -- They keep a machine sound.
     pub completed-sound : t ≤ 256 → WordsLow (h .memory) → sound text (h .words) ≡ true → Reaches (h .words)

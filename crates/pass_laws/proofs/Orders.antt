@@ -1,4 +1,4 @@
--- An order in which each number below t stands once: its entries are distinct numbers of generators, and it can be cut at each of them.
+-- An order in which each number below t stands once, as the order by number: its entries are distinct numbers of generators, and it can be cut at each of them.
 -- Assumes nothing.
 use mathlib.Core.Path.{_≡_, refl, _∙_, ap}
 use mathlib.Core.Bool.{Bool, true, false, cond}
@@ -12,7 +12,18 @@ use Rattle.lists.specs.Lists.{count}
 use Rattle.layout.specs.Machine.{Order}
 use Rattle.order.specs.Order.{IsOrder}
 use Rattle.lists.proofs.Counts.{count-first, count-next}
+use Rattle.order_lists.specs.Sequences.{byNumber}
+use Rattle.order_lists.proofs.ByNumber.{by-number-length, by-number-at, by-number-once}
 use Rattle.order_lists.proofs.Orders.{there-once}
+
+-- The order by number.
+pub by-number-order : (t : ℕ) → IsOrder t (byNumber t)
+by-number-order t =
+    record {
+      entries = by-number-length t;
+      once = by-number-once t;
+      below = λ i h. let l : i < t = omega (arith, h, by-number-length t) in rw (by-number-at t i l) l;
+    }
 
 -- Numbers of generators, none of them twice.
 pub record Distinct (order : Order) : Type 0 where

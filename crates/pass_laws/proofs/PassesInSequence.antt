@@ -1,16 +1,21 @@
 -- What passes in sequence keep, and that they may be taken in parts.
 -- Assumes nothing.
-use mathlib.Core.Path.{_≡_, refl, ap}
+use mathlib.Core.Path.{_≡_, refl, sym, ap, _∙_}
 use mathlib.Core.Bool.{true}
 use mathlib.Core.List.{List, [], _∷_, _++_}
-use Rattle.layout.specs.Machine.{Machine, Order, Memory}
+use Prim.Native.Nat.{ℕ, zero, suc, _+_}
+use native.Mathlib.Nat.{zero-add, suc-add}
+use lib.ListN.{replicate}
+use Rattle.layout.specs.Machine.{Machine, Order, Memory, ticksOf}
 use Rattle.texts.specs.declared.Text.{Text}
 use Rattle.delay_questions.specs.Questions.{memoryGood}
 use Rattle.pass_model.specs.Pass.{writtenData, passOf}
 use Rattle.pass_laws.specs.Good.{Good}
-use Rattle.pass_laws.specs.Passes.{PassData, callOf, Rung, rungBy}
+use Rattle.pass_laws.specs.Passes.{PassData, callOf, Rung, rungBy, noData, passesByNumber}
 use Rattle.pass_laws.proofs.PassSound.{pass-sound}
 use Rattle.pass_laws.proofs.PassDelays.{pass-memory}
+use Rattle.pass_laws.proofs.PassSettings.{pass-settings}
+use Rattle.order_lists.specs.Sequences.{byNumber}
 
 module _ (text : Text) (order : Order) where
   -- Questions 1, 2 and 10 stay answered yes.
@@ -40,3 +45,38 @@ module _ (text : Text) (order : Order) where
   rung-parts (d ∷ ds) es m memory =
       let r = passOf text m (callOf order memory d) in
       ap (λ (x : Rung). record { machine = x .machine; memory = x .memory; written = writtenData r ∷ x .written }) (rung-parts ds es (r .machine) (r .memory))
+
+  -- T stays.
+  pub rung-ticks : (ds : List PassData) (m : Machine) (memory : Memory) → ticksOf (rungBy text order m memory ds .machine) ≡ ticksOf m
+  unfolding rungBy
+  rung-ticks [] m memory = refl
+  rung-ticks (d ∷ ds) m memory =
+      let r = passOf text m (callOf order memory d) in
+      rung-ticks ds (r .machine) (r .memory) ∙ pass-settings text m (callOf order memory d) .t
+
+-- Passes by number may be taken in parts too.
+more-passes : (k n : ℕ) → replicate (k + n) noData ≡ replicate k noData ++ replicate n noData
+more-passes zero n = ap (λ (i : ℕ). replicate i noData) (zero-add n)
+more-passes (suc k) n = ap (λ (i : ℕ). replicate i noData) (suc-add k n) ∙ ap (λ (ds : List PassData). noData ∷ ds) (more-passes k n)
+
+pub by-number-parts : (text : Text) (k n : ℕ) (m : Machine) (memory : Memory)
+    → passesByNumber text (k + n) m memory .machine ≡ passesByNumber text n (passesByNumber text k m memory .machine) (passesByNumber text k m memory .memory) .machine
+by-number-parts text k n m memory =
+    let first = passesByNumber text k m memory in
+    ap (λ (ds : List PassData). rungBy text (byNumber (ticksOf m)) m memory ds .machine) (more-passes k n)
+    ∙ ap (λ (r : Rung). r .machine) (rung-parts text (byNumber (ticksOf m)) (replicate k noData) (replicate n noData) m memory)
+    ∙ ap (λ (t : ℕ). rungBy text (byNumber t) (first .machine) (first .memory) (replicate n noData) .machine)
+    (sym (rung-ticks text (byNumber (ticksOf m)) (replicate k noData) m memory))
+
+-- The first of some passes by number, and the others.
+pub by-number-first : (text : Text) (n : ℕ) (m : Machine) (memory : Memory)
+    → passesByNumber text (suc n) m memory .machine
+    ≡ passesByNumber text n (passOf text m (callOf (byNumber (ticksOf m)) memory noData) .machine) (passOf text m (callOf (byNumber (ticksOf m)) memory noData) .memory) .machine
+unfolding rungBy
+by-number-first text n m memory =
+    let r = passOf text m (callOf (byNumber (ticksOf m)) memory noData) in
+    ap (λ (t : ℕ). rungBy text (byNumber t) (r .machine) (r .memory) (replicate n noData) .machine) (sym (pass-settings text m (callOf (byNumber (ticksOf m)) memory noData) .t))
+
+pub by-number-none : (text : Text) (m : Machine) (memory : Memory) → passesByNumber text 0 m memory .machine ≡ m
+unfolding rungBy
+by-number-none text m memory = refl

@@ -2,9 +2,11 @@
 -- Assumes nothing.
 use Prim.Native.Nat.{ℕ}
 use mathlib.Core.List.{List, [], _∷_}
-use Rattle.layout.specs.Machine.{Machine, Order, Items, Places, Memory}
+use lib.ListN.{replicate}
+use Rattle.layout.specs.Machine.{Machine, Order, Items, Places, Memory, ticksOf}
 use Rattle.texts.specs.declared.Text.{Text}
 use Rattle.pass_model.specs.Pass.{Call, writtenData, passOf}
+use Rattle.order_lists.specs.Sequences.{byNumber}
 
 -- What a pass brings beside the machine and delay memory: items to read, and places for written items.
 pub record PassData : Type 0 where
@@ -28,3 +30,10 @@ rungBy text order m memory (d ∷ ds) =
     let r = passOf text m (callOf order memory d) in
     let rest = rungBy text order (r .machine) (r .memory) ds in
     record { machine = rest .machine; memory = rest .memory; written = writtenData r ∷ rest .written }
+
+-- A pass with nothing to read and no place to write; and so many of them by number.
+abbrev pub noData : PassData
+noData = record { items = []; places = [] }
+
+abbrev pub passesByNumber : Text → ℕ → Machine → Memory → Rung
+passesByNumber text n m memory = rungBy text (byNumber (ticksOf m)) m memory (replicate n noData)

@@ -1,0 +1,1 @@
+// Bells in one ring over passes: definitions and laws only.

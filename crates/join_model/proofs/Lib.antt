@@ -1,0 +1,4 @@
+pub mod Used
+pub mod JoinedWords
+pub mod Pairs
+pub mod JoinedBells

@@ -1,0 +1,1 @@
+// Two machines joined: definitions, and laws of the joined machine. No code.
