@@ -1,4 +1,3 @@
+pub mod OfKinds
 pub mod Places
 pub mod Steps
-pub mod OfKinds
-pub mod Held

@@ -7,22 +7,25 @@ use lib.ListN.{getD, set}
 use Rattle.layout.specs.Widths.{gfmBits}
 use Rattle.order_sums.specs.Places.{Kept, writersAt, feedersAt, othersAt, fedAt, writtenAt, partedAt, sharedAt}
 
--- What a count that is raised or lowered by 1 gets added, as a word.
+-- A word raised or lowered by 1: what is added, and the sum as a word.
 abbrev pub stepOf : Bool → ℕ
 stepOf up = cond up 1 4294967295
 
+unfoldable pub stepped : Bool → ℕ → ℕ
+stepped up n = (n + stepOf up) % 2 ^ 32
+
 -- The word at place i raised or lowered by 1; and only if it is to be.
 unfoldable pub moved : Bool → Kept → ℕ → Kept
-moved up k i = set k i ((getD k i 0 + stepOf up) % 2 ^ 32)
+moved up k i = set k i (stepped up (getD k i 0))
 
 unfoldable pub movedIf : Bool → Bool → Kept → ℕ → Kept
 movedIf moves up k i = cond moves (moved up k i) k
 
--- A count that has just been moved was 0 before it was raised to 1, or is 0 after it was lowered: then one more or one fewer has any.
+-- A count that is now n was raised from 0, or lowered to 0: some are there now, or none any more.
 abbrev pub atEdge : Bool → ℕ → Bool
 atEdge up n = eqb n (cond up 1 0)
 
--- The same by sources: there are two after a raise, or one after a lowering.
+-- It was raised from 1, or lowered to 1.
 abbrev pub pastEdge : Bool → ℕ → Bool
 pastEdge up n = eqb n (cond up 2 1)
 
@@ -32,9 +35,7 @@ otherKind i = (i + 64) % 128
 
 -- One source more or fewer feeds DAC d.
 unfoldable pub fedMoved : Bool → Kept → ℕ → Kept
-fedMoved up k d =
-    let fed = moved up k (fedAt d) in
-    movedIf (pastEdge up (getD fed (fedAt d) 0)) up fed partedAt
+fedMoved up k d = movedIf (pastEdge up (stepped up (getD k (fedAt d) 0))) up (moved up k (fedAt d)) partedAt
 
 -- The sums, where the count at place i has begun or ceased to be 0.
 unfoldable pub sumsMoved : Bool → Kept → ℕ → Kept
@@ -46,6 +47,4 @@ sumsMoved up k i =
 
 -- One generator of the kind at place i more or fewer, with the sums.
 unfoldable pub kindMoved : Bool → Kept → ℕ → Kept
-kindMoved up k i =
-    let count = moved up k i in
-    cond (atEdge up (getD count i 0)) (sumsMoved up count i) count
+kindMoved up k i = cond (atEdge up (stepped up (getD k i 0))) (sumsMoved up (moved up k i) i) (moved up k i)

@@ -4,7 +4,7 @@ ghost use Prim.Native.Nat.{_<_, _≤_};
 ghost use lib.ListN.{getD};
 ghost use Rattle.layout.specs.Layout.{dacs};
 ghost use Rattle.order_sums.specs.Places.{othersAt, keptLength};
-ghost use Rattle.order_sums.specs.Moves.{stepOf, moved, movedIf, fedMoved, sumsMoved, kindMoved};
+ghost use Rattle.order_sums.specs.Moves.{stepOf, stepped, moved, movedIf, fedMoved, sumsMoved, kindMoved};
 
 // Where the counts of 0111s and of adding generators by sum word stand, of writers by GFM, and of feeders by DAC and GFM;
 // of the generators that are none of these; of all 0111s; of the generators that wait and have a lower neighbour that can trigger.
@@ -55,7 +55,7 @@ fn step(up: bool) -> u32
 fn shift(kept: &mut Kept, i: usize, up: bool) -> u32
     requires { ⌜ i < keptLength ⌝ }
     ensures { λ r. ⌜ now (kept .exit) ≡ moved up (now (kept .entry)) i ⌝ }
-    ensures { λ r. ⌜ r ≡ getD (moved up (now (kept .entry)) i) i 0 ⌝ }
+    ensures { λ r. ⌜ r ≡ stepped up (getD (now (kept .entry)) i 0) ⌝ }
 {
     let n = std::num::wrapping_add_u32(kept[i], step(up));
     kept[i] = n;

@@ -1,47 +1,23 @@
+-- `order_sums::shift` meets its contract: a wrapping add is the sum as a word.
+-- Assumes nothing.
+use mathlib.Core.Path.{_≡_, ap, _∙_}
+use Prim.Native.Nat.{ℕ, _+_, _%_, _^_}
+use lib.ListN.{getD, set}
+use Rattle.order_sums.specs.Moves.{stepped, moved}
 use borrow.Author.Needs.{needs}
 use Rattle.order_sums.proofs.shift.Statement.{statement}
 use Rattle.order_sums.proofs.shift.Tie as tie
-use Rattle.order_sums.proofs.shift.Reads as reads
-use Rattle.order_sums.proofs.shift.Lts as lts
-use Rattle.order_sums.proofs.step.Reads as step-reads
-use Rattle.std.proofs.num.wrapping_add_u32.Reads as wrapping-add-u32-reads
 
--- src/lib.rt:60:40
-mul-wrapping-add-u32 : tie.Need-mul-wrapping-add-u32
-mul-wrapping-add-u32 c = search needs
-
--- src/lib.rt:60:40
-element-copy-out-wrapping-add-u32 : tie.Need-element-copy-out-wrapping-add-u32
-element-copy-out-wrapping-add-u32 c = search needs
-
--- src/lib.rt:60:49
-step-requires : tie.Need-step-requires
-step-requires c κs = search needs
-
--- src/lib.rt:60:9
-wrapping-add-u32-requires : tie.Need-wrapping-add-u32-requires
-wrapping-add-u32-requires c κs = search needs
-
--- src/lib.rt:61:5
-mul-kept : tie.Need-mul-kept
-mul-kept c = search needs
-
--- src/lib.rt:61:5
-element-write-kept : tie.Need-element-write-kept
-element-write-kept c = search needs
-
--- src/lib.rt:55:1
 returns : tie.Need-returns
-returns c = ?
+unfolding stepped moved
+returns c =
+    let by = c .before in
+    let a = by .before .before .args in
+    let e = c .wrapping-add-u32 .ensures ∙ ap (λ (x : ℕ). (getD (a .kept .now) (a .i) 0 + x) % 2 ^ 32) (by .step .ensures) in
+    (ap (set (a .kept .now) (a .i)) e, e)
 
 pub shift-spec : {M : Type 1} → statement M
 shift-spec =
     tie.close
-    (tie.spec
-    mul-wrapping-add-u32
-    element-copy-out-wrapping-add-u32
-    step-requires
-    wrapping-add-u32-requires
-    mul-kept
-    element-write-kept
-    returns)
+    (tie.spec (λ c. search needs) (λ c. search needs) (λ c κs. search needs) (λ c κs. search needs) (λ c. search needs)
+    (λ c. search needs) returns)

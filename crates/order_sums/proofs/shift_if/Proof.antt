@@ -1,21 +1,21 @@
+-- `order_sums::shift_if` meets its contract: nothing changes where nothing is to move.
+-- Assumes nothing.
+use mathlib.Core.Path.{_∙_}
+use borrow.Author.Tests.{not-true, not-false}
+use Rattle.order_sums.specs.Moves.{movedIf}
 use borrow.Author.Needs.{needs}
 use Rattle.order_sums.proofs.shift_if.Statement.{statement}
 use Rattle.order_sums.proofs.shift_if.Tie as tie
-use Rattle.order_sums.proofs.shift_if.Reads as reads
-use Rattle.order_sums.proofs.shift_if.Lts as lts
-use Rattle.order_sums.proofs.shift.Reads as shift-reads
 
--- src/lib.rt:71:9
 returns : tie.Need-returns
-returns c = ?
+unfolding movedIf
+returns c = rw (not-true (c .before .args .moves) (c .if1 .taken))
 
--- src/lib.rt:73:5
-shift-requires : tie.Need-shift-requires
-shift-requires c κs = search needs
-
--- src/lib.rt:66:1
 returns-2 : tie.Need-returns-2
-returns-2 c = ?
+unfolding movedIf
+returns-2 c =
+    let start = c .before .before in
+    c .shift .ensures .0 ∙ rw (not-false (start .before .args .moves) (start .if1 .left))
 
 pub shift-if-spec : {M : Type 1} → statement M
-shift-if-spec = tie.close (tie.spec returns shift-requires returns-2)
+shift-if-spec = tie.close (tie.spec returns (λ c κs. search needs) returns-2)
