@@ -1,3 +1,4 @@
 pub mod OfKinds
 pub mod Places
 pub mod Steps
+pub mod Tallies

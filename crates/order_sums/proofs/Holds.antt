@@ -7,14 +7,16 @@ use Prim.Native.Nat.{ℕ, _+_, _-_, _*_, _/_, _%_, _^_, _<_, _≤_}
 use native.Mathlib.Omega.{arith}
 use native.Mathlib.Nat.{mod-eq-of-lt, add-zero, add-mod-right}
 use borrow.Author.Tests.{eqb-true, eqb-false, eq-eqb, ne-eqb, ltb-true, ltb-false, lt-ltb, le-ltb}
-use lib.Dec.{eqb, ltb, lit≤}
+use lib.Dec.{eqb, ltb, lit≤, lit<}
 use lib.ListN.{length, getD, length-set}
 use lib.Seq.{getD-set-same, getD-set-other}
+use Rattle.lists.specs.Lists.{zeros}
 use Rattle.lists.proofs.Counts.{count-below-le}
+use Rattle.lists.proofs.Zeros.{zeros-length, zeros-at}
 use Rattle.order_sums.specs.Places.{Kept, writersAt, feedersAt, othersAt, allReadersAt, awaitingAt, fedAt, writtenAt, partedAt, sharedAt, keptLength}
 use Rattle.order_sums.specs.Moves.{stepped, moved, movedIf, atEdge, pastEdge, otherKind, fedMoved, sumsMoved, kindMoved}
-use Rattle.order_sums.proofs.CountsAt.{bit, bit-le}
-use Rattle.order_sums.proofs.Levels.{usedBy, partedBy, sharedBy, level, level-off, level-on, used-there, parted-there, shared-there, used-elsewhere, parted-elsewhere, shared-elsewhere, used-here, parted-here, shared-here}
+use Rattle.order_sums.proofs.CountsAt.{bit, count-none}
+use Rattle.order_sums.proofs.Levels.{usedBy, partedBy, sharedBy, level, level-off, level-on, used-there, parted-there, shared-there, used-elsewhere, parted-elsewhere, shared-elsewhere, used-here, parted-here, shared-here, used-same, parted-same, shared-same}
 
 -- The counts by place, all 0111s and all waiting pairs, with the sums.
 pub record Holds (k : Kept) (f : ℕ → ℕ) (readers awaiting : ℕ) : Type 0 where
@@ -328,3 +330,71 @@ module _ (up : Bool) (k : Kept) (f : ℕ → ℕ) (few : (j : ℕ) → f j ≤ 2
         where
           some : (n : ℕ) → n ≢ 0 → 1 ≤ n
           some n h = omega (arith, h)
+
+-- Counts that are the same are held too.
+pub holds-same : {k : Kept} {f g : ℕ → ℕ} {r s a b : ℕ} → ((i : ℕ) → i ≤ othersAt → f i ≡ g i) → r ≡ s → a ≡ b → Holds k f r a → Holds k g s b
+holds-same {k} {f} {g} same read await o =
+    record {
+      size = o .size;
+      kinds = λ i l. o .kinds i l ∙ same i l;
+      all-readers = o .all-readers ∙ read;
+      all-awaiting = o .all-awaiting ∙ await;
+      fed = λ d l. o .fed d l ∙ used-same f g (256 + 128 * d) (λ v h. pos (256 + 128 * d + v) (omega arith));
+      written = o .written ∙ used-same f g 128 (λ v h. pos (128 + v) (omega arith));
+      parted = o .parted ∙ parted-same f g (λ d l. used-same f g (256 + 128 * d) (λ v h. pos (256 + 128 * d + v) (omega arith)));
+      shared = o .shared ∙ shared-same f g (λ j l. pos j (omega arith));
+    }
+  where
+    pos : (j : ℕ) → j ≤ othersAt → ltb 0 (f j) ≡ ltb 0 (g j)
+    pos j l = ap (λ (n : ℕ). ltb 0 n) (same j l)
+
+-- All 0111s, or all waiting pairs, are moved.
+module _ (b up : Bool) (k : Kept) (f : ℕ → ℕ) (r a : ℕ) where
+  pub readers-moved : r ≤ 1000 → Holds k f (r + bit (not up && b)) a → Holds (movedIf b up k allReadersAt) f (r + bit (up && b)) a
+  readers-moved small o =
+      record {
+        size = moved-if-length b up k allReadersAt ∙ o .size;
+        kinds = λ i l. other i (λ q. omega arith) ∙ o .kinds i l;
+        all-readers = moved-if-own b up k allReadersAt r (omega (arith, o .size)) small (o .all-readers);
+        all-awaiting = other awaitingAt (λ q. omega arith) ∙ o .all-awaiting;
+        fed = λ d l. other (fedAt d) (λ q. omega arith) ∙ o .fed d l;
+        written = other writtenAt (λ q. omega arith) ∙ o .written;
+        parted = other partedAt (λ q. omega arith) ∙ o .parted;
+        shared = other sharedAt (λ q. omega arith) ∙ o .shared;
+      }
+    where
+      other : (j : ℕ) → j ≢ allReadersAt → getD (movedIf b up k allReadersAt) j 0 ≡ getD k j 0
+      other j n = moved-if-other b up k allReadersAt j n
+
+  pub awaiting-moved : a ≤ 1000 → Holds k f r (a + bit (not up && b)) → Holds (movedIf b up k awaitingAt) f r (a + bit (up && b))
+  awaiting-moved small o =
+      record {
+        size = moved-if-length b up k awaitingAt ∙ o .size;
+        kinds = λ i l. other i (λ q. omega arith) ∙ o .kinds i l;
+        all-readers = other allReadersAt (λ q. omega arith) ∙ o .all-readers;
+        all-awaiting = moved-if-own b up k awaitingAt a (omega (arith, o .size)) small (o .all-awaiting);
+        fed = λ d l. other (fedAt d) (λ q. omega arith) ∙ o .fed d l;
+        written = other writtenAt (λ q. omega arith) ∙ o .written;
+        parted = other partedAt (λ q. omega arith) ∙ o .parted;
+        shared = other sharedAt (λ q. omega arith) ∙ o .shared;
+      }
+    where
+      other : (j : ℕ) → j ≢ awaitingAt → getD (movedIf b up k awaitingAt) j 0 ≡ getD k j 0
+      other j n = moved-if-other b up k awaitingAt j n
+
+-- Words that are all 0 hold counts that are all 0.
+pub zeros-hold : (f : ℕ → ℕ) → ((i : ℕ) → f i ≡ 0) → Holds (zeros keptLength) f 0 0
+zeros-hold f none =
+    record {
+      size = zeros-length keptLength;
+      kinds = λ i l. zeros-at keptLength i (omega arith) ∙ sym (none i);
+      all-readers = zeros-at keptLength allReadersAt (lit< tt);
+      all-awaiting = zeros-at keptLength awaitingAt (lit< tt);
+      fed = λ d l. zeros-at keptLength (fedAt d) (omega arith) ∙ sym (unused (256 + 128 * d));
+      written = zeros-at keptLength writtenAt (lit< tt) ∙ sym (unused 128);
+      parted = zeros-at keptLength partedAt (lit< tt) ∙ sym (count-none (λ d. ltb 1 (usedBy f (256 + 128 * d))) 16 (λ d. rw (unused (256 + 128 * d))));
+      shared = zeros-at keptLength sharedAt (lit< tt) ∙ sym (count-none (λ w. ltb 0 (f w) && ltb 0 (f (64 + w))) 64 (λ w. rw (none w)));
+    }
+  where
+    unused : (at : ℕ) → usedBy f at ≡ 0
+    unused at = count-none (λ v. ltb 0 (f (at + v))) 128 (λ v. rw (none (at + v)))

@@ -11,7 +11,7 @@ use lib.Dec.{eqb, ltb}
 use Rattle.lists.specs.Lists.{countBelow}
 use Rattle.lists.proofs.Counts.{count-below-same, count-below-le}
 use Rattle.order_sums.specs.Moves.{otherKind}
-use Rattle.order_sums.proofs.CountsAt.{bit, count-below-at, count-below-more}
+use Rattle.order_sums.proofs.CountsAt.{bit, and-false, count-below-at, count-below-more}
 
 -- How many of the 128 counts from a place on are not 0; how many DACs have more than one such; how many sum words have a 0111 and an adding generator.
 abbrev pub usedBy : (ℕ → ℕ) → ℕ → ℕ
@@ -36,10 +36,6 @@ shared-same f g same = count-below-same _ _ 64 (λ w l. rw (same w (omega arith)
 -- The counts with or without one more at place i.
 abbrev pub level : Bool → ℕ → (ℕ → ℕ) → ℕ → ℕ
 level up i f j = f j + bit (up && eqb i j)
-
-and-false : (b : Bool) → (b && false) ≡ false
-and-false true = refl
-and-false false = refl
 
 and-true : (b : Bool) → (b && true) ≡ b
 and-true true = refl
