@@ -2,3 +2,4 @@ pub mod OfKinds
 pub mod Places
 pub mod Steps
 pub mod Tallies
+pub mod Own
