@@ -1,11 +1,11 @@
 -- A change of one partial (document 02, Q-13): of a generator's GMODE, GSUM, GFM or DAC number, or of T by one.
 -- Assumes nothing.
 use Prim.Native.Nat.{ℕ, _+_, _-_, _*_, _/_}
-use mathlib.Core.Bool.{Bool, true, cond, _&&_}
+use mathlib.Core.Bool.{Bool, true, cond, _&&_, _||_}
 use mathlib.Core.List.{[], _∷_}
 use lib.Dec.{eqb, leb, ltb}
 use lib.ListN.{getD, set}
-use Rattle.layout.specs.Layout.{generators, dacs, generatorAt, tAt, GO, GSUM, GFM, GMODE}
+use Rattle.layout.specs.Layout.{generators, dacs, generatorAt, tAt, updateTicksAt, GO, GSUM, GFM, GMODE}
 use Rattle.layout.specs.Machine.{Machine, ticksOf, withUpdateTicks}
 use Rattle.texts.specs.declared.Text.the-variants.{Of1978}
 use Rattle.questions.specs.Questions.{Question, asked}
@@ -70,3 +70,13 @@ concerned m c = cond (eqb (c .kind) tickMore) (ticksOf m) (cond (eqb (c .kind) t
 unfoldable pub changeRefusal : Machine → Change → ℕ
 changeRefusal m c =
     asked (question1 m ∷ question2 Of1978 m ∷ record { number = 2; yes = isChange c } ∷ question2 Of1978 (changedBy m c) ∷ [])
+
+-- Whether the word at place i is one that a change is of: the register's, or T's and the update ticks'.
+unfoldable pub isOf : Change → ℕ → Bool
+isOf c i =
+    let at = generatorAt (c .generator) in
+    cond (eqb (c .kind) gmodeChange) (eqb i (at + GMODE))
+    (cond (eqb (c .kind) gsumChange) (eqb i (at + GSUM))
+    (cond (eqb (c .kind) gfmChange) (eqb i (at + GFM))
+    (cond (eqb (c .kind) dacChange) (eqb i (at + GO))
+    (eqb i tAt || eqb i updateTicksAt))))
