@@ -2,10 +2,10 @@
 -- Assumes nothing.
 use mathlib.Core.Path.{_≡_, refl, sym, ap, _∙_}
 use mathlib.Core.Logic.{_≢_}
-use mathlib.Core.Bool.{Bool, true, false, not, _&&_}
+use mathlib.Core.Bool.{Bool, true, false, not, cond, _&&_}
 use Prim.Native.Nat.{ℕ, _+_, _-_, _*_, _<_, _≤_}
 use native.Mathlib.Omega.{arith}
-use borrow.Author.Tests.{eqb-false, leb-true}
+use borrow.Author.Tests.{eqb-false, leb-true, ltb-true, ltb-false}
 use lib.Dec.{eqb, leb, ltb}
 use lib.ListN.{length, getD}
 use Rattle.lists.specs.Lists.{countBelow}
@@ -19,9 +19,9 @@ use Rattle.order_alike.specs.Alike.{Counts, countsIn}
 use Rattle.order_sums.specs.Places.{Kept, readersAt, addersAt, writersAt, feedersAt, othersAt, allReadersAt, awaitingAt, fedAt, writtenAt, partedAt, sharedAt, keptLength}
 use Rattle.order_sums.proofs.Holds.{holds-same}
 use Rattle.order_counts.specs.Kept.{placeIn, kindCount, sourcesOf, dacsParted, wordsShared}
-use Rattle.order_counts.specs.KeptCounts.{Countable}
+use Rattle.order_counts.specs.KeptCounts.{Countable, generatorMoved, countedMoved}
 use Rattle.order_counts.proofs.OfKinds.{reader-at, adder-at, writer-at, feeder-at}
-use Rattle.order_counts.proofs.Tallies.{Tally, Without}
+use Rattle.order_counts.proofs.Tallies.{Tally, Without, with-it, all-of-it, generator-moved, unmoved}
 
 -- The words that are a machine's own but for the answer.
 pub record OwnWords (m : Machine) (k : Kept) : Type 0 where
@@ -79,40 +79,57 @@ module _ (m : Machine) (countable : Countable m) where
 
 -- Two machines whose generators but g are the same, and are counted in both or in none.
 pub record SameBut (g : ℕ) (m n : Machine) : Type 0 where
-  pub ticks : (h : ℕ) → h ≢ g → ltb h (ticksOf m) ≡ ltb h (ticksOf n)
-  pub places : (h : ℕ) → h ≢ g → placeIn m h ≡ placeIn n h
-  pub runs : (h : ℕ) → h ≢ g → runModeAt Of1978 m h ≡ runModeAt Of1978 n h
+  pub ticks : (h : ℕ) → h < 256 → h ≢ g → ltb h (ticksOf m) ≡ ltb h (ticksOf n)
+  pub places : (h : ℕ) → h < 256 → h ≢ g → placeIn m h ≡ placeIn n h
+  pub runs : (h : ℕ) → h < 256 → h ≢ g → runModeAt Of1978 m h ≡ runModeAt Of1978 n h
 
 -- Without g they have the same counts.
 pub same-without : (g : ℕ) (m n : Machine) {k : Kept} → SameBut g m n → Without m (ticksOf m) g false k → Without n (ticksOf n) g false k
 same-without g m n same o =
     holds-same
-    (λ i l. alike (λ h. ltb h (ticksOf m) && eqb (placeIn m h) i) (λ h. ltb h (ticksOf n) && eqb (placeIn n h) i) (λ h q. rw (same .ticks h q, same .places h q)))
-    (alike (λ h. ltb h (ticksOf m) && replaces (runModeAt Of1978 m h)) (λ h. ltb h (ticksOf n) && replaces (runModeAt Of1978 n h)) (λ h q. rw (same .ticks h q, same .runs h q)))
+    (λ i l. alike (λ h. ltb h (ticksOf m) && eqb (placeIn m h) i) (λ h. ltb h (ticksOf n) && eqb (placeIn n h) i) (λ h l q. rw (same .ticks h l q, same .places h l q)))
+    (alike (λ h. ltb h (ticksOf m) && replaces (runModeAt Of1978 m h)) (λ h. ltb h (ticksOf n) && replaces (runModeAt Of1978 n h)) (λ h l q. rw (same .ticks h l q, same .runs h l q)))
     (alike (λ h. ltb h (ticksOf m) && (awaits (settingsOf Of1978 m) h && not (eqb h (g + 1)))) (λ h. ltb h (ticksOf n) && (awaits (settingsOf Of1978 n) h && not (eqb h (g + 1))))
-    (λ h q. rw (same .ticks h q) (above h (eqb h (g + 1)) refl q)))
+    (λ h l q. rw (same .ticks h l q) (above h (eqb h (g + 1)) refl l q)))
     o
   where
     none : (c : Bool) → (c && false) ≡ false
     none true = refl
     none false = refl
 
-    alike : (p q : ℕ → Bool) → ((h : ℕ) → h ≢ g → p h ≡ q h) → countBelow (λ h. p h && not (eqb h g)) 256 ≡ countBelow (λ h. q h && not (eqb h g)) 256
-    alike p q f = count-below-same (λ h. p h && not (eqb h g)) (λ h. q h && not (eqb h g)) 256 (λ h l. at h (eqb h g) refl)
+    alike : (p q : ℕ → Bool) → ((h : ℕ) → h < 256 → h ≢ g → p h ≡ q h) → countBelow (λ h. p h && not (eqb h g)) 256 ≡ countBelow (λ h. q h && not (eqb h g)) 256
+    alike p q f = count-below-same (λ h. p h && not (eqb h g)) (λ h. q h && not (eqb h g)) 256 (λ h l. at h l (eqb h g) refl)
       where
-        at : (h : ℕ) (b : Bool) → eqb h g ≡ b → (p h && not b) ≡ (q h && not b)
-        at h true e = none (p h) ∙ sym (none (q h))
-        at h false e = rw (f h (eqb-false h g e))
+        at : (h : ℕ) → h < 256 → (b : Bool) → eqb h g ≡ b → (p h && not b) ≡ (q h && not b)
+        at h l true e = none (p h) ∙ sym (none (q h))
+        at h l false e = rw (f h l (eqb-false h g e))
 
-    pairs : (h : ℕ) → h ≢ g → h ≢ g + 1 → awaits (settingsOf Of1978 m) h ≡ awaits (settingsOf Of1978 n) h
-    pairs h p q = go (leb 1 h) refl
+    pairs : (h : ℕ) → h < 256 → h ≢ g → h ≢ g + 1 → awaits (settingsOf Of1978 m) h ≡ awaits (settingsOf Of1978 n) h
+    pairs h l p q = go (leb 1 h) refl
       where
         go : (b : Bool) → leb 1 h ≡ b
             → ((b && eqb (runModeAt Of1978 m h) wait) && free (runModeAt Of1978 m (h - 1))) ≡ ((b && eqb (runModeAt Of1978 n h) wait) && free (runModeAt Of1978 n (h - 1)))
-        go true e = rw (same .runs h p, same .runs (h - 1) (λ r. q (omega (arith, leb-true 1 h e, r))))
+        go true e = rw (same .runs h l p, same .runs (h - 1) (omega arith) (λ r. q (omega (arith, leb-true 1 h e, r))))
         go false e = refl
 
-    above : (h : ℕ) (b : Bool) → eqb h (g + 1) ≡ b → h ≢ g
+    above : (h : ℕ) (b : Bool) → eqb h (g + 1) ≡ b → h < 256 → h ≢ g
         → (ltb h (ticksOf n) && (awaits (settingsOf Of1978 m) h && not (eqb h (g + 1)))) ≡ (ltb h (ticksOf n) && (awaits (settingsOf Of1978 n) h && not (eqb h (g + 1))))
-    above h true e p = rw (e, none (awaits (settingsOf Of1978 m) h), none (awaits (settingsOf Of1978 n) h))
-    above h false e p = rw (pairs h p (eqb-false h (g + 1) e))
+    above h true e l p = rw (e, none (awaits (settingsOf Of1978 m) h), none (awaits (settingsOf Of1978 n) h))
+    above h false e l p = rw (pairs h l p (eqb-false h (g + 1) e))
+
+-- Generator g put in or taken out where it is below T.
+module _ (m : Machine) (g : ℕ) (countable : Countable m) where
+  pub counted-moved : (up : Bool) (k : Kept) → Without m (ticksOf m) g (not up) k → Without m (ticksOf m) g up (countedMoved up m k g)
+  unfolding countedMoved
+  counted-moved up k o = go (ltb g (ticksOf m)) refl
+    where
+      go : (b : Bool) → ltb g (ticksOf m) ≡ b → Without m (ticksOf m) g up (cond b (generatorMoved up m (ticksOf m) k g) k)
+      go true e = generator-moved m (ticksOf m) g (countable .ticks) up (ltb-true g (ticksOf m) e) countable k o
+      go false e = unmoved m (ticksOf m) g (countable .ticks) (ltb-false g (ticksOf m) e) up o
+
+-- From the counts of one machine to those of the other.
+pub changed-tally : (g : ℕ) (m n : Machine) → Countable m → Countable n → SameBut g m n → (k : Kept) → Tally m (ticksOf m) k
+    → Tally n (ticksOf n) (countedMoved true n (countedMoved false m k g) g)
+changed-tally g m n a b same k o =
+    all-of-it n (ticksOf n) g (b .ticks)
+    (counted-moved n g b true (countedMoved false m k g) (same-without g m n same (counted-moved m g a false k (with-it m (ticksOf m) g (a .ticks) o))))

@@ -7,7 +7,7 @@ use native.Mathlib.Omega.{arith}
 use borrow.Author.Tests.{lt-ltb, le-ltb}
 use lib.Dec.{eqb}
 use Rattle.lists.specs.Lists.{zeros}
-use Rattle.layout.specs.Machine.{Machine}
+use Rattle.layout.specs.Machine.{Machine, ticksOf}
 use Rattle.texts.specs.Texts.{runModeAt}
 use Rattle.texts.specs.declared.Text.the-variants.{Of1978}
 use Rattle.modes.specs.Modes.{readData, replaces}
@@ -16,7 +16,7 @@ use Rattle.order_agreement.specs.Agreement.{settingsOf, awaits}
 use Rattle.order_sums.specs.Places.{Kept, allReadersAt, awaitingAt, keptLength}
 use Rattle.order_sums.specs.Moves.{movedIf, kindMoved}
 use Rattle.order_counts.specs.Kept.{placeIn}
-use Rattle.order_counts.specs.KeptCounts.{awaited, generatorMoved, countedTo}
+use Rattle.order_counts.specs.KeptCounts.{awaited, generatorMoved, countedMoved, countedTo}
 
 -- Whether the upper neighbour waits.
 module _ (m : Machine) (t g : ℕ) where
@@ -44,3 +44,13 @@ counted-none m e = e
 pub counted-next : (m : Machine) (g : ℕ) {k left : Kept} → k ≡ countedTo m g → left ≡ generatorMoved true m (g + 1) k g → left ≡ countedTo m (g + 1)
 unfolding countedTo
 counted-next m g {k} e n = let next : g + 1 ≡ suc g = omega arith in rw (next, ← e) (n ∙ ap (λ (t : ℕ). generatorMoved true m t k g) next)
+
+-- A generator below T moves, another doesn't.
+module _ (up : Bool) (m : Machine) (k : Kept) (g : ℕ) {t : ℕ} (is : t ≡ ticksOf m) where
+  pub below-moved : g < t → {left : Kept} → left ≡ generatorMoved up m t k g → left ≡ countedMoved up m k g
+  unfolding countedMoved
+  below-moved h e = e ∙ rw (← is, lt-ltb g t h)
+
+  pub above-stays : t ≤ g → k ≡ countedMoved up m k g
+  unfolding countedMoved
+  above-stays h = rw (← is, le-ltb g t h)

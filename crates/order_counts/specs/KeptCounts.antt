@@ -1,7 +1,7 @@
 -- The generators counted, one put in or taken out at a time, whatever the words are. From a machine's own words this gives the own ones of the machine
 -- as it then is (the claim `change-own`), so readers need only `keptOf`. Assumes nothing.
 use Prim.Native.Nat.{ℕ, zero, suc, _+_, _<_, _≤_}
-use mathlib.Core.Bool.{Bool, true, _&&_}
+use mathlib.Core.Bool.{Bool, true, cond, _&&_}
 use lib.Dec.{ltb}
 use Rattle.lists.specs.Lists.{zeros}
 use Rattle.layout.specs.Layout.{generators, quadrantWords}
@@ -33,6 +33,10 @@ generatorMoved up m t k g =
     let read = movedIf (replaces (runModeAt Of1978 m g)) up kind allReadersAt in
     let below = movedIf (awaits (settingsOf Of1978 m) g) up read awaitingAt in
     movedIf (awaited m t g) up below awaitingAt
+
+-- The same where it is below T; one from T on counts for nothing.
+unfoldable pub countedMoved : Bool → Machine → Kept → ℕ → Kept
+countedMoved up m k g = cond (ltb g (ticksOf m)) (generatorMoved up m (ticksOf m) k g) k
 
 -- The generators below n are put in, one after the other.
 unfoldable pub countedTo : Machine → ℕ → Kept

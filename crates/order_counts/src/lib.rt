@@ -6,7 +6,7 @@ ghost use Rattle.layout.specs.Layout.{generators};
 ghost use Rattle.layout.specs.Machine.{Reaches, ticksOf};
 ghost use Rattle.order_sums.specs.Places.{othersAt, keptLength};
 ghost use Rattle.order_counts.specs.Kept.{placeIn};
-ghost use Rattle.order_counts.specs.KeptCounts.{Countable, awaited, generatorMoved, countedTo};
+ghost use Rattle.order_counts.specs.KeptCounts.{Countable, awaited, generatorMoved, countedMoved, countedTo};
 use order_sums::Kept;
 use texts::Text;
 
@@ -49,7 +49,7 @@ fn awaited(m: &[u32], t: usize, g: usize) -> bool
 }
 
 // Generator g of the t first ones is put in (up) or taken out.
-pub fn shift_generator(m: &[u32], t: usize, kept: &mut Kept, g: usize, up: bool)
+fn shift_generator(m: &[u32], t: usize, kept: &mut Kept, g: usize, up: bool)
     requires { ⌜ Countable (now m) ⌝ }
     requires { ⌜ t ≤ generators ⌝ }
     requires { ⌜ g < generators ⌝ }
@@ -63,6 +63,18 @@ pub fn shift_generator(m: &[u32], t: usize, kept: &mut Kept, g: usize, up: bool)
     order_sums::shift_if(kept, order_sums::ALL_READERS_AT, up, reads);
     order_sums::shift_if(kept, order_sums::AWAITING_AT, up, awaits);
     order_sums::shift_if(kept, order_sums::AWAITING_AT, up, above);
+}
+
+// The same where it is below T.
+pub fn shift_counted(m: &[u32], kept: &mut Kept, g: usize, up: bool)
+    requires { ⌜ Countable (now m) ⌝ }
+    requires { ⌜ g < generators ⌝ }
+    ensures { λ r. ⌜ now (kept .exit) ≡ countedMoved up (now (m .entry)) (now (kept .entry)) g ⌝ }
+{
+    let t = layout::ticks(m);
+    if g < t {
+        shift_generator(m, t, kept, g, up);
+    }
 }
 
 // The generators below T are put in, from counts of zero.

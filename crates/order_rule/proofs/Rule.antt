@@ -8,7 +8,7 @@ use native.Mathlib.Omega.{arith}
 use native.Mathlib.Nat.{zero-add}
 use borrow.Author.Tests.{eqb-true, eqb-false, eq-eqb, ne-eqb, leb-true, leb-false, le-leb, lt-leb, ltb-true, ltb-false, lt-ltb, le-ltb}
 use lib.Dec.{eqb, leb, ltb}
-use lib.ListN.{length, getD, length-set}
+use lib.ListN.{length, getD, set, length-set}
 use lib.Seq.{getD-set-same, getD-set-other, ext-getD}
 use Rattle.lists.specs.Lists.{allBelow, countBelow}
 use Rattle.lists.proofs.Below.{both}
@@ -18,9 +18,10 @@ use Rattle.texts.specs.declared.Text.the-variants.{Of1978}
 use Rattle.order_agreement.specs.Agreement.{settingsOf}
 use Rattle.order_alike.specs.Alike.{Counts, countsIn, shareOne, feedersShare, wordsApart, alike}
 use Rattle.order_sums.specs.Places.{Kept, othersAt, allReadersAt, awaitingAt, fedAt, writtenAt, partedAt, sharedAt, alikeAt, keptLength}
+use Rattle.order_sums.proofs.Holds.{Holds}
 use Rattle.order_counts.specs.Kept.{kindCount, sourcesOf, dacsParted, wordsShared, keptWord, keptOf}
-use Rattle.order_counts.specs.KeptCounts.{Countable}
-use Rattle.order_counts.proofs.Tallies.{Tally}
+use Rattle.order_counts.specs.KeptCounts.{Countable, countedTo}
+use Rattle.order_counts.proofs.Tallies.{Tally, counted}
 use Rattle.order_counts.proofs.Own.{OwnWords, own-words}
 use Rattle.order_rule.specs.Rule.{alikeBy, answered}
 
@@ -157,3 +158,33 @@ module _ (m : Machine) (countable : Countable m) (k : Kept) (o : Tally m (ticksO
 
   pub answered-tally : answered k ≡ keptOf m
   answered-tally = answered-own m k (own-words m countable k o)
+
+-- The answer is no count.
+holds-answered : (k : Kept) (f : ℕ → ℕ) (r a : ℕ) → Holds k f r a → Holds (answered k) f r a
+unfolding answered
+holds-answered k f r a o =
+    record {
+      size = length-set k alikeAt (cond (alikeBy k) 1 0) ∙ o .size;
+      kinds = λ i l. other i (λ q. omega arith) ∙ o .kinds i l;
+      all-readers = other allReadersAt (λ q. omega arith) ∙ o .all-readers;
+      all-awaiting = other awaitingAt (λ q. omega arith) ∙ o .all-awaiting;
+      fed = λ d l. other (fedAt d) (λ q. omega arith) ∙ o .fed d l;
+      written = other writtenAt (λ q. omega arith) ∙ o .written;
+      parted = other partedAt (λ q. omega arith) ∙ o .parted;
+      shared = other sharedAt (λ q. omega arith) ∙ o .shared;
+    }
+  where
+    other : (j : ℕ) → j ≢ alikeAt → getD (set k alikeAt (cond (alikeBy k) 1 0)) j 0 ≡ getD k j 0
+    other j n = getD-set-other k alikeAt j (cond (alikeBy k) 1 0) 0 n
+
+-- What the code makes is what is kept of the machine, and holds its counts.
+module _ (m : Machine) (countable : Countable m) where
+  pub counted-own : answered (countedTo m (ticksOf m)) ≡ keptOf m
+  counted-own = answered-tally m countable (countedTo m (ticksOf m)) (counted m countable (ticksOf m) (countable .ticks))
+
+  pub own-tally : Tally m (ticksOf m) (keptOf m)
+  own-tally = rw (← counted-own) (holds-answered (countedTo m (ticksOf m)) _ _ _ (counted m countable (ticksOf m) (countable .ticks)))
+
+  pub own-answer : getD (keptOf m) alikeAt 0 ≡ cond (alike (countsIn (settingsOf Of1978 m))) 1 0
+  unfolding keptWord
+  own-answer = kept-at m alikeAt (omega arith)
