@@ -1,58 +1,63 @@
+-- `kept_answer::change` meets its contract: a change that isn't let through is refused with 2, another is made.
+-- Assumes nothing.
+use mathlib.Core.Path.{sym, _∙_}
+use borrow.Author.Tests.{not-true, not-false}
+use Rattle.machine.proofs.SoundMachine.{reaches}
+use Rattle.kept_answer.proofs.Calls.{first-refused, whole, good, change-refused, change-made}
 use borrow.Author.Needs.{needs}
 use Rattle.kept_answer.proofs.change.Statement.{statement}
 use Rattle.kept_answer.proofs.change.Tie as tie
-use Rattle.kept_answer.proofs.change.Reads as reads
-use Rattle.kept_answer.proofs.change.Lts as lts
-use Rattle.kept_answer.proofs.update.Reads as update-reads
-use Rattle.machine.proofs.refusal.Reads as refusal-reads
-use Rattle.machine_change.proofs.let_through.Reads as let-through-reads
 
--- src/lib.rt:47:9
-refusal-requires : tie.Need-refusal-requires
-refusal-requires c κs = search needs
-
--- src/lib.rt:49:9
-same-length : tie.Need-same-length
-same-length c = search needs
-
--- src/lib.rt:49:9
 returns : tie.Need-returns
-returns c = ?
+returns c =
+    let asked = c .before in
+    let a = asked .before .before .before .args in
+    first-refused (a .m .now) (asked .refusal .ensures) (a .kept .now) (record { kind = a .kind; generator = a .generator; value = a .value }) (c .if1 .taken)
 
--- src/lib.rt:51:9
 let-through-requires : tie.Need-let-through-requires
-let-through-requires c κs = ?
+let-through-requires c κs =
+    let passed = c .before in
+    let asked = passed .before in
+    let a = asked .before .before .before .args in
+    reaches (a .m .now)
+    (whole (a .m .now) (asked .refusal .ensures) (a .kept .now) (record { kind = a .kind; generator = a .generator; value = a .value }) (passed .if1 .left))
 
--- src/lib.rt:52:9
-same-length-2 : tie.Need-same-length-2
-same-length-2 c = search needs
-
--- src/lib.rt:52:9
 returns-2 : tie.Need-returns-2
-returns-2 c = ?
+returns-2 c =
+    let through = c .before in
+    let passed = through .before .before in
+    let asked = passed .before in
+    let a = asked .before .before .before .args in
+    change-refused (a .m .now) (asked .refusal .ensures) (a .kept .now) (record { kind = a .kind; generator = a .generator; value = a .value }) (passed .if1 .left)
+    (sym (through .let-through .ensures) ∙ not-true (through .let-through .result) (c .if2 .taken))
 
--- src/lib.rt:54:5
 update-requires : tie.Need-update-requires
-update-requires c κs = ?
+update-requires c κs =
+    let yes = c .before .before in
+    let through = yes .before in
+    let passed = through .before .before in
+    let asked = passed .before in
+    let a = asked .before .before .before .args in (
+      (
+        whole (a .m .now) (asked .refusal .ensures) (a .kept .now) (record { kind = a .kind; generator = a .generator; value = a .value }) (passed .if1 .left),
+        good (a .m .now) (asked .refusal .ensures) (a .kept .now) (record { kind = a .kind; generator = a .generator; value = a .value }) (passed .if1 .left),
+      ),
+      sym (through .let-through .ensures) ∙ not-false (through .let-through .result) (yes .if2 .left),
+    )
 
--- src/lib.rt:44:1
-same-length-3 : tie.Need-same-length-3
-same-length-3 c = search needs
-
--- src/lib.rt:44:1
 returns-3 : tie.Need-returns-3
-returns-3 c = ?
+returns-3 c =
+    let done = c .before .before in
+    let yes = done .before .before .before in
+    let through = yes .before in
+    let passed = through .before .before in
+    let asked = passed .before in
+    let a = asked .before .before .before .args in
+    change-made (a .m .now) (asked .refusal .ensures) (a .kept .now) (record { kind = a .kind; generator = a .generator; value = a .value }) (passed .if1 .left)
+    (sym (through .let-through .ensures) ∙ not-false (through .let-through .result) (yes .if2 .left)) (done .update .ensures .0) (done .update .ensures .1)
 
 pub change-spec : {M : Type 1} → statement M
 change-spec =
     tie.close
-    (tie.spec
-    refusal-requires
-    same-length
-    returns
-    let-through-requires
-    same-length-2
-    returns-2
-    update-requires
-    same-length-3
-    returns-3)
+    (tie.spec (λ c κs. search needs) (λ c. search needs) returns let-through-requires (λ c. search needs) returns-2
+    update-requires (λ c. search needs) returns-3)
