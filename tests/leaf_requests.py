@@ -6,12 +6,16 @@ Each request is a tuple of an operation and its words, all within their widths.
 from itertools import product as pairs_of
 
 from reference import layout
+from reference import old_layout as old
 from reference.generator import envelope, modulated
 from reference.modifier import product
 from reference.words import leaves_range, low, signed
-from texts import NEW_TEXT, Chance
+from texts import NEW_TEXT, OLD_TEXT, Chance
 
-SINE, EXPONENTIAL, PRODUCTS, GENERATOR, MODIFIER, BUILT, SUMS = range(7)
+(SINE, EXPONENTIAL, PRODUCTS, GENERATOR, MODIFIER, BUILT, SUMS, OLD_MODIFIER,
+ OLD_GENERATOR) = range(9)
+# A generator's and a modifier's turn by a text.
+TURNS = {NEW_TEXT: (GENERATOR, MODIFIER), OLD_TEXT: (OLD_GENERATOR, OLD_MODIFIER)}
 
 ELEVEN, EIGHT = layout.GENERATOR_NAMES, layout.MODIFIER_NAMES
 
@@ -93,16 +97,22 @@ def near_asymptote(chance, x):
     x["GL"] = low(close(chance) - v, 12)
 
 
+# A quarter of the angles of 20 bits.
+QUARTER = 1 << 18
+
+
 def near_quarter(chance, x):
     """GK puts K close to the end of a quarter."""
-    k = 2048 * chance.randint(-2, 2) + close(chance)
-    x["GK"] = low(128 * k + chance.choice((0, 1, 64, 127)), 20)
+    unit = chance.text.angle_unit
+    end = QUARTER * chance.randint(-2, 2) + unit * close(chance)
+    x["GK"] = low(end + chance.choice((0, 1, unit // 2, unit - 1)), 20)
 
 
 def near_quarter_by_j(chance, x):
-    """F puts J, and so K in mode 1000, close to the end of a quarter."""
-    j = 128 * (2048 * chance.randint(-2, 2) + close(chance)) + chance.choice((0, 1, 127))
-    x["F"] = low(j - (x["GJ"] >> 8), 20)
+    """F puts J, and so K in the mode that goes by J, close to the end of a quarter."""
+    unit = chance.text.angle_unit
+    end = QUARTER * chance.randint(-2, 2) + unit * close(chance)
+    x["F"] = low(end + chance.choice((0, 1, unit - 1)) - (x["GJ"] >> 8), 20)
 
 
 def near_rounding(chance, x):
@@ -135,7 +145,7 @@ def generator_request(chance, number):
         x["GM"] = 0
     for shape in chance.choices(GENERATOR_SHAPES, k=chance.randrange(4)):
         shape(chance, x)
-    return (GENERATOR, *(x[name] for name in ELEVEN), x["F"], number % 2)
+    return (TURNS[chance.text][0], *(x[name] for name in ELEVEN), x["F"], number % 2)
 
 
 # Sums of cosines
@@ -214,7 +224,45 @@ def modifier_request(chance, number):
     x["A"], x["B"] = biased(chance, 20), biased(chance, 20)
     for shape in chance.choices(MODIFIER_SHAPES, k=chance.randrange(3)):
         shape(chance, x)
-    return (MODIFIER, *(x[name] for name in EIGHT), x["A"], x["B"])
+    return (TURNS[chance.text][1], *(x[name] for name in EIGHT), x["A"], x["B"])
+
+
+# Whole tables of the older text, heard in turns
+
+RUNNING, PLUS_Q = old.RUNNING_A << 5, old.L_PLUS_Q << 3
+# At this V P is W.
+EVEN_V = 64
+
+
+def old_wave_request(chance, mode, k, gm):
+    """A turn that adds W at K."""
+    x = drawn_registers(chance)
+    gmode = RUNNING | PLUS_Q | mode
+    e = k << 8 | chance.getrandbits(8)
+    x.update(GK=e, GM=gm, GL=low(EVEN_V - (x["GQ"] >> 12), 12), GMODE=gmode, F=biased(chance, 20))
+    if mode == old.COSINE_OF_J:
+        x.update(GK=biased(chance, 20), F=low(e - (x["GJ"] >> 8), 20))
+    return (OLD_GENERATOR, *(x[name] for name in ELEVEN), x["F"], 0)
+
+
+def old_level_request(chance, mode, high):
+    """A turn of a square wave that adds 16 times V, for high 12 bits of GQ."""
+    x = drawn_registers(chance)
+    x.update(GQ=high << 12 | chance.getrandbits(12), GMODE=RUNNING | mode << 3 | old.SQUARE)
+    return (OLD_GENERATOR, *(x[name] for name in ELEVEN), biased(chance, 20), 0)
+
+
+def old_table_requests(chance):
+    """Every K in every wave that goes by it, every high 12 bits of a GQ in every envelope mode, every MMODE.
+
+    Of functions that are not built all registers are 0."""
+    for mode, k in pairs_of((old.SQUARE, old.SAWTOOTH, old.COSINE_OF_K, old.COSINE_OF_J), range(1 << 12)):
+        yield old_wave_request(chance, mode, k, 0)
+        if mode in (old.COSINE_OF_K, old.COSINE_OF_J):
+            yield old_wave_request(chance, mode, k, 1 + k % 15)
+    for mode, high in pairs_of(range(4), range(1 << 12)):
+        yield old_level_request(chance, mode, high)
+    yield from ((OLD_MODIFIER, *[0] * 7, mmode, 0, 0) for mmode in range(1 << 9))
 
 
 # The whole of the requests
@@ -248,6 +296,10 @@ def all_requests(count, seed):
     requests = list(table_requests(chance))
     requests += word_requests(chance, count // 4)
     requests += cosines_requests(chance)
+    requests += (generator_request(chance, number) for number in range(count))
+    requests += (modifier_request(chance, number) for number in range(count))
+    chance = Chance(seed, OLD_TEXT)
+    requests += old_table_requests(chance)
     requests += (generator_request(chance, number) for number in range(count))
     requests += (modifier_request(chance, number) for number in range(count))
     return requests

@@ -62,9 +62,11 @@ def build(test):
         subprocess.run(["rt", "staticlib", "karvelorn"], cwd=ROOT, check=True, stdout=subprocess.DEVNULL)
     source = os.path.join(ROOT, "tests", test.name + ".c")
     defined = ["-DOLD_TEXT"] if test.text is OLD_TEXT else []
+    # Put in its place whole: a test beside this one may run the same program.
+    made = f"{test.program}.{os.getpid()}"
     subprocess.run(["gcc", "-std=c99", "-Wall", "-Wextra", "-pedantic", "-Werror", "-O1", *defined,
-                    "-I", os.path.join(ROOT, "include"), source, LIBRARY, "-o", test.program],
-                   check=True)
+                    "-I", os.path.join(ROOT, "include"), source, LIBRARY, "-o", made], check=True)
+    os.replace(made, test.program)
 
 
 # Words as bytes

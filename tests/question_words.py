@@ -1,11 +1,11 @@
 """Compares the tools' own reader of bench files (tools/questions.py), which says in words why a file is refused, with the programs:
-it finds something wrong with a text exactly where they answer 9, and with a machine exactly where they answer 2.
+it finds something wrong with a text exactly where they answer 9 or 13, and with a machine exactly where they answer 2.
 
     /usr/bin/python3 tests/question_words.py [COUNT] [SEED]
 
 target/bin/ring and target/bin/sorted must be built. The files are those of tests/files and examples, those by hand in
-tests/ring_files.py, COUNT of its files at random, a third of them damaged, and those of tests/sorted_requests.py. Each sentence names
-a line that the file has.
+tests/ring_files.py, COUNT of its files at random, a third of them damaged, those of tests/sorted_requests.py, and those with text=
+lines of tests/text_files.py. Each sentence names a line that the file has.
 """
 
 import os
@@ -18,6 +18,7 @@ from itertools import chain
 
 import ring_files
 import sorted_requests
+import text_files
 from library import ROOT
 
 sys.path.append(os.path.join(ROOT, "tools"))
@@ -26,11 +27,12 @@ import questions  # noqa: E402
 COUNT, SEED = 500, 1978
 RING, SORTED = (os.path.join(ROOT, "target", "bin", name) for name in ("ring", "sorted"))
 REFUSED = re.compile(rb"refused=(\d+)\n")
-LEAST = {0: 700, 2: 250, 9: 450}  # how often each verdict must have been met
+LEAST = {0: 900, 2: 300, 9: 500, 13: 30}  # how often each verdict must have been met
 # What must have been said at least once of a text that is no bench file.
 CAUSES = ("CR LF", "ends lines in CR", "byte-order mark", "no LF at its end", "leading zero", "a value is below 2^32", "places go from 0 to 4342", "at most 65535", "passes= is missing",
           "passes= is there twice", "out of sequence", "is empty", "more than 65536 bytes", "neither word= nor command=", "no decimal number", "has a blank in it", "without its colon",
-          "capitals A to F", "8 hexadecimal digits", "the file is empty", "is missing")
+          "capitals A to F", "8 hexadecimal digits", "the file is empty", "is missing", "text= is there twice", "the very first line", "has no commands", "missing after text=",
+          "follows text=1978 or text=old", "built in the older text", "000 in run mode 000 alone")
 
 
 def texts(count, seed):
@@ -47,6 +49,9 @@ def texts(count, seed):
     yield from (made.text for made in chain(ring_files.echoes(), ring_files.long_ringing(), ring_files.at_random(count, seed)))
     yield from (made.text for made in sorted_requests.all_inputs(count // 5, seed))
     yield from every_place()
+    yield from (text for _, text in text_files.made_by_hand())
+    yield from (text for _, text in text_files.drawn_texts(count // 5, seed))
+    yield from (b"text=old\n" + text for text in every_place())
 
 
 def every_place():
@@ -63,7 +68,7 @@ def every_place():
 
 def refused_by(program, text):
     """The number with which a program refuses a text at once, else 0. A text is rung once at most."""
-    text = re.sub(rb"^passes=[1-9][0-9]{0,4}\n", lambda found: b"passes=1\n" if int(found[0][7:]) <= questions.PASSES_MOST else found[0], text) if program == RING and len(text) <= questions.FILE_MOST else text
+    text = re.sub(rb"^((?:text=[^\n]*\n)?)passes=([1-9][0-9]{0,4})\n", lambda found: found[1] + b"passes=1\n" if int(found[2]) <= questions.PASSES_MOST else found[0], text) if program == RING and len(text) <= questions.FILE_MOST else text
     done = subprocess.run([program], input=text, stdout=subprocess.PIPE, stderr=subprocess.PIPE, timeout=60)
     assert done.returncode == 0 and not done.stderr, done
     found = REFUSED.fullmatch(done.stdout)
@@ -73,13 +78,13 @@ def refused_by(program, text):
 def judged(text):
     """What both programs say of a text, and the reader here."""
     by_ring = refused_by(RING, text)
-    return by_ring if by_ring == 9 else 0, refused_by(SORTED, text), questions.verdict(text)
+    return by_ring if by_ring in (9, 13) else 0, refused_by(SORTED, text), questions.verdict(text)
 
 
 def faults(text, verdict):
     """What is wrong with the words for a refusal."""
     said = questions.reasons(text, verdict)
-    if bool(said) != (verdict in (2, 9)):
+    if bool(said) != (verdict in (2, 9, 13)):
         yield f"{verdict} in {len(said)} sentences"
     for sentence in said:
         line = re.match(r"line (\d+)", sentence)
@@ -94,15 +99,15 @@ def main(arguments):
         tried = list(dict.fromkeys(texts(count, seed)))
         for text, (by_ring, by_sorted, here) in zip(tried, pool.map(judged, tried)):
             wrong = list(faults(text, by_sorted))
-            if by_sorted not in (9, 2):
+            if by_sorted not in (9, 13, 2):
                 by_sorted = 0
-            if here != by_sorted or (by_ring == 9) != (here == 9) or wrong:
+            if here != by_sorted or by_ring != (here if here in (9, 13) else 0) or wrong:
                 differ += 1
                 print(f"the programs say {by_ring} and {by_sorted}, the reader {here} {wrong}: {text[:200]!r}")
             met[here] += 1
             causes.update(cause for cause in CAUSES for said in questions.reasons(text, here) if cause in said)
     seldom = [str(verdict) for verdict, least in LEAST.items() if met[verdict] < least * min(1, count / COUNT)] + [cause for cause in CAUSES if cause not in causes]
-    print(f"question words: {len(tried)} files ({met[0]} good, {met[2]} refused with 2, {met[9]} with 9): {differ} differ" + (f"; met too seldom: {', '.join(seldom)}" if seldom else ""))
+    print(f"question words: {len(tried)} files ({met[0]} good, {met[2]} refused with 2, {met[9]} with 9, {met[13]} with 13): {differ} differ" + (f"; met too seldom: {', '.join(seldom)}" if seldom else ""))
     return 1 if differ or seldom else 0
 
 

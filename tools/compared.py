@@ -25,6 +25,8 @@ ENTRIES_SHOWN, NAMES_SHOWN = 12, 6
 # Run modes.
 PAUSE, TO_DAC, WRITES, READS, WAITS, STOPS, TRIGGERS = 0b0001, 0b0010, 0b0011, 0b0111, 0b1001, 0b1101, 0b1110
 ADDING = (STOPS, TRIGGERS, 0b1111)
+# The run modes 000 to 110 of the older text by these; 111 sends.
+SWITCHED_AS, OLD_SENDS = (0b0000, PAUSE, 0b1111, TRIGGERS, WAITS, STOPS, READS), 0b111
 
 NOT_SO = "what the program sorted found isn't so in the file"
 ORDER_FILE = "it must have 1 to 256 lines order=G, each with a number G from 0 to 255 without leading zeros and ended by LF"
@@ -57,6 +59,7 @@ class Bell:
         bench, _ = questions.read(text)
         self.words = {place: value for place, value, _ in bench.words}
         self.commands = bench.commands
+        self.is_old = bench.is_old
         self.t = self.words.get(layout.T, layout.FRESH_T)
         self.names = {}
 
@@ -64,7 +67,19 @@ class Bell:
         return self.words.get(layout.generator_at(g) + layout.GENERATOR_NAMES.index(name), 0)
 
     def mode(self, g):
-        return self.register(g, "GMODE") >> 6
+        """A generator's run mode; that of the older text by the one of 1978 that it is switched as, and 111 by the sign of GN."""
+        if not self.is_old:
+            return self.register(g, "GMODE") >> 6
+        run = self.register(g, "GMODE") >> 5
+        return (WRITES if self.register(g, "GN") >> 10 else TO_DAC) if run == OLD_SENDS else SWITCHED_AS[run]
+
+    def dac(self, g):
+        """The DAC that a generator feeds where it feeds one."""
+        return self.register(g, "GN" if self.is_old else "GO") % 16
+
+    def neighbour(self, g):
+        """The generator whose trigger reaches g; below 0 where there is none."""
+        return g - (2 if self.is_old else 1)
 
     def pitch(self, g):
         """A generator's Hz, where it turns forwards."""
@@ -89,7 +104,9 @@ class Bell:
         return f"sum word {word}" + (f" ({joined(first_of(those))})" if those else "")
 
     def source(self, g):
-        """What a generator sends to a DAC or writes: the sum word that its GFM names."""
+        """What a generator sends to a DAC or writes: the sum word that its GFM names; in the older text its own angle."""
+        if self.is_old:
+            return "its own angle"
         quadrant, word = divmod(self.register(g, "GFM"), 64)
         return f"modifier-last sum word {word}" if quadrant else f"generator-last {self.sum_word(word)}"
 
@@ -135,12 +152,13 @@ def differing(ours, theirs):
 
 
 def point_1(bell, waiting, second):
-    differing(second.index(waiting - 1) > second.index(waiting), False)
-    return f"generator {bell.number(waiting)} waits for generator {bell.number(waiting - 1)}, which the second order takes after it: a trigger of generator {waiting - 1} no longer starts it."
+    lower = bell.neighbour(waiting)
+    differing(second.index(lower) > second.index(waiting), False)
+    return f"generator {bell.number(waiting)} waits for generator {bell.number(lower)}, which the second order takes after it: a trigger of generator {lower} no longer starts it."
 
 
 def point_2(bell, dac, second):
-    one, other = differing(*([g for g in bell.in_mode(order, TO_DAC) if bell.register(g, "GO") % 16 == dac][-1] for order in (range(bell.t), second)))
+    one, other = differing(*([g for g in bell.in_mode(order, TO_DAC) if bell.dac(g) == dac][-1] for order in (range(bell.t), second)))
     return f"DAC {dac} is fed last by another generator: by number generator {bell.number(one)} sends it {bell.source(one)}, in the second order generator {bell.number(other)} sends it {bell.source(other)}."
 
 
@@ -177,7 +195,8 @@ def changing(bell, second):
     last = {bell.register(g, "GSUM"): g for g in bell.in_mode(range(bell.t), READS)}
     for g in moving:
         reader = last.get(bell.register(g, "GSUM"), g)
-        if (g - 1 in moving or g > 0 and bell.mode(g - 1) == TRIGGERS) and at[g - 1] > at[g] or (g < reader) != (at[g] < at[reader]):
+        lower = bell.neighbour(g)
+        if (lower in moving or lower >= 0 and bell.mode(lower) == TRIGGERS) and at[lower] > at[g] or (g < reader) != (at[g] < at[reader]):
             yield g
 
 

@@ -1,4 +1,4 @@
-"""Questions 9 and 2 in words: what makes a text no bench file, and which words of its machine are not as they must be.
+"""Questions 9, 13 and 2 in words: what makes a text no bench file, and which words of its machine are not as they must be.
 
 The programs decide; this reader of the tools' own says why. tests/questions.py compares it with the programs on all files of the
 tests: it finds nothing exactly where they refuse nothing. Places and ranges are those of the reference.
@@ -8,12 +8,16 @@ from typing import NamedTuple
 
 import command_line  # noqa: F401  (makes the reference known)
 from machine_words import name_of
-from reference import layout
+from reference import layout, old_layout
+from reference.old import OLD as OLD_TEXT
+from reference.old_modifier import function_built as old_function_built
 from reference.machine import RANGES, function_built, oscillator_mode_built, run_mode_built, source_built
 
 FILE_MOST, PASSES_MOST, VALUE_MOST = 65536, 65535, 2 ** 32 - 1
 COMMAND_DIGITS, HEXADECIMAL = 8, b"0123456789ABCDEF"
-PASSES, WORD, COMMAND = b"passes=", b"word=", b"command="
+TEXT, PASSES, WORD, COMMAND = b"text=", b"passes=", b"word=", b"command="
+NEW, OLD = b"1978", b"old"
+OLD_GMODE_MOST = 2 ** old_layout.GMODE_WIDTH - 1
 BYTE_ORDER_MARKS = {b"\xef\xbb\xbf": "UTF-8", b"\xff\xfe": "UTF-16", b"\xfe\xff": "UTF-16"}
 SHOWN, CUT = 6, 40  # so many words of a machine are named, so many characters of a line are shown
 
@@ -31,6 +35,7 @@ QUESTIONS = {
     10: "Has delay memory 65,536 words, none above 20 bits?",
     11: "Of the delay lines that run: is X+Z at most 65,535 and Y at most Z?",
     12: "Do the modifiers that invoke delay units name different ones?",
+    13: "Is the text that the file names known?",
 }
 
 
@@ -46,10 +51,16 @@ class Fault(NamedTuple):
 
 
 class Bench(NamedTuple):
-    """A bench file: how many passes, words as place, value and line, commands as line and number."""
+    """A bench file: how many passes, words as place, value and line, commands as line and number, and the text that it names."""
     passes: int
     words: list
     commands: list
+    text: bytes = NEW
+
+    @property
+    def is_old(self):
+        """Whether it follows the older text."""
+        return self.text == OLD
 
 
 class NotBench(Exception):
@@ -109,15 +120,19 @@ def line_end(line, is_first):
         raise NotBench("is empty")
 
 
-def kind_of(line, seen):
-    """Which of the three a line is; seen is the kind of the lines before it, None at the first."""
-    kind = next((kind for kind in (PASSES, WORD, COMMAND) if line.startswith(kind)), None)
-    if seen is None and kind != PASSES:
-        raise NotBench("passes= is missing: it must be the first line")
+def kind_of(line, seen, is_old):
+    """Which of the four a line is; seen is the kind of the lines before it, None at the first."""
+    kind = next((kind for kind in (TEXT, PASSES, WORD, COMMAND) if line.startswith(kind)), None)
+    if kind == TEXT and seen is not None:
+        raise NotBench("text= is there twice" if seen == TEXT else "text= may only be the very first line")
+    if seen in (None, TEXT) and kind not in (PASSES, TEXT):
+        raise NotBench("passes= is missing: it must be the first line" + (" after text=" if seen else ""))
     if kind is None:
         raise NotBench("begins with neither word= nor command=")
-    if kind == PASSES and seen is not None:
+    if kind == PASSES and seen not in (None, TEXT):
         raise NotBench("passes= is there twice: the first line has it")
+    if kind == COMMAND and is_old:
+        raise NotBench("a file of the older text has no commands")
     if kind == WORD and seen == COMMAND:
         raise NotBench("lines are out of sequence: word= after command=")
     return kind
@@ -133,10 +148,13 @@ def read(text):
     lines = text.split(b"\n")
     for at, line in enumerate(lines[:-1], 1):
         try:
-            line_end(line, at == 1)
-            kind = kind_of(line, kind)
+            if not (at == 1 and line.startswith(TEXT)):  # the value of text= may have any byte; another text than the two gets 13
+                line_end(line, at == 1)
+            kind = kind_of(line, kind, bench.is_old)
             rest = line[len(kind):]
-            if kind == PASSES:
+            if kind == TEXT:
+                bench = bench._replace(text=rest)
+            elif kind == PASSES:
                 bench = bench._replace(passes=number(rest, "the number of passes", PASSES_MOST, f"at most {PASSES_MOST}"))
             elif kind == WORD:
                 bench.words.append((*initial_word(rest), at))
@@ -147,6 +165,8 @@ def read(text):
     if lines[-1]:
         cause = "ends lines in CR: each ends in LF alone" if b"\r" in lines[-1] else "has no LF at its end"
         return None, Fault(len(lines), cause, lines[-1])
+    if kind == TEXT:
+        return None, Fault(0, "passes= is missing after text=")
     return bench, None
 
 
@@ -157,12 +177,13 @@ def built(codes, width):
     return " ".join(f"{code:0{width}b}" for code in sorted(codes))
 
 
-def mode_fault(place, value):
+def mode_fault(place, value, is_old):
     """What a mode or an address within its width has that isn't built, or nothing."""
     for start, count, names in ((0, layout.GENERATORS, layout.GENERATOR_NAMES), (layout.MODIFIERS_AT, layout.MODIFIERS, layout.MODIFIER_NAMES),
                                 (layout.DELAY_UNITS_AT, layout.DELAY_UNITS, layout.DELAY_UNIT_NAMES)):
         if start <= place < start + count * len(names):
-            return register_fault(names[(place - start) % len(names)], value)
+            name = names[(place - start) % len(names)]
+            return old_fault(name, value) if is_old and name in ("GMODE", "MMODE") else register_fault(name, value)
     return None
 
 
@@ -181,12 +202,24 @@ def register_fault(name, value):
     return None
 
 
-def word_fault(place, value):
+def old_fault(name, value):
+    """The same of GMODE and MMODE by the older text."""
+    if name == "MMODE":
+        return None if old_function_built(value) else f"function {layout.function(value):05b}, which isn't built in the older text"
+    run, oscillator = old_layout.run_mode(value), old_layout.oscillator_mode(value)
+    if OLD_TEXT.gmode_built(value):
+        return None
+    return f"oscillator mode {oscillator:03b} in run mode {run:03b}: built are 001 to 101, and 000 in run mode 000 alone"
+
+
+def word_fault(place, value, is_old=False):
     """What a word has and may have, where it may not have what it has."""
     least, most = RANGES[place]
+    if is_old and place < layout.GENERATORS * len(layout.GENERATOR_NAMES) and place % len(layout.GENERATOR_NAMES) == layout.GMODE:
+        most = OLD_GMODE_MOST
     if not least <= value <= most:
         return f"{value}, {f'{least} to {most}' if least else f'at most {most}'}"
-    wrong = mode_fault(place, value)
+    wrong = mode_fault(place, value, is_old)
     return f"{value}: {wrong}" if wrong else None
 
 
@@ -194,7 +227,7 @@ def machine_faults(bench):
     """The words with which a file's machine fails question 2, each with its line."""
     last = {place: (value, line) for place, value, line in bench.words}
     for place, (value, line) in sorted(last.items()):
-        wrong = word_fault(place, value)
+        wrong = word_fault(place, value, bench.is_old)
         if wrong:
             yield Fault(line, f"{name_of(place)} (word {place}) has {wrong}")
 
@@ -202,9 +235,9 @@ def machine_faults(bench):
 # In words
 
 def verdict(text):
-    """9, 2 or 0: what the reader here finds of a text and of the machine that it begins with."""
+    """9, 13, 2 or 0: what the reader here finds of a text and of the machine that it begins with."""
     bench, fault = read(text)
-    return 9 if fault else 2 if any(machine_faults(bench)) else 0
+    return 9 if fault else 13 if bench.text not in (NEW, OLD) else 2 if any(machine_faults(bench)) else 0
 
 
 def reasons(text, refused):
@@ -212,6 +245,8 @@ def reasons(text, refused):
     bench, fault = read(text)
     if refused == 9:
         return [str(fault)] if fault else []
+    if refused == 13 and bench:
+        return [f"line 1 ({shown(TEXT + bench.text)}): a file follows text=1978 or text=old, without a blank or another letter"]
     if refused != 2 or fault:
         return []
     found = [str(wrong) for wrong in machine_faults(bench)]

@@ -15,14 +15,15 @@ use Rattle.bench_bytes.proofs.Searches.{starts-long}
 use Rattle.bench_numbers.specs.Numbers.{numberIn, decimalIn, hexadecimalIn}
 use Rattle.bench_numbers.specs.declared.Number.{Number}
 use Rattle.bench_numbers.specs.declared.Number.the-variants.{Is, No}
-use Rattle.bench_lines.specs.Lines.{mostPasses, passesStart, wordStart, commandStart, afterStart, lineBy, wordLine, lineOf, prepended, linesOf}
+use Rattle.bench_lines.specs.Lines.{mostPasses, passesStart, wordStart, commandStart, textStart, afterStart, lineBy, wordLine, titleOf, lineOf, prepended, linesOf}
+use Rattle.bench_lines.specs.declared.Title.{Title}
 use Rattle.bench_lines.specs.declared.Line.{Line}
-use Rattle.bench_lines.specs.declared.Line.the-variants.{Passes, Command, Other}
+use Rattle.bench_lines.specs.declared.Line.the-variants.{Titled, Passes, Command, Other}
 use Rattle.bench_lines.proofs.LineKinds.{word-kind}
 use Rattle.bench_lines.proofs.FileLines.{ended-is}
 use Rattle.bench_file.specs.BenchFile.{commandsOf, fileOf, isBenchFile, commandPlaces}
 use Rattle.bench_file.specs.Sweeps.{allCommands}
-use Rattle.bench_file.proofs.WholeFile.{bench-file-ended, bench-file-fit, file-commands}
+use Rattle.bench_file.proofs.WholeFile.{bench-file-ended, file-commands}
 
 -- A line of n bytes is long enough for its commands.
 Enough : ℕ → Line → Type 0
@@ -32,6 +33,10 @@ enough-passes : (n : ℕ) (a : Number) → Enough n (lineBy a (λ i. Passes i))
 unfolding Enough
 enough-passes n (Is i) = omega arith
 enough-passes n No = omega arith
+
+enough-titled : (n : ℕ) (t : Title) → Enough n (Titled t)
+unfolding Enough
+enough-titled n t = omega arith
 
 enough-other : (n : ℕ) → Enough n Other
 unfolding Enough
@@ -60,11 +65,15 @@ enough-line l =
     of-cond (Enough (length l)) (startsWith l passesStart) (enough-passes (length l) (decimalIn (mostPasses + 1) (afterStart passesStart l)))
     (of-cond (Enough (length l)) (startsWith l wordStart) (enough-word (length l) (afterStart wordStart l)) (by (startsWith l commandStart) refl))
   where
-    by : (b : Bool) → startsWith l commandStart ≡ b → Enough (length l) (cond b (lineBy (hexadecimalIn (afterStart commandStart l)) (λ c. Command c)) Other)
+    title : Title
+    title = titleOf (afterStart textStart l)
+
+    by : (b : Bool) → startsWith l commandStart ≡ b
+        → Enough (length l) (cond b (lineBy (hexadecimalIn (afterStart commandStart l)) (λ c. Command c)) (cond (startsWith l textStart) (Titled title) Other))
     by true e =
         let h = starts-long l commandStart e in
         enough-command (length l) (afterStart commandStart l) (omega (arith, h, length-drop (length commandStart) l))
-    by false e = enough-other (length l)
+    by false e = of-cond (Enough (length l)) (startsWith l textStart) (enough-titled (length l) title) (enough-other (length l))
 
 -- The bytes of lines, each with an LF.
 bytes : List (List ℕ) → ℕ
@@ -97,4 +106,4 @@ few-commands file f =
     let e = ended-is file (bench-file-ended file f) in
     let a = enough-lines (linesOf file) in
     let b = bytes-lines file in
-    rw (file-commands file (bench-file-fit file f)) (omega (arith, a, b, e .short))
+    rw (file-commands file) (omega (arith, a, b, e .short))

@@ -1,42 +1,35 @@
--- The first sweep: what its steps do, and that it gives a file's phase, passes and number of commands.
+-- The first sweep: what its steps do, and that it gives a file's title, phase, passes and number of commands.
 -- Assumes nothing.
 use mathlib.Core.Path.{_≡_, refl, ap, sym, _∙_}
 use mathlib.Core.List.{List, [], _∷_}
-use mathlib.Core.Bool.{Bool, true, false, not, cond}
 use Prim.Native.Nat.{ℕ, _+_, _≤_, _<_}
 use Prim.Native.Char.{code}
-use borrow.Author.Tests.{not-true, not-false}
 use native.Mathlib.Omega.{arith}
 use lib.ListN.{length, take, drop, length-append}
 use Rattle.bench_bytes.specs.Bytes.{bytesBefore}
-use Rattle.lists.proofs.Choices.{of-cond}
 use Rattle.bench_lines.specs.Lines.{lineOf, linesOf}
+use Rattle.bench_lines.specs.declared.Title.{Title}
+use Rattle.bench_lines.specs.declared.Title.the-variants.{Text1978}
 use Rattle.bench_lines.specs.declared.Line.{Line}
-use Rattle.bench_lines.specs.declared.Line.the-variants.{Passes, Word, Command, Other}
+use Rattle.bench_lines.specs.declared.Line.the-variants.{Titled, Passes, Word, Command, Other}
 use Rattle.bench_lines.proofs.FileLines.{Ended, within, lines-next, lines-end}
-use Rattle.bench_phases.specs.Phases.{phaseAfter, isFit}
+use Rattle.bench_phases.specs.Phases.{phaseAfter}
 use Rattle.bench_phases.specs.declared.Phase.{Phase}
-use Rattle.bench_phases.specs.declared.Phase.the-variants.{Start, Unfit}
-use Rattle.bench_file.specs.BenchFile.{withPasses, commandsOf, Reading, unread, withLine, withLines, fileOf}
+use Rattle.bench_phases.specs.declared.Phase.the-variants.{Start}
+use Rattle.bench_file.specs.BenchFile.{withTitle, withPasses, commandsOf, Reading, unread, withLine, withLines, fileOf}
 use Rattle.bench_file.specs.Sweeps.{outline, judgedLine, judgedLines}
 use Rattle.bench_file.specs.declared.File.{File}
 
--- A step, by whether its line may follow.
-module _ (f : File) (l : Line) {next : Phase} (e : next ≡ phaseAfter (f .phase) l) {fits : Bool} (g : fits ≡ isFit next) where
-  fit-next : isFit (phaseAfter (f .phase) l) ≡ fits
-  fit-next = sym (g ∙ ap (λ (p : Phase). isFit p) e)
-
-  pub judged-unfit : not fits ≡ true → record { phase = Unfit; passes = f .passes; count = f .count } ≡ judgedLine f l
+-- A step.
+module _ (f : File) (l : Line) where
+  pub judged : {title : Title} {next : Phase} {passes count : ℕ} → title ≡ withTitle (f .title) l → next ≡ phaseAfter (f .title) (f .phase) l → passes ≡ withPasses (f .passes) l
+      → count ≡ f .count + length (commandsOf l) → record { title = title; phase = next; passes = passes; count = count } ≡ judgedLine f l
   unfolding judgedLine
-  judged-unfit h = rw (fit-next ∙ not-true fits h)
-
-  pub judged-fit : not fits ≡ false → {passes count : ℕ} → passes ≡ withPasses (f .passes) l → count ≡ f .count + length (commandsOf l)
-      → record { phase = next; passes = passes; count = count } ≡ judgedLine f l
-  unfolding judgedLine
-  judged-fit h p c = rw (fit-next ∙ not-false fits h, e, p, c)
+  judged t e p c = rw (t, e, p, c)
 
 -- A line brings at most one command.
 pub one-command : (l : Line) → length (commandsOf l) ≤ 1
+one-command (Titled t) = omega arith
 one-command (Passes n) = omega arith
 one-command (Word p v) = omega arith
 one-command (Command c) = omega arith
@@ -44,22 +37,12 @@ one-command Other = omega arith
 
 judged-count : (f : File) (l : Line) → judgedLine f l .count ≤ f .count + 1
 unfolding judgedLine
-judged-count f l =
-    let o = one-command l in
-    of-cond (λ (g : File). g .count ≤ f .count + 1) (isFit (phaseAfter (f .phase) l)) (omega arith) (omega arith)
+judged-count f l = omega (arith, one-command l)
 
 -- The outline of a file with a line more, and with lines more.
-outline-cond : (b : Bool) (r s : Reading) {f g : File} → outline r ≡ f → outline s ≡ g → outline (cond b r s) ≡ cond b f g
-outline-cond true r s e h = e
-outline-cond false r s e h = h
-
 outline-line : (r : Reading) (l : Line) → outline (withLine r l) ≡ judgedLine (outline r) l
 unfolding withLine judgedLine
-outline-line r l =
-    let next = phaseAfter (r .phase) l in
-    outline-cond (isFit next) _ _
-    (ap (λ (n : ℕ). record { phase = next; passes = withPasses (r .passes) l; count = n }) (length-append (r .commands) (commandsOf l)))
-    refl
+outline-line r l = rw (length-append (r .commands) (commandsOf l))
 
 outline-lines : (r : Reading) (ls : List (List ℕ)) → outline (withLines r ls) ≡ judgedLines (outline r) ls
 unfolding withLines judgedLines
@@ -72,7 +55,7 @@ pub record Judging (file : List ℕ) (at : ℕ) (f : File) : Type 0 where
   pub few : f .count ≤ at
   pub rest : judgedLines f (linesOf (drop at file)) ≡ outline (fileOf file)
 
-pub begins : (file : List ℕ) → Judging file 0 (record { phase = Start; passes = 0; count = 0 })
+pub begins : (file : List ℕ) → Judging file 0 (record { title = Text1978; phase = Start; passes = 0; count = 0 })
 unfolding fileOf
 begins file = record { here = omega arith; few = omega arith; rest = sym (outline-lines unread (linesOf file)) }
 

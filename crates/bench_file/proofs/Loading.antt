@@ -11,8 +11,9 @@ use lib.Seq.{sets}
 use Rattle.bench_bytes.specs.Bytes.{bytesBefore}
 use Rattle.bench_bytes.proofs.Puts.{sets-append}
 use Rattle.bench_lines.specs.Lines.{lineOf, linesOf}
+use Rattle.bench_lines.specs.declared.Title.{Title}
 use Rattle.bench_lines.specs.declared.Line.{Line}
-use Rattle.bench_lines.specs.declared.Line.the-variants.{Passes, Word, Command, Other}
+use Rattle.bench_lines.specs.declared.Line.the-variants.{Titled, Passes, Word, Command, Other}
 use Rattle.bench_lines.proofs.FileLines.{Ended, within, lines-next, lines-end}
 use Rattle.bench_file.specs.BenchFile.{withWord, commandsOf}
 use Rattle.bench_file.specs.Sweeps.{withWords, allCommands}
@@ -25,6 +26,9 @@ Leaves l count m room count′ m′ room′ =
 
 -- The steps, by line.
 module _ (l : Line) (count : ℕ) (m room : List ℕ) where
+  pub load-titled : {t : Title} → l ≡ Titled t → Leaves l count m room count m room
+  load-titled e = rw e (sym (add-zero count), (refl, refl))
+
   pub load-passes : {n : ℕ} → l ≡ Passes n → Leaves l count m room count m room
   load-passes e = rw e (sym (add-zero count), (refl, refl))
 

@@ -1,103 +1,85 @@
--- The two sweeps together read a file: a bench file is what its words and commands make, and another file changes nothing.
+-- The two sweeps together read a file: it is what its words and commands make, and a refused one changes nothing.
 -- Assumes nothing.
 use mathlib.Core.Path.{_≡_, refl, ap, sym, _∙_}
+use mathlib.Core.Logic.{_≢_}
 use mathlib.Core.List.{List, [], _∷_, _++_, append-nil, append-assoc}
-use mathlib.Core.Bool.{Bool, true, false, true≢false}
+use mathlib.Core.Bool.{Bool, true, false}
 use Prim.Native.Nat.{ℕ}
-use borrow.Author.Tests.{eq-eqb}
+use native.Mathlib.Omega.{arith}
+use borrow.Author.Tests.{eqb-true, eq-eqb, ne-eqb}
+use lib.Dec.{eqb}
 use lib.ListN.{length}
 use lib.Seq.{sets}
 use Rattle.layout.specs.Layout.{machineLength}
 use Rattle.layout.specs.Machine.{Reaches, withUpdateTicks}
-use Rattle.lists.proofs.Below.{and-first, and-second}
+use Rattle.texts.specs.declared.Text.{Text}
+use Rattle.texts.specs.declared.Text.the-variants.{Of1978}
+use Rattle.questions.specs.Questions.{asked}
+use Rattle.questions.proofs.Asked.{both-yes}
+use Rattle.lists.proofs.Choices.{of-test}
+use Rattle.lists.proofs.Below.{and-first}
 use Rattle.machine.specs.Questions.{freshMachine, freshRun}
 use Rattle.machine.proofs.SoundMachine.{reaches}
 use Rattle.machine.proofs.FreshMachine.{fresh-length}
 use Rattle.bench_lines.specs.Lines.{lineOf, linesOf, ended}
-use Rattle.bench_lines.specs.declared.Line.{Line}
-use Rattle.bench_lines.specs.declared.Line.the-variants.{Passes, Word, Command, Other}
-use Rattle.bench_phases.specs.Phases.{phaseAfter, isFit}
-use Rattle.bench_phases.specs.declared.Phase.{Phase}
-use Rattle.bench_phases.specs.declared.Phase.the-variants.{Unfit}
-use Rattle.bench_file.specs.BenchFile.{withWord, commandsOf, Reading, unread, withLine, withLines, fileOf, isBenchFile, readOf}
+use Rattle.bench_phases.specs.Phases.{isFit}
+use Rattle.bench_file.specs.BenchFile.{commandsOf, Reading, unread, withLine, withLines, fileOf, isBenchFile, isKnown, textOf, question9, question13, fileRefusal, Answer, readOf}
 use Rattle.bench_file.specs.Sweeps.{outline, withWords, allCommands}
 use Rattle.bench_file.specs.declared.File.{File}
 
--- No line makes a file fit again.
-unfit-after : (l : Line) → phaseAfter Unfit l ≡ Unfit
-unfit-after (Passes n) = refl
-unfit-after (Word p v) = refl
-unfit-after (Command c) = refl
-unfit-after Other = refl
-
-stays-unfit : (r : Reading) (ls : List (List ℕ)) → r .phase ≡ Unfit → withLines r ls .phase ≡ Unfit
-unfolding withLines withLine
-stays-unfit r [] e = e
-stays-unfit r (l ∷ ls) e = stays-unfit (withLine r (lineOf l)) ls (rw (e, unfit-after (lineOf l)))
-
--- So in a bench file each line may follow those before it, and sets its word and its command.
-line-follows : (r : Reading) (l : List ℕ) (ls : List (List ℕ)) → isFit (withLines r (l ∷ ls) .phase) ≡ true → isFit (phaseAfter (r .phase) (lineOf l)) ≡ true
-unfolding withLines withLine
-line-follows r l ls h = by (isFit (phaseAfter (r .phase) (lineOf l))) refl
-  where
-    by : (b : Bool) → isFit (phaseAfter (r .phase) (lineOf l)) ≡ b → b ≡ true
-    by true e = refl
-    by false e = absurd (true≢false (sym h ∙ ap (λ (p : Phase). isFit p) (stays-unfit (withLine r (lineOf l)) ls (rw e))))
-
-line-holds : (r : Reading) (l : Line) → isFit (phaseAfter (r .phase) l) ≡ true
-    → (withLine r l .machine ≡ withWord (r .machine) l) × (withLine r l .commands ≡ r .commands ++ commandsOf l)
-unfolding withLine
-line-holds r l h = rw h (refl, refl)
-
-lines-hold : (r : Reading) (ls : List (List ℕ)) → isFit (withLines r ls .phase) ≡ true
-    → (withLines r ls .machine ≡ withWords (r .machine) ls) × (withLines r ls .commands ≡ r .commands ++ allCommands ls)
-unfolding withLines withWords allCommands
-lines-hold r [] h = (refl, sym (append-nil (r .commands)))
-lines-hold r (l ∷ ls) h =
-    let p = line-holds r (lineOf l) (line-follows r l ls h) in
-    let q = lines-hold (withLine r (lineOf l)) ls h in (
-      q .0 ∙ ap (λ (m : List ℕ). withWords m ls) (p .0),
-      q .1 ∙ ap (λ (cs : List ℕ). cs ++ allCommands ls) (p .1) ∙ append-assoc (r .commands) (commandsOf (lineOf l)) (allCommands ls),
+-- The lines of a file set their words and their commands.
+lines-hold : (r : Reading) (ls : List (List ℕ)) → (withLines r ls .machine ≡ withWords (r .machine) ls) × (withLines r ls .commands ≡ r .commands ++ allCommands ls)
+unfolding withLines withLine withWords allCommands
+lines-hold r [] = (refl, sym (append-nil (r .commands)))
+lines-hold r (l ∷ ls) =
+    let q = lines-hold (withLine r (lineOf l)) ls in (
+      q .0,
+      q .1 ∙ append-assoc (r .commands) (commandsOf (lineOf l)) (allCommands ls),
     )
 
--- What a bench file sets.
-module _ (file : List ℕ) (h : isFit (fileOf file .phase) ≡ true) where
+module _ (file : List ℕ) where
   file-words : fileOf file .machine ≡ withUpdateTicks (withWords freshMachine (linesOf file))
   unfolding fileOf
-  file-words = ap withUpdateTicks (lines-hold unread (linesOf file) h .0)
+  file-words = ap withUpdateTicks (lines-hold unread (linesOf file) .0)
 
   pub file-commands : fileOf file .commands ≡ allCommands (linesOf file)
   unfolding fileOf
-  file-commands = lines-hold unread (linesOf file) h .1
+  file-commands = lines-hold unread (linesOf file) .1
 
--- Question 9 in its two parts.
-pub bench-file-ended : (file : List ℕ) → isBenchFile file ≡ true → ended file ≡ true
-unfolding isBenchFile
-bench-file-ended file h = and-first (ended file) (isFit (fileOf file .phase)) h
+  -- Question 9 in its parts, and a file that no question refuses.
+  pub bench-file-ended : isBenchFile file ≡ true → ended file ≡ true
+  unfolding isBenchFile
+  bench-file-ended h = and-first (ended file) (isFit (fileOf file .phase)) h
 
-pub bench-file-fit : (file : List ℕ) → isBenchFile file ≡ true → isFit (fileOf file .phase) ≡ true
-unfolding isBenchFile
-bench-file-fit file h = and-second (ended file) (isFit (fileOf file .phase)) h
+  pub read-number : (m room : List ℕ) → readOf file m room .number ≡ fileRefusal file
+  unfolding readOf
+  read-number m room = of-test (λ (a : Answer). a .number ≡ fileRefusal file) (eqb (fileRefusal file) 0) (λ e. sym (eqb-true (fileRefusal file) 0 e)) (λ e. refl)
 
--- Reading, by its two tests.
+  pub unrefused : fileRefusal file ≡ 0 → isBenchFile file ≡ true
+  unfolding fileRefusal
+  unrefused e = both-yes (question9 file) (question13 file) [] (λ q. omega (arith, q)) (λ q. omega (arith, q)) e .0
+
+-- Reading, by its tests.
 module _ (file m room : List ℕ) {e : Bool} (p : e ≡ ended file) where
-  pub read-unended : e ≡ false → record { number = 9; passes = 0; count = 0; machine = m; room = room } ≡ readOf file m room
-  unfolding readOf isBenchFile
+  pub read-unended : e ≡ false → record { number = 9; text = Of1978; passes = 0; count = 0; machine = m; room = room } ≡ readOf file m room
+  unfolding readOf fileRefusal asked isBenchFile
   read-unended h = rw (sym p ∙ h)
 
-  module _ (h : e ≡ true) {f : File} (q : f ≡ outline (fileOf file)) {c : Bool} (s : c ≡ isFit (f .phase)) where
-    judged : isFit (fileOf file .phase) ≡ c
-    judged = sym (s ∙ ap (λ (g : File). isFit (g .phase)) q)
+  module _ (h : e ≡ true) {f : File} (q : f ≡ outline (fileOf file)) {n : ℕ}
+      (s : n ≡ asked (record { number = 9; yes = isFit (f .phase) } ∷ record { number = 13; yes = isKnown (f .title) } ∷ [])) where
+    number-is : fileRefusal file ≡ n
+    unfolding fileRefusal isBenchFile
+    number-is = rw (s, q, sym p ∙ h)
 
-    pub read-unfit : c ≡ false → record { number = 9; passes = 0; count = 0; machine = m; room = room } ≡ readOf file m room
-    unfolding readOf isBenchFile
-    read-unfit g = rw (sym p ∙ h, judged ∙ g)
+    pub read-refused : n ≢ 0 → record { number = n; text = Of1978; passes = 0; count = 0; machine = m; room = room } ≡ readOf file m room
+    unfolding readOf
+    read-refused g = rw (number-is, ne-eqb n 0 g)
 
-    module _ (g : c ≡ true) where
-      pub read-fit : {m₁ m₂ m₃ room₁ : List ℕ} → m₁ ≡ freshMachine → m₂ ≡ withWords m₁ (linesOf file) → room₁ ≡ sets room 0 (allCommands (linesOf file))
-          → m₃ ≡ withUpdateTicks m₂ → record { number = 0; passes = f .passes; count = f .count; machine = m₃; room = room₁ } ≡ readOf file m room
-      unfolding readOf isBenchFile
-      read-fit a b d t = rw (sym p ∙ h, judged ∙ g, q, t, b, a, d, file-words file (judged ∙ g), file-commands file (judged ∙ g))
+    module _ (g : n ≡ 0) where
+      pub read-fit : {text : Text} {m₁ m₂ m₃ room₁ : List ℕ} → m₁ ≡ freshMachine → m₂ ≡ withWords m₁ (linesOf file) → room₁ ≡ sets room 0 (allCommands (linesOf file))
+          → m₃ ≡ withUpdateTicks m₂ → text ≡ textOf (f .title) → record { number = 0; text = text; passes = f .passes; count = f .count; machine = m₃; room = room₁ } ≡ readOf file m room
+      unfolding readOf
+      read-fit a b d t x = rw (number-is, eq-eqb n 0 g, x, q, t, b, a, d, file-words file, file-commands file)
 
 -- A run of the machine's length is made a fresh machine.
 pub fresh-run : (m : List ℕ) → length m ≡ machineLength → freshRun m ≡ freshMachine

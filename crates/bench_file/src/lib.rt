@@ -1,26 +1,34 @@
 // The bench file's reader: one sweep judges its lines, a second sets what they say.
 ghost use mathlib.Core.Path.{_≡_};
 ghost use mathlib.Core.Bool.{true};
+ghost use mathlib.Core.List.{[], _∷_};
 ghost use Prim.Native.Nat.{_+_, _<_};
 ghost use lib.ListN.{length, set};
 ghost use lib.Seq.{sets};
 ghost use Rattle.layout.specs.Machine.{Reaches, withUpdateTicks};
+ghost use Rattle.texts.specs.declared.Text.the-variants.{Of1978};
+ghost use Rattle.questions.specs.Questions.{asked};
 ghost use Rattle.bench_lines.specs.Lines.{fileBytes, linesOf, ended};
-ghost use Rattle.bench_file.specs.BenchFile.{withWord, commandsOf, fileOf, readOf};
+ghost use Rattle.bench_phases.specs.Phases.{isFit};
+ghost use Rattle.bench_file.specs.BenchFile.{withWord, commandsOf, fileOf, isKnown, textOf, readOf};
 ghost use Rattle.bench_file.specs.Sweeps.{outline, judgedLine, withWords, allCommands};
 use bench_lines::Line;
+use bench_lines::Title;
 use bench_phases::Phase;
+use texts::Text;
 
-// A file under way: its phase, its passes, and how many commands it has.
+// A file under way: its title, its phase, its passes, and how many commands it has.
 pub struct File {
+    pub title: Title,
     pub phase: Phase,
     pub passes: u32,
     pub count: usize,
 }
 
-// What a file says: 9 where it is no bench file or 0, its passes, and how many commands it has.
+// What a file says: the number of its refusal or 0, its text, its passes, and how many commands it has.
 pub struct Contents {
     pub number: u32,
+    pub text: Text,
     pub passes: u32,
     pub count: usize,
 }
@@ -33,38 +41,38 @@ fn judge_line(reading: File, line: Line) -> File
     requires { ⌜ reading .count < fileBytes ⌝ }
     ensures { λ r. ⌜ r ≡ judgedLine reading line ⌝ }
 {
+    let title = reading.title;
     let before = reading.phase;
-    let phase = bench_phases::phase_after(before, line);
+    let phase = bench_phases::phase_after(title, before, line);
     let passes = reading.passes;
     let count = reading.count;
-    if !bench_phases::fit(phase) {
-        return File {
-            phase: Phase::Unfit,
+    let same = File {
+        title,
+        phase,
+        passes,
+        count,
+    };
+    match line {
+        Line::Titled(named) => File {
+            title: named,
+            phase,
             passes,
             count,
-        };
-    }
-    match line {
+        },
         Line::Passes(n) => File {
+            title,
             phase,
             passes: n,
             count,
         },
-        Line::Word(_, _) => File {
-            phase,
-            passes,
-            count,
-        },
+        Line::Word(_, _) => same,
         Line::Command(_) => File {
+            title,
             phase,
             passes,
             count: count + 1,
         },
-        Line::Other => File {
-            phase,
-            passes,
-            count,
-        },
+        Line::Other => same,
     }
 }
 
@@ -74,6 +82,7 @@ fn judge(file: &[u8]) -> File
     ensures { λ r. ⌜ r ≡ outline (fileOf (now (file .entry))) ⌝ }
 {
     let mut reading = File {
+        title: Title::Text1978,
         phase: Phase::Start,
         passes: 0,
         count: 0,
@@ -104,6 +113,7 @@ fn load_line(line: Line, m: &mut [u32], room: &mut [u32], count: usize) -> usize
     ensures { λ _. ⌜ now (room .exit) ≡ sets (now (room .entry)) count (commandsOf line) ⌝ }
 {
     match line {
+        Line::Titled(_) => count,
         Line::Passes(_) => count,
         Line::Word(place, value) => {
             put(m, place, value);
@@ -142,35 +152,78 @@ fn count_update_ticks(m: &mut [u32])
     m[layout::UPDATE_TICKS_AT] = layout::update_ticks(t, n);
 }
 
-// Reads a bench file: its words on a fresh machine with the update ticks that follow, its commands from the room's first place on. Another file changes nothing.
+// Whether a title names a text whose machines are rung.
+fn known(title: Title) -> bool
+    ensures { λ r. ⌜ r ≡ isKnown title ⌝ }
+{
+    match title {
+        Title::Text1978 => true,
+        Title::TextOld => true,
+        Title::Unknown => false,
+    }
+}
+
+// Which text it names.
+fn text_of(title: Title) -> Text
+    ensures { λ r. ⌜ r ≡ textOf title ⌝ }
+{
+    match title {
+        Title::Text1978 => Text::Of1978,
+        Title::TextOld => Text::Old,
+        Title::Unknown => Text::Of1978,
+    }
+}
+
+// The number of the question that refuses a file that ends in LF, or 0.
+fn refusal(phase: Phase, title: Title) -> u32
+    ensures { λ r. ⌜ r ≡ asked (record { number = 9; yes = isFit phase } ∷ record { number = 13; yes = isKnown title } ∷ []) ⌝ }
+{
+    if !bench_phases::fit(phase) {
+        return 9;
+    }
+    if !known(title) {
+        return 13;
+    }
+    0
+}
+
+// What a refused file says.
+fn refused(number: u32) -> Contents
+    ensures { λ r. ⌜ r ≡ record { number = number; text = Of1978; passes = 0; count = 0 } ⌝ }
+{
+    Contents {
+        number,
+        text: Text::Of1978,
+        passes: 0,
+        count: 0,
+    }
+}
+
+// Reads a bench file: its words on a fresh machine with the update ticks that follow, its commands from the room's first place on. A refused file changes nothing.
 pub fn read(
     file: &[u8],
     m: &mut [u32; layout::MACHINE_LENGTH],
     room: &mut [u32; COMMAND_PLACES],
 ) -> Contents
-    ensures { λ r. ⌜ record { number = r .number; passes = r .passes; count = r .count; machine = now (m .exit); room = now (room .exit) } ≡ readOf (now (file .entry)) (now (m .entry)) (now (room .entry)) ⌝ }
+    ensures { λ r. ⌜ record { number = r .number; text = r .text; passes = r .passes; count = r .count; machine = now (m .exit); room = now (room .exit) } ≡ readOf (now (file .entry)) (now (m .entry)) (now (room .entry)) ⌝ }
 {
     if !bench_lines::ended(file) {
-        return Contents {
-            number: 9,
-            passes: 0,
-            count: 0,
-        };
+        return refused(9);
     }
     let reading = judge(file);
     let phase = reading.phase;
-    if !bench_phases::fit(phase) {
-        return Contents {
-            number: 9,
-            passes: 0,
-            count: 0,
-        };
+    let title = reading.title;
+    let number = refusal(phase, title);
+    if number != 0 {
+        return refused(number);
     }
     machine::fresh(m);
     load(file, m, room);
     count_update_ticks(m);
+    let text = text_of(title);
     Contents {
         number: 0,
+        text,
         passes: reading.passes,
         count: reading.count,
     }

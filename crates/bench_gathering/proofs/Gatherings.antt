@@ -24,7 +24,6 @@ use Rattle.bench_ringing.proofs.RungFile.{rung-file}
 use Rattle.bench_ringing.proofs.Turns.{step-length, step-takes, frame-step}
 use Rattle.bench_gathering.specs.Gathering.{gatheredAfter, gathered, printedBy, printedFrom}
 use Rattle.texts.specs.declared.Text.{Text}
-use Rattle.texts.specs.declared.Text.the-variants.{Of1978}
 
 -- What a step leaves to ring has fewer passes left.
 pub step-lowers : (text : Text) (o : Output) (r : Ringing) {next : Ringing} → r .passes ≢ 0 → next ≡ stepOf text o r .next → next .passes < r .passes
@@ -232,7 +231,7 @@ unfolding printedFrom rungFrom
 gathered-file size file m room h l =
     let a = readOf file m room in
     ap (λ (p : List ℕ). cond (eqb (a .number) 0) p (refusalLine (a .number)))
-    (gatherings-are-given Of1978 Lines size (a .passes) (begun a) h (omega arith) ∙ sym (steps-are-given Of1978 Lines (a .passes) (begun a) (omega arith)))
+    (gatherings-are-given (a .text) Lines size (a .passes) (begun a) h (omega arith) ∙ sym (steps-are-given (a .text) Lines (a .passes) (begun a) (omega arith)))
     ∙ rung-file file m room l
 
 -- The number that ends a ringing stays while its steps are gathered.

@@ -11,7 +11,6 @@ use Rattle.bench_ringing.specs.Steps.{Ringing, Step, stepOf, begun}
 use Rattle.bench_ringing.specs.declared.Output.{Output}
 use Rattle.bench_ringing.specs.declared.Output.the-variants.{Lines}
 use Rattle.texts.specs.declared.Text.{Text}
-use Rattle.texts.specs.declared.Text.the-variants.{Of1978}
 
 -- What is gathered after some bytes, at most k steps: a step is taken while a pass is left and a line's buffer, more than a line or a frame has, is free of `room`.
 unfoldable pub gatheredAfter : Text → Output → ℕ → ℕ → List ℕ → Ringing → Step
@@ -30,6 +29,6 @@ unfoldable pub printedBy : Text → Output → ℕ → ℕ → Ringing → List 
 printedBy text o room zero r = []
 printedBy text o room (suc k) r = cond (eqb (r .passes) 0) [] (gathered text o room r .bytes ++ printedBy text o room k (gathered text o room r .next))
 
--- What is printed so from what reading a file answers and leaves; a refused file has the line of its refusal.
+-- What is printed so from what reading a file answers and leaves, by its text; a refused file has the line of its refusal.
 unfoldable pub printedFrom : ℕ → Answer → List ℕ
-printedFrom room a = cond (eqb (a .number) 0) (printedBy Of1978 Lines room (a .passes) (begun a)) (refusalLine (a .number))
+printedFrom room a = cond (eqb (a .number) 0) (printedBy (a .text) Lines room (a .passes) (begun a)) (refusalLine (a .number))

@@ -1,22 +1,25 @@
 -- A line's kind, as the code finds it.
 -- Assumes nothing.
 use mathlib.Core.Path.{_≡_, ap, sym, _∙_}
+use mathlib.Core.Logic.{_≢_}
 use mathlib.Core.List.{List}
 use mathlib.Core.Bool.{Bool, true, false}
 use Prim.Native.Nat.{ℕ, _+_, _≤_, _<_, _^_}
 use Prim.Native.Char.{code}
-use borrow.Author.Tests.{lt-ltb, le-ltb}
+use borrow.Author.Tests.{eq-eqb, ne-eqb, lt-ltb, le-ltb}
 use lib.Dec.{ltb}
 use lib.ListN.{length, take, drop}
 use Rattle.layout.specs.Layout.{filePlaces}
-use Rattle.bench_bytes.specs.Bytes.{startsWith, bytesBefore}
+use Rattle.bench_bytes.specs.Bytes.{ascii, startsWith, bytesBefore}
 use Rattle.lists.proofs.Choices.{of-cond}
 use Rattle.bench_numbers.specs.Numbers.{decimalIn, hexadecimalIn}
-use Rattle.bench_lines.specs.Lines.{mostPasses, passesStart, wordStart, commandStart, afterStart, lineBy, wordLine, lineOf}
+use Rattle.bench_lines.specs.Lines.{mostPasses, passesStart, wordStart, commandStart, textStart, afterStart, lineBy, wordLine, areBytes, titleOf, lineOf}
 use Rattle.bench_numbers.specs.declared.Number.{Number}
 use Rattle.bench_numbers.specs.declared.Number.the-variants.{Is, No}
+use Rattle.bench_lines.specs.declared.Title.{Title}
+use Rattle.bench_lines.specs.declared.Title.the-variants.{Text1978, TextOld, Unknown}
 use Rattle.bench_lines.specs.declared.Line.{Line}
-use Rattle.bench_lines.specs.declared.Line.the-variants.{Passes, Word, Command, Other}
+use Rattle.bench_lines.specs.declared.Line.the-variants.{Titled, Passes, Word, Command, Other}
 
 -- A line by its number.
 pub by-number : (f : ℕ → Line) {a b : Number} {n : ℕ} → a ≡ b → a ≡ Is n → f n ≡ lineBy b f
@@ -61,6 +64,29 @@ word-kind file P o w =
     place (Is i) b = value i b
     place No b = o
 
+-- Bytes that are those of another list, or not.
+module _ (file bytes : List ℕ) where
+  pub are-not : length file ≢ length bytes → false ≡ areBytes file bytes
+  are-not h = rw (ne-eqb (length file) (length bytes) h)
+
+  pub are-by : length file ≡ length bytes → {b : Bool} → b ≡ startsWith file bytes → b ≡ areBytes file bytes
+  are-by h e = rw (eq-eqb (length file) (length bytes) h) e
+
+-- A title by its value.
+module _ (value : List ℕ) {a : Bool} (p : a ≡ areBytes value (ascii "1978")) where
+  pub title-1978 : a ≡ true → Text1978 ≡ titleOf value
+  unfolding titleOf
+  title-1978 t = rw (sym p ∙ t)
+
+  module _ (f : a ≡ false) {b : Bool} (q : b ≡ areBytes value (ascii "old")) where
+    pub title-old : b ≡ true → TextOld ≡ titleOf value
+    unfolding titleOf
+    title-old t = rw (sym p ∙ f, sym q ∙ t)
+
+    pub title-unknown : b ≡ false → Unknown ≡ titleOf value
+    unfolding titleOf
+    title-unknown g = rw (sym p ∙ f, sym q ∙ g)
+
 -- A line by its start.
 module _ (file : List ℕ) {a : Bool} (p : a ≡ startsWith file passesStart) where
   pub line-passes : a ≡ true → {rest : List ℕ} → rest ≡ afterStart passesStart file → {l : Line} → l ≡ lineBy (decimalIn (mostPasses + 1) rest) (λ n. Passes n) → l ≡ lineOf file
@@ -77,6 +103,11 @@ module _ (file : List ℕ) {a : Bool} (p : a ≡ startsWith file passesStart) wh
       unfolding lineOf
       line-command t r q = rw (sym p ∙ f, sym w ∙ g, sym s ∙ t, ← r) q
 
-      pub line-other : c ≡ false → Other ≡ lineOf file
-      unfolding lineOf
-      line-other h = rw (sym p ∙ f, sym w ∙ g, sym s ∙ h)
+      module _ (h : c ≡ false) {d : Bool} (x : d ≡ startsWith file textStart) where
+        pub line-titled : d ≡ true → {rest : List ℕ} → rest ≡ afterStart textStart file → {t : Title} → t ≡ titleOf rest → Titled t ≡ lineOf file
+        unfolding lineOf
+        line-titled t r q = rw (sym p ∙ f, sym w ∙ g, sym s ∙ h, sym x ∙ t, ← r, q)
+
+        pub line-other : d ≡ false → Other ≡ lineOf file
+        unfolding lineOf
+        line-other t = rw (sym p ∙ f, sym w ∙ g, sym s ∙ h, sym x ∙ t)

@@ -1,4 +1,4 @@
--- The lines of a bench file (document 01, "Bench file"): where a file's lines end, and what each says.
+-- The lines of a bench file (document 01, "Bench file"; document 02, Q-10): where a file's lines end, and what each says.
 -- Assumes nothing.
 use Prim.Native.Nat.{ℕ, _+_, _-_, _^_}
 use Prim.Native.Char.{code}
@@ -11,8 +11,10 @@ use Rattle.bench_bytes.specs.Bytes.{ascii, startsWith, bytesBefore}
 use Rattle.bench_numbers.specs.Numbers.{decimalIn, hexadecimalIn}
 use Rattle.bench_numbers.specs.declared.Number.{Number}
 use Rattle.bench_numbers.specs.declared.Number.the-variants.{Is, No}
+use Rattle.bench_lines.specs.declared.Title.{Title}
+use Rattle.bench_lines.specs.declared.Title.the-variants.{Text1978, TextOld, Unknown}
 use Rattle.bench_lines.specs.declared.Line.{Line}
-use Rattle.bench_lines.specs.declared.Line.the-variants.{Passes, Word, Command, Other}
+use Rattle.bench_lines.specs.declared.Line.the-variants.{Titled, Passes, Word, Command, Other}
 
 -- The most bytes that a bench file has, and the most passes that it asks for.
 abbrev pub fileBytes : ℕ
@@ -21,7 +23,10 @@ fileBytes = 65536
 abbrev pub mostPasses : ℕ
 mostPasses = 65535
 
--- What the three kinds of lines start with.
+-- What the four kinds of lines start with.
+abbrev pub textStart : List ℕ
+textStart = ascii "text="
+
 abbrev pub passesStart : List ℕ
 passesStart = ascii "passes="
 
@@ -35,7 +40,7 @@ commandStart = ascii "command="
 abbrev pub afterStart : List ℕ → List ℕ → List ℕ
 afterStart start file = drop (length start) file
 
--- What a number makes of a line; no number makes it another line than the three kinds.
+-- What a number makes of a line; no number makes it another line than the four kinds.
 abbrev pub lineBy : Number → (ℕ → Line) → Line
 lineBy (Is n) f = f n
 lineBy No f = Other
@@ -48,13 +53,22 @@ wordLine file =
     (lineBy (decimalIn filePlaces (take colon file)) (λ place. lineBy (decimalIn (2 ^ 32) (drop (colon + 1) file)) (λ value. Word place value)))
     Other
 
--- A line, without its LF: `passes=` 0..65,535, `word=PLACE:VALUE`, `command=` and eight hexadecimal capitals, or another.
+-- Whether bytes are those of another list, no more and no fewer.
+abbrev pub areBytes : List ℕ → List ℕ → Bool
+areBytes file bytes = eqb (length file) (length bytes) && startsWith file bytes
+
+-- The text that a value names: `1978`, `old`, or none that is known.
+unfoldable pub titleOf : List ℕ → Title
+titleOf value = cond (areBytes value (ascii "1978")) Text1978 (cond (areBytes value (ascii "old")) TextOld Unknown)
+
+-- A line, without its LF: `passes=` 0..65,535, `word=PLACE:VALUE`, `command=` and eight hexadecimal capitals, `text=` and any value, or another.
 unfoldable pub lineOf : List ℕ → Line
 lineOf file =
     cond (startsWith file passesStart) (lineBy (decimalIn (mostPasses + 1) (afterStart passesStart file)) (λ n. Passes n))
     (cond (startsWith file wordStart) (wordLine (afterStart wordStart file))
     (cond (startsWith file commandStart) (lineBy (hexadecimalIn (afterStart commandStart file)) (λ c. Command c))
-    Other))
+    (cond (startsWith file textStart) (Titled (titleOf (afterStart textStart file)))
+    Other)))
 
 -- Lines with one byte more at the start of the first.
 unfoldable pub prepended : ℕ → List (List ℕ) → List (List ℕ)

@@ -2,11 +2,19 @@
 ghost use mathlib.Core.Path.{_≡_};
 ghost use Prim.Native.Nat.{_+_};
 ghost use Rattle.bench_numbers.specs.Numbers.{decimalIn, hexadecimalIn};
-ghost use Rattle.bench_lines.specs.Lines.{mostPasses, lineBy, wordLine, lineOf, ended};
+ghost use Rattle.bench_lines.specs.Lines.{mostPasses, lineBy, wordLine, areBytes, titleOf, lineOf, ended};
 use bench_numbers::Number;
+
+// The text that a file names: that of 1978, the older one, or none that is known.
+pub enum Title {
+    Text1978,
+    TextOld,
+    Unknown,
+}
 
 // A line of a bench file, or another.
 pub enum Line {
+    Titled(Title),
     Passes(u32),
     Word(usize, u32),
     Command(u32),
@@ -58,6 +66,30 @@ fn command(file: &[u8]) -> Line
     }
 }
 
+// Whether bytes are those of another run, no more and no fewer.
+fn are(file: &[u8], bytes: &[u8]) -> bool
+    ensures { λ r. ⌜ r ≡ areBytes (now (file .entry)) (now (bytes .entry)) ⌝ }
+{
+    if file.len() != bytes.len() {
+        return false;
+    }
+    bench_bytes::starts(file, bytes)
+}
+
+// The text that a value names.
+fn titled(value: &[u8]) -> Title
+    ensures { λ r. ⌜ r ≡ titleOf (now (value .entry)) ⌝ }
+{
+    let unknown = Title::Unknown;
+    if are(value, b"1978") {
+        return Title::Text1978;
+    }
+    if are(value, b"old") {
+        return Title::TextOld;
+    }
+    unknown
+}
+
 // A line, without its LF.
 pub fn read_line(file: &[u8]) -> Line
     ensures { λ r. ⌜ r ≡ lineOf (now (file .entry)) ⌝ }
@@ -73,6 +105,10 @@ pub fn read_line(file: &[u8]) -> Line
     let start = b"command=";
     if bench_bytes::starts(file, start) {
         return command(bench_bytes::after(file, start.len()));
+    }
+    let start = b"text=";
+    if bench_bytes::starts(file, start) {
+        return Line::Titled(titled(bench_bytes::after(file, start.len())));
     }
     Line::Other
 }

@@ -1,42 +1,96 @@
 // Which lines may follow one another in a bench file.
 ghost use mathlib.Core.Path.{_≡_};
-ghost use Rattle.bench_phases.specs.Phases.{phaseAfter, isFit};
+ghost use Rattle.bench_phases.specs.Phases.{afterTitle, afterPasses, afterWord, firstCommand, afterCommand, phaseAfter, isFit};
 use bench_lines::Line;
+use bench_lines::Title;
 
-// Which lines may follow: `passes=`; `word=` and `command=`; only `command=`; none, since a line before may not stand there.
+// Which lines may follow: `text=` and `passes=`; only `passes=`; `word=` and `command=`; only `command=`; none, since a line before may not stand there.
 pub enum Phase {
     Start,
+    Headed,
     Words,
     Commands,
     Unfit,
 }
 
-// The phase after a line.
-pub fn phase_after(phase: Phase, line: Line) -> Phase
-    ensures { λ r. ⌜ r ≡ phaseAfter phase line ⌝ }
+// The phase after a `text=` line.
+fn after_title(phase: Phase) -> Phase
+    ensures { λ r. ⌜ r ≡ afterTitle phase ⌝ }
 {
-    // A second `passes=` line, and a `word=` line after a `command=` line.
+    // A second one, and one after `passes=`.
     let second = Phase::Unfit;
     let late = Phase::Unfit;
+    match phase {
+        Phase::Start => Phase::Headed,
+        Phase::Headed => second,
+        Phase::Words => late,
+        Phase::Commands => late,
+        Phase::Unfit => Phase::Unfit,
+    }
+}
+
+// The phase after a `passes=` line.
+fn after_passes(phase: Phase) -> Phase
+    ensures { λ r. ⌜ r ≡ afterPasses phase ⌝ }
+{
+    let again = Phase::Unfit;
+    match phase {
+        Phase::Start => Phase::Words,
+        Phase::Headed => Phase::Words,
+        Phase::Words => again,
+        Phase::Commands => again,
+        Phase::Unfit => Phase::Unfit,
+    }
+}
+
+// The phase after a `word=` line.
+fn after_word(phase: Phase) -> Phase
+    ensures { λ r. ⌜ r ≡ afterWord phase ⌝ }
+{
+    // One after a `command=` line.
+    let behind = Phase::Unfit;
+    match phase {
+        Phase::Start => Phase::Unfit,
+        Phase::Headed => Phase::Unfit,
+        Phase::Words => Phase::Words,
+        Phase::Commands => behind,
+        Phase::Unfit => Phase::Unfit,
+    }
+}
+
+// The phase after a first `command=` line: an old file has none.
+fn first_command(title: Title) -> Phase
+    ensures { λ r. ⌜ r ≡ firstCommand title ⌝ }
+{
+    match title {
+        Title::Text1978 => Phase::Commands,
+        Title::TextOld => Phase::Unfit,
+        Title::Unknown => Phase::Commands,
+    }
+}
+
+// The phase after a `command=` line.
+fn after_command(title: Title, phase: Phase) -> Phase
+    ensures { λ r. ⌜ r ≡ afterCommand title phase ⌝ }
+{
+    match phase {
+        Phase::Start => Phase::Unfit,
+        Phase::Headed => Phase::Unfit,
+        Phase::Words => first_command(title),
+        Phase::Commands => Phase::Commands,
+        Phase::Unfit => Phase::Unfit,
+    }
+}
+
+// The phase after a line, in a file of a title.
+pub fn phase_after(title: Title, phase: Phase, line: Line) -> Phase
+    ensures { λ r. ⌜ r ≡ phaseAfter title phase line ⌝ }
+{
     match line {
-        Line::Passes(_) => match phase {
-            Phase::Start => Phase::Words,
-            Phase::Words => second,
-            Phase::Commands => second,
-            Phase::Unfit => Phase::Unfit,
-        },
-        Line::Word(_, _) => match phase {
-            Phase::Start => Phase::Unfit,
-            Phase::Words => Phase::Words,
-            Phase::Commands => late,
-            Phase::Unfit => Phase::Unfit,
-        },
-        Line::Command(_) => match phase {
-            Phase::Start => Phase::Unfit,
-            Phase::Words => Phase::Commands,
-            Phase::Commands => Phase::Commands,
-            Phase::Unfit => Phase::Unfit,
-        },
+        Line::Titled(_) => after_title(phase),
+        Line::Passes(_) => after_passes(phase),
+        Line::Word(_, _) => after_word(phase),
+        Line::Command(_) => after_command(title, phase),
         Line::Other => Phase::Unfit,
     }
 }
@@ -47,6 +101,7 @@ pub fn fit(phase: Phase) -> bool
 {
     match phase {
         Phase::Start => false,
+        Phase::Headed => false,
         Phase::Words => true,
         Phase::Commands => true,
         Phase::Unfit => false,

@@ -5,67 +5,81 @@ use mathlib.Core.Bool.{Bool, true, false, cond}
 use mathlib.Core.List.{List, [], _∷_}
 use Prim.Native.Nat.{ℕ, _≤_}
 use native.Mathlib.Omega.{arith}
+use borrow.Author.Tests.{eqb-true}
+use lib.Dec.{eqb}
 use lib.ListN.{length, getD, length-set}
 use lib.Seq.{sets, length-sets}
 use Rattle.bench_text.specs.Text.{refusalLine}
-use Rattle.lists.proofs.Choices.{of-cond}
+use Rattle.lists.proofs.Choices.{of-cond, of-test}
 use Rattle.bench_bytes.proofs.Puts.{first-part}
 use Rattle.layout.specs.Layout.{machineLength, updateTicksAt}
 use Rattle.layout.specs.Machine.{updateTicksOf}
+use Rattle.texts.specs.declared.Text.{Text}
 use Rattle.texts.specs.declared.Text.the-variants.{Of1978}
 use Rattle.layout.proofs.UpdateTicks.{counted-length, counted-own}
 use Rattle.machine.proofs.FreshMachine.{fresh-length}
 use Rattle.machine.proofs.SoundMachine.{reaches}
 use Rattle.bench_lines.specs.Lines.{lineOf, linesOf}
 use Rattle.bench_lines.specs.declared.Line.{Line}
-use Rattle.bench_lines.specs.declared.Line.the-variants.{Passes, Word, Command, Other}
-use Rattle.bench_phases.specs.Phases.{phaseAfter, isFit}
-use Rattle.bench_file.specs.BenchFile.{withWord, Reading, unread, withLine, withLines, fileOf, isBenchFile, commandPlaces, Answer, readOf}
+use Rattle.bench_lines.specs.declared.Line.the-variants.{Titled, Passes, Word, Command, Other}
+use Rattle.bench_file.specs.BenchFile.{withWord, Reading, unread, withLine, withLines, fileOf, textOf, fileRefusal, commandPlaces, Answer, readOf}
+use Rattle.bench_file.proofs.WholeFile.{unrefused}
 use Rattle.bench_file.proofs.FewCommands.{few-commands}
 use Rattle.bench_ringing.specs.Ringing.{printed, memoryAtFirst, outputOf}
 use Rattle.bench_ringing.specs.Steps.{Ringing, untilDone, rungFrom}
 use Rattle.bench_ringing.specs.declared.Output.the-variants.{Lines}
 use Rattle.bench_ringing.proofs.Printing.{steps-are-given, printed-given}
 
--- What reading answers and leaves, by question 9.
+-- What reading answers and leaves, by its questions.
 module _ (file m room : List ℕ) where
   abbrev told : Bool → Answer
   told b =
       let reading = fileOf file in
       cond b
-      (record { number = 0; passes = reading .passes; count = length (reading .commands); machine = reading .machine; room = sets room 0 (reading .commands) })
-      (record { number = 9; passes = 0; count = 0; machine = m; room = room })
+      (record {
+        number = 0;
+        text = textOf (reading .title);
+        passes = reading .passes;
+        count = length (reading .commands);
+        machine = reading .machine;
+        room = sets room 0 (reading .commands);
+      })
+      (record { number = fileRefusal file; text = Of1978; passes = 0; count = 0; machine = m; room = room })
+
+  few : eqb (fileRefusal file) 0 ≡ true → length (fileOf file .commands) ≤ commandPlaces
+  few e = few-commands file (unrefused file (eqb-true (fileRefusal file) 0 e))
 
   -- The whole program, for every file.
   pub rung-file : length room ≡ commandPlaces → rungFrom (readOf file m room) ≡ outputOf file
   unfolding rungFrom readOf outputOf
-  rung-file h = go (isBenchFile file) refl
+  rung-file h = go (eqb (fileRefusal file) 0) refl
     where
-      go : (b : Bool) → isBenchFile file ≡ b → rungFrom (told b) ≡ cond b (printed Of1978 (fileOf file .passes) (fileOf file .machine) memoryAtFirst (fileOf file .commands)) (refusalLine 9)
+      text : Text
+      text = textOf (fileOf file .title)
+
+      go : (b : Bool) → eqb (fileRefusal file) 0 ≡ b
+          → rungFrom (told b) ≡ cond b (printed text (fileOf file .passes) (fileOf file .machine) memoryAtFirst (fileOf file .commands)) (refusalLine (fileRefusal file))
       go true e =
           let reading = fileOf file in
           let r : Ringing = record { passes = reading .passes; machine = reading .machine; memory = memoryAtFirst; commands = reading .commands; number = 0 } in
-          ap (λ (l : List ℕ). untilDone Of1978 Lines (reading .passes) (record { passes = reading .passes; machine = reading .machine; memory = memoryAtFirst; commands = l; number = 0 }))
-          (first-part (reading .commands) room (omega (arith, few-commands file e)))
-          ∙ steps-are-given Of1978 Lines (reading .passes) r (omega arith)
-          ∙ sym (printed-given Of1978 (reading .passes) (reading .machine) memoryAtFirst (reading .commands))
-      go false e = refl
+          ap (λ (l : List ℕ). untilDone text Lines (reading .passes) (record { passes = reading .passes; machine = reading .machine; memory = memoryAtFirst; commands = l; number = 0 }))
+          (first-part (reading .commands) room (omega (arith, few e)))
+          ∙ steps-are-given text Lines (reading .passes) r (omega arith)
+          ∙ sym (printed-given text (reading .passes) (reading .machine) memoryAtFirst (reading .commands))
+      go false e = rw e
 
   -- The commands that were read have room, which keeps its length.
   pub read-room : length (readOf file m room .room) ≡ length room
   unfolding readOf
-  read-room = of-cond (λ (a : Answer). length (a .room) ≡ length room) (isBenchFile file) (length-sets room 0 (fileOf file .commands)) refl
+  read-room = of-cond (λ (a : Answer). length (a .room) ≡ length room) (eqb (fileRefusal file) 0) (length-sets room 0 (fileOf file .commands)) refl
 
   pub read-count : readOf file m room .count ≤ commandPlaces
   unfolding readOf
-  read-count = go (isBenchFile file) refl
-    where
-      go : (b : Bool) → isBenchFile file ≡ b → told b .count ≤ commandPlaces
-      go true e = few-commands file e
-      go false e = omega arith
+  read-count = of-test (λ (a : Answer). a .count ≤ commandPlaces) (eqb (fileRefusal file) 0) few (λ e. omega arith)
 
 -- The machine has the length of a fresh one.
 word-length : (m : List ℕ) (l : Line) → length (withWord m l) ≡ length m
+word-length m (Titled t) = refl
 word-length m (Passes n) = refl
 word-length m (Word place value) = length-set m place value
 word-length m (Command c) = refl
@@ -73,7 +87,7 @@ word-length m Other = refl
 
 line-length : (r : Reading) (l : Line) → length (withLine r l .machine) ≡ length (r .machine)
 unfolding withLine
-line-length r l = of-cond (λ (q : Reading). length (q .machine) ≡ length (r .machine)) (isFit (phaseAfter (r .phase) l)) (word-length (r .machine) l) refl
+line-length r l = word-length (r .machine) l
 
 lines-length : (r : Reading) (ls : List (List ℕ)) → length (withLines r ls .machine) ≡ length (r .machine)
 unfolding withLines
@@ -90,14 +104,14 @@ file-ticks file =
 pub read-machine : (file m room : List ℕ) → length m ≡ machineLength → length (readOf file m room .machine) ≡ machineLength
 unfolding readOf fileOf
 read-machine file m room h =
-    of-cond (λ (a : Answer). length (a .machine) ≡ machineLength) (isBenchFile file) (counted-length (withLines unread (linesOf file) .machine) ∙ lines-length unread (linesOf file) ∙ fresh-length) h
+    of-cond (λ (a : Answer). length (a .machine) ≡ machineLength) (eqb (fileRefusal file) 0) (counted-length (withLines unread (linesOf file) .machine) ∙ lines-length unread (linesOf file) ∙ fresh-length) h
 
 -- As the code has them: the commands that were read lie within their room, and the machine is as long as a machine is.
-pub read-within : (file m room : List ℕ) {number passes count : ℕ} {m' room' : List ℕ} → length room ≡ commandPlaces
-    → record { number = number; passes = passes; count = count; machine = m'; room = room' } ≡ readOf file m room → count ≤ length room'
+pub read-within : (file m room : List ℕ) {number : ℕ} {text : Text} {passes count : ℕ} {m' room' : List ℕ} → length room ≡ commandPlaces
+    → record { number = number; text = text; passes = passes; count = count; machine = m'; room = room' } ≡ readOf file m room → count ≤ length room'
 read-within file m room h e =
     omega (arith, read-count file m room, read-room file m room, ap (λ (a : Answer). a .count) e, ap (λ (a : Answer). length (a .room)) e)
 
-pub read-whole : (file m room : List ℕ) {number passes count : ℕ} {m' room' : List ℕ} → length m ≡ machineLength
-    → record { number = number; passes = passes; count = count; machine = m'; room = room' } ≡ readOf file m room → machineLength ≡ length m'
+pub read-whole : (file m room : List ℕ) {number : ℕ} {text : Text} {passes count : ℕ} {m' room' : List ℕ} → length m ≡ machineLength
+    → record { number = number; text = text; passes = passes; count = count; machine = m'; room = room' } ≡ readOf file m room → machineLength ≡ length m'
 read-whole file m room h e = sym (ap (λ (a : Answer). length (a .machine)) e ∙ read-machine file m room h)

@@ -5,6 +5,7 @@ use mathlib.Core.Logic.{_≢_}
 use mathlib.Core.List.{List, [], _∷_}
 use Prim.Native.Nat.{ℕ, _+_, _-_, _≤_, _<_}
 use native.Mathlib.Omega.{arith}
+use native.Mathlib.Nat.{add-zero}
 use borrow.Author.Tests.{eq-eqb, ne-eqb}
 use lib.Dec.{eqb, lit<}
 use lib.ListN.{length, take, drop, length-drop, drop-of-length-le}
@@ -26,6 +27,7 @@ use Rattle.bench_ringing.specs.Steps.{takenAfter, Lined, givenAfter, giv
 use Rattle.bench_ringing.specs.declared.Output.{Output}
 use Rattle.bench_ringing.specs.declared.Output.the-variants.{Lines, Frames}
 use Rattle.texts.specs.declared.Text.{Text}
+use Rattle.texts.specs.declared.Text.the-variants.{Old}
 use Rattle.bench_ringing.proofs.Updates.{update-after-sound, update-after-length, left-after}
 
 -- A place past the end of the commands leaves none, as their end does.
@@ -46,6 +48,10 @@ update-from m cs start from within same-rest {n} {count} {l} (h, e) =
       omega (arith, length-drop count (drop from cs), ap (λ (o : Outcome). length (o .rest)) e'),
       ap (outcome n l) (sym (drop-drop count from cs)) ∙ e',
     )
+
+-- After an old pass none is taken, and all are left.
+pub none-from : (m cs : List ℕ) (from : ℕ) → (0 ≡ takenAfter Old m (drop from cs)) × (outcome 0 m (drop (from + 0) cs) ≡ updateAfter Old m (drop from cs))
+none-from m cs from = (omega arith, rw (add-zero from))
 
 -- No more are taken than there are from that place on.
 pub taken-most : (text : Text) (m cs : List ℕ) (from : ℕ) {count : ℕ} → count ≡ takenAfter text m (drop from cs) → count ≤ length cs - from

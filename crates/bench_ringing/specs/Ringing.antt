@@ -1,4 +1,4 @@
--- What the bench program prints (document 01, "Bench file"; document 02, Q-1).
+-- What the bench program prints (document 01, "Bench file"; document 02, Q-1 and Q-10).
 -- Assumes nothing.
 use Prim.Native.Nat.{ℕ, zero, suc}
 use mathlib.Core.Bool.{cond}
@@ -9,19 +9,20 @@ use Rattle.lists.specs.Lists.{zeros}
 use Rattle.layout.specs.Layout.{counterAt, dacAt, memoryWords}
 use Rattle.layout.specs.Machine.{Machine, Memory, Commands}
 use Rattle.texts.specs.declared.Text.{Text}
-use Rattle.texts.specs.declared.Text.the-variants.{Of1978}
+use Rattle.texts.specs.declared.Text.the-variants.{Of1978, Old}
 use Rattle.update.specs.Update.{Outcome, updateOf}
 use Rattle.bench_text.specs.Text.{passLine, refusalLine}
-use Rattle.bench_file.specs.BenchFile.{fileOf, isBenchFile}
+use Rattle.bench_file.specs.BenchFile.{fileOf, textOf, fileRefusal}
 use Rattle.bench_pass.specs.ByNumber.{passed}
 
 -- The line of a machine after pass and update: the counter, then DAC 0 and DAC 1.
 unfoldable pub lineAfter : Machine → List ℕ
 lineAfter m = passLine (getD m counterAt 0) (getD m (dacAt 0) 0) (getD m (dacAt 1) 0)
 
--- What follows a pass by a text: an update with the commands still left.
+-- What follows a pass by a text: an update with the commands still left; no update follows an old one.
 abbrev pub updateAfter : Text → Machine → Commands → Outcome
-updateAfter Of1978 = updateOf
+updateAfter Of1978 m commands = updateOf m commands
+updateAfter Old m commands = record { number = 0; machine = m; rest = commands }
 
 -- What is printed: so many passes, each followed by an update with the commands still left, a line after both; a refusal prints its number and ends. Delay memory goes from pass to pass.
 unfoldable pub printed : Text → ℕ → Machine → Memory → Commands → List ℕ
@@ -37,8 +38,9 @@ printed text (suc passes) m memory commands =
 unfoldable pub memoryAtFirst : Memory
 memoryAtFirst = zeros memoryWords
 
--- The program's whole output for every file: question 9 first.
+-- The program's whole output for every file: its questions first, then by its text.
 unfoldable pub outputOf : List ℕ → List ℕ
 outputOf file =
     let reading = fileOf file in
-    cond (isBenchFile file) (printed Of1978 (reading .passes) (reading .machine) memoryAtFirst (reading .commands)) (refusalLine 9)
+    let number = fileRefusal file in
+    cond (eqb number 0) (printed (textOf (reading .title)) (reading .passes) (reading .machine) memoryAtFirst (reading .commands)) (refusalLine number)

@@ -9,7 +9,6 @@ use lib.ListN.{length, getD, take, drop}
 use Rattle.layout.specs.Layout.{dacAt}
 use Rattle.layout.specs.Machine.{Machine, Memory, Commands, Reaches}
 use Rattle.texts.specs.declared.Text.{Text}
-use Rattle.texts.specs.declared.Text.the-variants.{Of1978}
 use Rattle.questions.specs.Questions.{asked}
 use Rattle.machine.specs.Questions.{question1, question2}
 use Rattle.delay_questions.specs.Questions.{memoryGood}
@@ -89,6 +88,6 @@ untilDone text o (suc k) r = let s = stepOf text o r in cond (eqb (r .passes) 0)
 abbrev pub begun : Answer → Ringing
 begun a = record { passes = a .passes; machine = a .machine; memory = memoryAtFirst; commands = take (a .count) (a .room); number = 0 }
 
--- What the steps print from there; a refused file has the line of its refusal.
+-- What the steps print from there, by its text; a refused file has the line of its refusal.
 unfoldable pub rungFrom : Answer → List ℕ
-rungFrom a = cond (eqb (a .number) 0) (untilDone Of1978 Lines (a .passes) (begun a)) (refusalLine (a .number))
+rungFrom a = cond (eqb (a .number) 0) (untilDone (a .text) Lines (a .passes) (begun a)) (refusalLine (a .number))

@@ -50,6 +50,10 @@ fn ring_update(text: Text, m: &mut [u32], commands: &[u32], from: usize, refused
     let start = start_of(commands, from);
     match text {
         Text::Of1978 => update::take_commands(m, &commands[start..], refused),
+        Text::Old => {
+            *refused = 0;
+            0
+        }
     }
 }
 

@@ -14,11 +14,11 @@ use Rattle.bench_bytes.specs.Bytes.{startsWith}
 use Rattle.bench_numbers.specs.Numbers.{allDigits, writtenAfter, numberIn, leadingZero, decimalIn, hexadecimalIn}
 use Rattle.bench_numbers.specs.declared.Number.{Number}
 use Rattle.bench_numbers.specs.declared.Number.the-variants.{Is, No}
-use Rattle.bench_lines.specs.Lines.{mostPasses, passesStart, wordStart, commandStart, afterStart, lineBy, lineOf, linesOf}
+use Rattle.bench_lines.specs.Lines.{mostPasses, passesStart, wordStart, commandStart, textStart, afterStart, lineBy, titleOf, lineOf, linesOf}
+use Rattle.bench_lines.specs.declared.Title.{Title}
 use Rattle.bench_lines.specs.declared.Line.{Line}
-use Rattle.bench_lines.specs.declared.Line.the-variants.{Passes, Word, Command, Other}
+use Rattle.bench_lines.specs.declared.Line.the-variants.{Titled, Passes, Word, Command, Other}
 use Rattle.bench_lines.proofs.LineKinds.{word-kind}
-use Rattle.bench_phases.specs.Phases.{phaseAfter, isFit}
 use Rattle.bench_file.specs.BenchFile.{withPasses, Reading, unread, withLine, withLines, fileOf}
 
 -- A line that asks for no more than that, if for any.
@@ -47,6 +47,10 @@ unfolding Few
 few-command (Is c) = omega arith
 few-command No = omega arith
 
+few-titled : (t : Title) → Few (Titled t)
+unfolding Few
+few-titled t = omega arith
+
 few-other : Few Other
 unfolding Few
 few-other = omega arith
@@ -60,11 +64,13 @@ unfolding lineOf
 few-line l =
     of-cond Few (startsWith l passesStart) (few-decimal (afterStart passesStart l))
     (of-cond Few (startsWith l wordStart) (word-kind (afterStart wordStart l) Few few-other few-word)
-    (of-cond Few (startsWith l commandStart) (few-command (hexadecimalIn (afterStart commandStart l))) few-other))
+    (of-cond Few (startsWith l commandStart) (few-command (hexadecimalIn (afterStart commandStart l)))
+    (of-cond Few (startsWith l textStart) (few-titled (titleOf (afterStart textStart l))) few-other)))
 
 -- With a line more, and with all.
 with-few : (n : ℕ) (l : Line) → n ≤ mostPasses → Few l → withPasses n l ≤ mostPasses
 unfolding Few
+with-few n (Titled t) h f = h
 with-few n (Passes i) h f = f
 with-few n (Word i v) h f = h
 with-few n (Command c) h f = h
@@ -72,7 +78,7 @@ with-few n Other h f = h
 
 line-few : (r : Reading) (l : Line) → r .passes ≤ mostPasses → Few l → withLine r l .passes ≤ mostPasses
 unfolding withLine
-line-few r l h f = of-cond (λ (q : Reading). q .passes ≤ mostPasses) (isFit (phaseAfter (r .phase) l)) (with-few (r .passes) l h f) h
+line-few r l h f = with-few (r .passes) l h f
 
 lines-few : (r : Reading) (ls : List (List ℕ)) → r .passes ≤ mostPasses → withLines r ls .passes ≤ mostPasses
 unfolding withLines

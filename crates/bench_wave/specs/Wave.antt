@@ -6,25 +6,25 @@ use mathlib.Core.List.{List, [], _∷_, _++_}
 use lib.Dec.{eqb}
 use lib.ListN.{length, getD}
 use Rattle.layout.specs.Layout.{nAt}
-use Rattle.texts.specs.declared.Text.the-variants.{Of1978}
 use Rattle.questions.specs.Questions.{asked}
 use Rattle.machine.specs.Questions.{question1, question2}
 use Rattle.wave_format.specs.WaveFormat.{frameBytes, rateOf, header, headerBytes}
 use Rattle.bench_text.specs.Text.{lineBytes, refusalLine}
 use Rattle.bench_lines.specs.Lines.{mostPasses}
-use Rattle.bench_file.specs.BenchFile.{Reading, fileOf, isBenchFile}
+use Rattle.bench_file.specs.BenchFile.{Reading, fileOf, textOf, fileRefusal}
 use Rattle.bench_ringing.specs.Ringing.{memoryAtFirst}
 use Rattle.bench_ringing.specs.Heard.{Heard, heardRefused, heard, framesOf}
 
--- What is heard of a machine and commands over a delay memory of zeros. Questions 1 and 2 are asked first, also where there is no pass, since N gives the rate.
+-- What is heard of a machine of a text and commands over a delay memory of zeros. Questions 1 and 2 are asked first, also where there is no pass, since N gives the rate.
 unfoldable pub heardOf : Reading → Heard
 heardOf reading =
-    let first = asked (question1 (reading .machine) ∷ question2 Of1978 (reading .machine) ∷ []) in
-    cond (eqb first 0) (heard Of1978 (reading .passes) (reading .machine) memoryAtFirst (reading .commands)) (heardRefused first)
+    let text = textOf (reading .title) in
+    let first = asked (question1 (reading .machine) ∷ question2 text (reading .machine) ∷ []) in
+    cond (eqb first 0) (heard text (reading .passes) (reading .machine) memoryAtFirst (reading .commands)) (heardRefused first)
 
--- What is heard of a file: question 9 first.
+-- What is heard of a file: its questions first.
 unfoldable pub heardFile : List ℕ → Heard
-heardFile file = cond (isBenchFile file) (heardOf (fileOf file)) (heardRefused 9)
+heardFile file = let number = fileRefusal file in cond (eqb number 0) (heardOf (fileOf file)) (heardRefused number)
 
 -- The file: the header, with the rate by N as the ringing begins, and the frames. A refusal makes no sound.
 unfoldable pub waveFile : ℕ → Heard → List ℕ

@@ -14,7 +14,6 @@ ghost use Rattle.bench_ringing.specs.Steps.{ringingAt};
 ghost use Rattle.bench_ringing.specs.declared.Output.the-variants.{Frames};
 ghost use Rattle.bench_gathering.specs.Gathering.{gathered};
 ghost use Rattle.bench_wave.specs.Wave.{heardFile, waveFile, waveOf};
-ghost use Rattle.texts.specs.declared.Text.the-variants.{Of1978};
 use bench_ringing::Output;
 use bench_ringing::Progress;
 use texts::Text;
@@ -30,6 +29,7 @@ pub struct Made {
 
 // The frames of a ringing, in a buffer behind the header.
 fn gather_frames(
+    text: Text,
     at: Progress,
     m: &mut [u32],
     commands: &[u32],
@@ -37,12 +37,12 @@ fn gather_frames(
     out: &mut [u8],
 ) -> Progress
     requires { ⌜ headerBytes ≤ length (now out) ⌝ }
-    ensures { λ r. ⌜ r .length ≡ length (gathered Of1978 Frames (length (now (out .entry)) - headerBytes) (ringingAt at (now (m .entry)) (now (memory .entry)) (now (commands .entry))) .bytes) ⌝ }
-    ensures { λ r. ⌜ now (out .exit) ≡ sets (now (out .entry)) headerBytes (gathered Of1978 Frames (length (now (out .entry)) - headerBytes) (ringingAt at (now (m .entry)) (now (memory .entry)) (now (commands .entry))) .bytes) ⌝ }
-    ensures { λ r. ⌜ r .refused ≡ gathered Of1978 Frames (length (now (out .entry)) - headerBytes) (ringingAt at (now (m .entry)) (now (memory .entry)) (now (commands .entry))) .next .number ⌝ }
+    ensures { λ r. ⌜ r .length ≡ length (gathered text Frames (length (now (out .entry)) - headerBytes) (ringingAt at (now (m .entry)) (now (memory .entry)) (now (commands .entry))) .bytes) ⌝ }
+    ensures { λ r. ⌜ now (out .exit) ≡ sets (now (out .entry)) headerBytes (gathered text Frames (length (now (out .entry)) - headerBytes) (ringingAt at (now (m .entry)) (now (memory .entry)) (now (commands .entry))) .bytes) ⌝ }
+    ensures { λ r. ⌜ r .refused ≡ gathered text Frames (length (now (out .entry)) - headerBytes) (ringingAt at (now (m .entry)) (now (memory .entry)) (now (commands .entry))) .next .number ⌝ }
 {
     bench_gathering::gather(
-        Text::Of1978,
+        text,
         Output::Frames,
         at,
         m,
@@ -54,17 +54,18 @@ fn gather_frames(
 
 // The file of a machine that passes questions 1 and 2.
 fn sound(
+    text: Text,
     m: &mut [u32],
     commands: &[u32],
     memory: &mut [u32],
     passes: u32,
     out: &mut [u8; WAVE_ROOM],
 ) -> Made
-    requires { ⌜ asked (question1 (now m) ∷ question2 Of1978 (now m) ∷ []) ≡ 0 ⌝ }
+    requires { ⌜ asked (question1 (now m) ∷ question2 text (now m) ∷ []) ≡ 0 ⌝ }
     requires { ⌜ passes ≤ mostPasses ⌝ }
-    ensures { λ r. ⌜ r .number ≡ heard Of1978 passes (now (m .entry)) (now (memory .entry)) (now (commands .entry)) .number ⌝ }
-    ensures { λ r. ⌜ r .length ≡ length (waveFile (getD (now (m .entry)) nAt 0) (heard Of1978 passes (now (m .entry)) (now (memory .entry)) (now (commands .entry)))) ⌝ }
-    ensures { λ r. ⌜ take (r .length) (now (out .exit)) ≡ waveFile (getD (now (m .entry)) nAt 0) (heard Of1978 passes (now (m .entry)) (now (memory .entry)) (now (commands .entry))) ⌝ }
+    ensures { λ r. ⌜ r .number ≡ heard text passes (now (m .entry)) (now (memory .entry)) (now (commands .entry)) .number ⌝ }
+    ensures { λ r. ⌜ r .length ≡ length (waveFile (getD (now (m .entry)) nAt 0) (heard text passes (now (m .entry)) (now (memory .entry)) (now (commands .entry)))) ⌝ }
+    ensures { λ r. ⌜ take (r .length) (now (out .exit)) ≡ waveFile (getD (now (m .entry)) nAt 0) (heard text passes (now (m .entry)) (now (memory .entry)) (now (commands .entry))) ⌝ }
 {
     let n = m[layout::N_AT];
     let rate = wave_format::rate(n);
@@ -75,7 +76,7 @@ fn sound(
         length: 0,
         refused: 0,
     };
-    let end = gather_frames(at, m, commands, memory, out);
+    let end = gather_frames(text, at, m, commands, memory, out);
     // A refusal makes no sound.
     let silent: usize = 0;
     if end.refused != 0 {
@@ -106,7 +107,8 @@ pub fn wave(file: &[u8], out: &mut [u8; WAVE_ROOM]) -> Made
             length: 0,
         };
     }
-    let first = machine::refusal(Text::Of1978, &m);
+    let text = reading.text;
+    let first = machine::refusal(text, &m);
     if first != 0 {
         return Made {
             number: first,
@@ -114,5 +116,12 @@ pub fn wave(file: &[u8], out: &mut [u8; WAVE_ROOM]) -> Made
         };
     }
     let count = reading.count;
-    sound(&mut m, &room[0..count], &mut memory, reading.passes, out)
+    sound(
+        text,
+        &mut m,
+        &room[0..count],
+        &mut memory,
+        reading.passes,
+        out,
+    )
 }

@@ -1,6 +1,6 @@
 -- All claims hold, each by the law that shows it.
 -- Assumes nothing.
-use mathlib.Core.Path.{_≡_, sym, _∙_}
+use mathlib.Core.Path.{_≡_, refl, sym, _∙_}
 use lib.ListN.{length-set}
 use Rattle.layout.specs.Layout.{counterAt}
 use Rattle.layout.specs.Machine.{Machine}
@@ -23,6 +23,7 @@ use Rattle.pass_laws.proofs.PassSound.{pass-sound}
 use Rattle.pass_laws.proofs.PassDelays.{pass-memory, pass-units}
 use Rattle.pass_laws.proofs.PassSettings.{pass-settings}
 use Rattle.pass_laws.proofs.PassCounts.{pass-counts, pass-counter, pass-low-counter}
+use Rattle.pass_laws.proofs.OldPass.{old-pass-memory, old-pass-beyond}
 use Rattle.pass_laws.proofs.PassClipped.{pass-marks, pass-mark-bits, refused-unmarked, pass-mark-tells}
 use Rattle.update.proofs.Updating.{at-most}
 use Rattle.update_laws.proofs.SoundCommands.{command-sound}
@@ -81,6 +82,8 @@ claims =
       pass-keeps-memory = pass-memory;
       pass-keeps-units = λ text m call good. pass-units text m call (sound-controls text m (good .is-sound) .tHigh);
       pass-settings = pass-settings;
+      old-memory-stays = old-pass-memory;
+      old-words-stay = old-pass-beyond;
       items-read = λ text m call n. pass-counts text m call (not-refused text m call n) .0;
       items-written = λ text m call n. pass-counts text m call (not-refused text m call n) .1;
       pass-counted = λ text m call n. pass-counter text m call (not-refused text m call n);
@@ -107,6 +110,7 @@ claims =
       older-table = older-table;
       steps-are-output = rung-file;
       gathered-are-output = gathered-file;
+      old-no-update = λ m commands. refl;
       printed-heard = printed-heard;
       sample-exact = sample-exact;
     }

@@ -8,11 +8,11 @@ use mathlib.Core.Path.{_≡_}
 use lib.IntN.{pos, _*ℤ_}
 use lib.ListN.{length, getD, set}
 use Rattle.words.specs.Words.{signed}
-use Rattle.layout.specs.Layout.{counterAt, quadrantWords, generators, machineLength, updateTicksAt}
+use Rattle.layout.specs.Layout.{counterAt, dxAt, quadrantWords, generators, machineLength, updateTicksAt}
 use Rattle.layout.specs.Machine.{Machine, Order, Items, Commands, Memory, ticksOf, updateTicks, updateTicksOf, lowCounter}
 use Rattle.layout.specs.Widths.{counterBits, lingerBits}
 use Rattle.texts.specs.declared.Text.{Text}
-use Rattle.texts.specs.declared.Text.the-variants.{Of1978}
+use Rattle.texts.specs.declared.Text.the-variants.{Of1978, Old}
 use Rattle.questions.specs.Questions.{asked}
 use Rattle.sine.specs.Sine.{magnitude}
 use Rattle.exponential.specs.Exponential.{tableSize, olderSize, within, Largest, entry as exponentialEntry, entries as exponentialEntries, exponential}
@@ -54,7 +54,7 @@ use Rattle.bench_text.specs.Text.{lineBytes, decimal}
 use Rattle.bench_numbers.specs.Numbers.{decimalIn}
 use Rattle.bench_numbers.specs.declared.Number.the-variants.{Is}
 use Rattle.bench_file.specs.BenchFile.{commandPlaces, fileOf, readOf}
-use Rattle.bench_ringing.specs.Ringing.{printed, outputOf}
+use Rattle.bench_ringing.specs.Ringing.{updateAfter, printed, outputOf}
 use Rattle.bench_ringing.specs.Heard.{heard, linesHeard}
 use Rattle.bench_ringing.specs.Steps.{rungFrom}
 use Rattle.bench_gathering.specs.Gathering.{printedFrom}
@@ -121,6 +121,9 @@ pub record Claims : Type 0 where
       → asked (unitQuestions text (passOf text m call .machine)) ≡ 0
   -- A pass keeps all settings but the run modes of 1001 and 1101.
   pub pass-settings : (text : Text) (m : Machine) (call : Call) → SettingsKept text m (passOf text m call .machine)
+  -- A pass of the older text leaves delay memory and every word that this text lacks as they were: all words past the DACs but the counter.
+  pub old-memory-stays : (m : Machine) (call : Call) → passOf Old m call .memory ≡ call .memory
+  pub old-words-stay : (m : Machine) (call : Call) (i : ℕ) → dxAt ≤ i → i ≢ counterAt → getD (passOf Old m call .machine) i 0 ≡ getD m i 0
   -- A pass that is not refused reads an item for each 0111 below T, writes one for each 0011 below T, and adds 1 to the counter.
   pub items-read : (text : Text) (m : Machine) (call : Call) → passOf text m call .number ≡ 0 → passOf text m call .read ≡ inMode text m readData
   pub items-written : (text : Text) (m : Machine) (call : Call) → passOf text m call .number ≡ 0 → passOf text m call .written ≡ inMode text m writeData
@@ -168,6 +171,8 @@ pub record Claims : Type 0 where
   -- The steps of the bench program until no pass is left are its output, for every file; and so are they where they are gathered in a buffer that has room for a line.
   pub steps-are-output : (file m room : List ℕ) → length room ≡ commandPlaces → rungFrom (readOf file m room) ≡ outputOf file
   pub gathered-are-output : (size : ℕ) (file m room : List ℕ) → lineBytes ≤ size → length room ≡ commandPlaces → printedFrom size (readOf file m room) ≡ outputOf file
+  -- No update follows a pass of the older text: what is heard of an old file is what its passes alone leave.
+  pub old-no-update : (m : Machine) (commands : Commands) → updateAfter Old m commands ≡ record { number = 0; machine = m; rest = commands }
   -- What is printed are the lines of the machines that are heard, and that of the refusal that ended them. A sample is its signed word times 16, exactly.
   pub printed-heard : (text : Text) (passes : ℕ) (m : Machine) (memory : Memory) (commands : Commands) → printed text passes m memory commands ≡ linesHeard (heard text passes m memory commands)
   pub sample-exact : (w : ℕ) → w < 2 ^ 20 → signed 24 (16 * w) ≡ pos 16 *ℤ signed 20 w

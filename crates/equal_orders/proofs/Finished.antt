@@ -12,7 +12,7 @@ use lib.ListN.{length, getD}
 use Rattle.layout.specs.Layout.{machineLength, memoryWords, generatorAt, modifierAt, dacAt, quadrantAt, GMODE, MMODE}
 use Rattle.layout.specs.Machine.{Machine, Order, Items, Places, Reaches, ticksOf}
 use Rattle.texts.specs.declared.Text.{Text}
-use Rattle.texts.specs.declared.Text.the-variants.{Of1978}
+use Rattle.texts.specs.declared.Text.the-variants.{Of1978, Old}
 use Rattle.lists.specs.Lists.{allBelow, zeros}
 use Rattle.lists.proofs.Below.{below-from}
 use Rattle.lists.proofs.Zeros.{zeros-length, zeros-at}
@@ -68,6 +68,7 @@ units-pass Of1978 n few inactive = rw (lines, named)
     named =
         below-from (λ k. allBelow (λ j. apart n j k) k) (ticksOf n / 2)
         (λ k h. below-from (λ j. apart n j k) k (λ j l. rw (none j (omega arith))))
+units-pass Old n few inactive = refl
 
 -- A pass by an order from a good machine with every modifier inactive, with a call that brings items, places and delay memory that pass 7, 8 and 10.
 pub inactive-let : (text : Text) (n : Machine) → Good text n → ticksOf n ≤ 256 → ((k : ℕ) → k < 128 → getD n (modifierAt k + MMODE) 0 ≡ 0)

@@ -20,11 +20,12 @@ use Rattle.pass_model.specs.Pass.{plainCall}
 use Rattle.pass_laws.specs.Good.{Good}
 use Rattle.order_agreement.specs.Agreement.{settingsOf, Agree}
 use Rattle.equal_endings.specs.Ends.{takenIn}
+use Rattle.equal_contents.proofs.Content.{Content}
 use Rattle.equal_witnesses.specs.Contents.{SameHeard}
 use Rattle.equal_witnesses.proofs.Points.{heard-agree}
 use Rattle.equal_orders.specs.Equal.{Words, Enough, Equal}
 use Rattle.equal_orders.proofs.Finished.{OrderPasses, pass-let, zeros-good, inactive-let, same-heard}
-use Rattle.equal_orders.proofs.Texts.{ContentOf, contents-of}
+use Rattle.equal_orders.proofs.Texts.{content-settings, contents-of}
 use Rattle.equal_orders.proofs.Settings.{follows}
 
 -- A good machine has at most 256 generators in a run mode, so that 256 items and places are enough.
@@ -49,20 +50,20 @@ brings-enough text n good order items long words =
 
 module _ (text : Text) (m : Machine) (good : Good text m) (o₁ o₂ : Order) (p₁ : OrderPasses (ticksOf m) o₁) (p₂ : OrderPasses (ticksOf m) o₂) (equal : Equal text m o₁ o₂) where
   -- From a content both orders leave the same as far as they can be told apart.
-  heard : (n : Machine) → ContentOf text m n → (items : Items) → length items ≡ 256 → Words items
+  heard : (n : Machine) → Content text m n → (items : Items) → length items ≡ 256 → Words items
       → SameHeard (takenIn (generatorsOf text) n items (zeros 256) o₁) (takenIn (generatorsOf text) n items (zeros 256) o₂)
   heard n r items long words =
       let call = plainCall o₁ items (zeros 256) in
       let e = brings-enough text n (r .good) o₁ items long words in
       let few = few-ticks text n (r .good) in
       let end = rw (
-        pass-let text n o₁ call (inactive-let text n (r .good) few (r .inactive) o₁ call (rw (← (r .settings .ticks)) p₁) (e .reads) (e .writes) zeros-good),
-        pass-let text n o₂ call (inactive-let text n (r .good) few (r .inactive) o₂ call (rw (← (r .settings .ticks)) p₂) (e .reads) (e .writes) zeros-good),
+        pass-let text n o₁ call (inactive-let text n (r .good) few (r .inactive) o₁ call (rw (r .ticks) p₁) (e .reads) (e .writes) zeros-good),
+        pass-let text n o₂ call (inactive-let text n (r .good) few (r .inactive) o₂ call (rw (r .ticks) p₂) (e .reads) (e .writes) zeros-good),
       )
-      at (equal n (r .good) (r .settings) call e) in
+      at (equal n (r .good) (content-settings text r) call e) in
       same-heard text (generatorsOf text) n (r .good .whole) few call o₁ o₂ (end .machine) (end .written)
 
   pub equal-agreed : Agree text m o₁ o₂
   equal-agreed =
-      heard-agree (generatorsOf text) (settingsOf text m) (ContentOf text m) (λ n r. follows text m n (r .settings) good (r .good)) (contents-of text m good)
+      heard-agree (generatorsOf text) (settingsOf text m) (Content text m) (λ n r. follows text m n (content-settings text r) good (r .good)) (contents-of text m good)
       o₁ o₂ (order-passes (ticksOf m) o₁ p₁) (order-passes (ticksOf m) o₂ p₂) heard

@@ -16,15 +16,16 @@ use Rattle.pass_laws.specs.Good.{Good}
 use Rattle.order_agreement.specs.Agreement.{settingsOf}
 use Rattle.equal_endings.specs.Follows.{Follows}
 use Rattle.equal_endings.proofs.Alike.{Alike, follows-alike}
+use Rattle.equal_contents.proofs.Settings.{follows-settings}
 use Rattle.equal_orders.specs.Equal.{SameSettings}
-use Rattle.equal_orders.proofs.Texts.{run-same, source-same, follows-own}
+use Rattle.equal_orders.proofs.Texts.{run-same, dac-same, source-same}
 
 module _ (text : Text) (m n : Machine) (s : SameSettings text m n) where
   feeds-same : (d g : ℕ) → g < 256 → settingsOf text m .feeds d g ≡ settingsOf text n .feeds d g
   feeds-same d g h = rw (← (run-same text m n s g h)) (go (eqb (runModeAt text m g) writeDAC) refl)
     where
       go : (b : Bool) → eqb (runModeAt text m g) writeDAC ≡ b → (b && eqb (dacNumberAt text m g) d) ≡ (b && eqb (dacNumberAt text n g) d)
-      go true e = ap (λ (x : ℕ). eqb x d) (s .dacs g h (eqb-true (runModeAt text m g) writeDAC e))
+      go true e = ap (λ (x : ℕ). eqb x d) (dac-same text m n s g h (eqb-true (runModeAt text m g) writeDAC e))
       go false e = refl
 
   settings-alike : ticksOf m ≤ 256 → Alike (settingsOf text m) (settingsOf text n)
@@ -44,4 +45,4 @@ module _ (text : Text) (m n : Machine) (s : SameSettings text m n) where
 
   pub follows : Good text m → Good text n → Follows (generatorsOf text) (settingsOf text m) n
   follows good goodn =
-      follows-alike (generatorsOf text) (settingsOf text m) (settingsOf text n) n (settings-alike (sound-controls text m (good .is-sound) .tHigh)) (follows-own text n goodn)
+      follows-alike (generatorsOf text) (settingsOf text m) (settingsOf text n) n (settings-alike (sound-controls text m (good .is-sound) .tHigh)) (follows-settings text n goodn)

@@ -1,24 +1,36 @@
--- When two orders of the generators are equal (document 01, "A pass, and two orders of it"; document 02, Q-1).
+-- When two orders of the generators are equal (document 01, "A pass, and two orders of it"; document 02, Q-1 and Q-10).
 -- Assumes nothing.
-use Prim.Native.Nat.{ℕ, _^_, _≤_, _<_}
+use Prim.Native.Nat.{ℕ, _+_, _%_, _^_, _≤_, _<_}
 use mathlib.Core.List.{List}
 use mathlib.Core.Path.{_≡_}
 use lib.ListN.{length, getD}
+use Rattle.layout.specs.Layout.{generatorAt, GN}
+use Rattle.old_modes.specs.OldModes.{oldRun, negativeGN}
 use Rattle.modes.specs.Modes.{readData, writeData, writeDAC}
 use Rattle.order.specs.Order.{inMode}
 use Rattle.layout.specs.Machine.{Machine, Order, ticksOf, gmodeAt, gsumAt, gfmAt}
 use Rattle.texts.specs.Texts.{runModeAt, dacNumberAt}
 use Rattle.texts.specs.declared.Text.{Text}
+use Rattle.texts.specs.declared.Text.the-variants.{Of1978, Old}
 use Rattle.pass_model.specs.Pass.{Call, by, Outcome, writtenData, passOf}
 use Rattle.pass_laws.specs.Good.{Good}
 
--- Two machines have the same settings: T, every GMODE, GSUM and GFM, and the DAC number of each 0010.
+-- GN of generator g.
+abbrev pub gnAt : Machine → ℕ → ℕ
+gnAt m g = getD m (generatorAt g + GN) 0
+
+-- What is a setting of a generator that sends: the DAC number of a 0010. In the older text, of a 111, the sign of GN and its low 4 bits, the DAC number.
+abbrev pub SameSending : Text → Machine → Machine → ℕ → Type 0
+SameSending Of1978 m n g = runModeAt Of1978 m g ≡ writeDAC → dacNumberAt Of1978 m g ≡ dacNumberAt Of1978 n g
+SameSending Old m n g = oldRun (gmodeAt m g) ≡ 0b111 → (negativeGN (gnAt m g) ≡ negativeGN (gnAt n g)) × (gnAt m g % 2 ^ 4 ≡ gnAt n g % 2 ^ 4)
+
+-- Two machines have the same settings: T, every GMODE, GSUM and GFM, and these of each generator that sends.
 pub record SameSettings (text : Text) (m n : Machine) : Type 0 where
   pub ticks : ticksOf m ≡ ticksOf n
   pub modes : (g : ℕ) → g < 256 → gmodeAt m g ≡ gmodeAt n g
   pub words : (g : ℕ) → g < 256 → gsumAt m g ≡ gsumAt n g
   pub inputs : (g : ℕ) → g < 256 → gfmAt m g ≡ gfmAt n g
-  pub dacs : (g : ℕ) → g < 256 → runModeAt text m g ≡ writeDAC → dacNumberAt text m g ≡ dacNumberAt text n g
+  pub sending : (g : ℕ) → g < 256 → SameSending text m n g
 
 -- A run of 32-bit words.
 abbrev pub Words : List ℕ → Type 0

@@ -33,11 +33,12 @@ use Rattle.order_contents.specs.Contents.{contentsFor, itemFor, itemsFor}
 use Rattle.compare.specs.Compare.{compareOf}
 use Rattle.compare.proofs.Answers.{compare-passes, compare-number, compare-agrees}
 use Rattle.equal_endings.specs.Ends.{takenIn}
+use Rattle.equal_contents.proofs.Content.{Content}
 use Rattle.equal_witnesses.specs.Contents.{HasItems, SameHeard}
 use Rattle.equal_witnesses.proofs.Points.{none-parted}
 use Rattle.equal_orders.specs.Equal.{SameSettings, Equal}
 use Rattle.equal_orders.proofs.Finished.{OrderPasses, pass-let, inactive-let, same-heard}
-use Rattle.equal_orders.proofs.Texts.{run-same, ContentOf, contents-of, contents-are}
+use Rattle.equal_orders.proofs.Texts.{run-same, content-settings, contents-of, contents-are}
 use Rattle.equal_orders.proofs.Settings.{follows}
 use Rattle.equal_orders.proofs.Theorem.{compare-says}
 use Rattle.parts.specs.Parts.{Parting, partsRefusal, shown, partsOf}
@@ -68,11 +69,11 @@ module _ (text : Text) (m : Machine) (good : Good text m) (o₁ o₂ : Order) (p
 
   -- The contents.
   module _ (p s : ℕ) where
-    contents-same : ContentOf text m (contentsFor text m p s)
+    contents-same : Content text m (contentsFor text m p s)
     contents-same =
-        subst (ContentOf text m) (contents-are text m good p s)
-        (of-cond (ContentOf text m) (eqb p 1) (contents-of text m good .triggering-like)
-        (of-cond (ContentOf text m) (eqb p 4) (contents-of text m good .sounding-like s) (contents-of text m good .sending-like)))
+        subst (Content text m) (contents-are text m good p s)
+        (of-cond (Content text m) (eqb p 1) (contents-of text m good .triggering-like)
+        (of-cond (Content text m) (eqb p 4) (contents-of text m good .sounding-like s) (contents-of text m good .sending-like)))
 
     -- The items.
     items-long : length (itemsFor text m p s before) ≡ length before
@@ -98,11 +99,11 @@ module _ (text : Text) (m : Machine) (good : Good text m) (o₁ o₂ : Order) (p
     abbrev call : Call
     call = record { order = o₁; items = itemsFor text m point sounding before; places = places; memory = memory }
 
-    same : ContentOf text m (contentsFor text m (firstPoint (settingsOf text m) o₁ o₂ .point) (firstPoint (settingsOf text m) o₁ o₂ .sounding))
+    same : Content text m (contentsFor text m (firstPoint (settingsOf text m) o₁ o₂ .point) (firstPoint (settingsOf text m) o₁ o₂ .sounding))
     same = contents-same point sounding
 
     settings : SameSettings text m n
-    settings = same .settings
+    settings = content-settings text same
 
     few-there : ticksOf n ≤ 256
     few-there = rw (← (settings .ticks)) few
@@ -122,7 +123,7 @@ module _ (text : Text) (m : Machine) (good : Good text m) (o₁ o₂ : Order) (p
               let heard = same-heard text (generatorsOf text) n (same .good .whole) few-there call o₁ o₂ (rw (pass-let text n o₁ call (runs o₁ p₁), pass-let text n o₂ call (runs o₂ p₂)) at machine)
               (rw (pass-let text n o₁ call (runs o₁ p₁), pass-let text n o₂ call (runs o₂ p₂)) at written) in
               fails
-              (none-parted (generatorsOf text) (settingsOf text m) (ContentOf text m) (λ k r. follows text m k (r .settings) good (r .good)) (contents-of text m good) o₁ o₂
+              (none-parted (generatorsOf text) (settingsOf text m) (Content text m) (λ k r. follows text m k (content-settings text r) good (r .good)) (contents-of text m good) o₁ o₂
               (order-passes (ticksOf m) o₁ p₁) (order-passes (ticksOf m) o₂ p₂) (call .items) places room (items-has point sounding)
               (subst⁻¹ (λ (k : Machine). SameHeard (takenIn (generatorsOf text) k (call .items) places o₁) (takenIn (generatorsOf text) k (call .items) places o₂)) (contents-are text m good point sounding) heard));
         }
@@ -134,7 +135,7 @@ module _ (text : Text) (m : Machine) (good : Good text m) (o₁ o₂ : Order) (p
       let same = contents-same point sounding in
       record {
         good = same .good;
-        settings = same .settings;
+        settings = content-settings text same;
         enough = rw (items-long point sounding) reads;
         as-long = items-long point sounding;
         beyond = items-beyond point sounding;

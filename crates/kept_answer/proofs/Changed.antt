@@ -68,7 +68,7 @@ module _ (m : Machine) (whole : length m ≡ machineLength) (good : sound Of1978
     pub changed-whole : length n ≡ machineLength
     changed-whole = changed-length m kind g v ∙ whole
 
-    few : kind ≤ 5
+    pub few : kind ≤ 5
     few = go (eqb kind tickMore) refl (eqb kind tickFewer) refl
       where
         go : (a : Bool) → eqb kind tickMore ≡ a → (b : Bool) → eqb kind tickFewer ≡ b → kind ≤ 5

@@ -2,10 +2,8 @@
 -- Assumes nothing.
 use Prim.Native.Nat.{ℕ, _+_, _*_, _/_, _%_, _^_}
 use mathlib.Core.Bool.{Bool, false, cond, _&&_}
-use mathlib.Core.List.{[], _∷_}
 use lib.Dec.{eqb, leb}
 use lib.IntN.{ℤ}
-use lib.ListN.{getD}
 use Rattle.words.specs.Words.{lowBits}
 use Rattle.exponential.specs.Exponential.{olderSize, exponential}
 use Rattle.old_modes.specs.OldModes.{oldRun, oldEnvelope, oldOscillator, oldRunMode}

@@ -1,8 +1,8 @@
 -- Contents that tell two orders of the generators apart: machines that have the settings of a machine and other words, and read lists.
 -- Assumes nothing.
-use Prim.Native.Nat.{ℕ, _+_, _/_, _%_, _^_}
+use Prim.Native.Nat.{ℕ, _+_, _*_, _/_, _%_, _^_}
 use mathlib.Core.Bool.{cond, _&&_}
-use mathlib.Core.List.{[], _∷_}
+use mathlib.Core.List.{List, [], _∷_}
 use lib.Dec.{eqb}
 use lib.ListN.{getD}
 use Rattle.fills.specs.Fills.{filled}
@@ -10,14 +10,20 @@ use Rattle.layout.specs.Layout.{generators, generatorWords, modifierAt, modifie
 use Rattle.layout.specs.Machine.{Machine, Items, gmodeAt}
 use Rattle.layout.specs.Widths.{glBits}
 use Rattle.texts.specs.declared.Text.{Text}
-use Rattle.texts.specs.declared.Text.the-variants.{Of1978}
+use Rattle.texts.specs.declared.Text.the-variants.{Of1978, Old}
+use Rattle.old_modes.specs.OldModes.{oldEnvelope}
 use Rattle.modes.specs.Modes.{readData}
 use Rattle.order.specs.Order.{inMode}
 use Rattle.sums.specs.Sums.{generatorLast, modifierLast}
 
--- A machine in which register j of each generator, by the generator's number, is what f gives.
-abbrev pub eachRegister : ℕ → (ℕ → ℕ) → Machine → Machine
-eachRegister j f m = filled j generatorWords generators f m
+-- A register of every generator with the words that it gets, by the generator's number.
+pub data Column : Type 0 where
+  column : ℕ → (ℕ → ℕ) → Column
+
+-- A machine in which columns of registers are filled.
+abbrev pub withColumns : List Column → Machine → Machine
+withColumns [] m = m
+withColumns (column register word ∷ columns) m = filled register generatorWords generators word (withColumns columns m)
 
 -- A machine in which each word of quadrant q of sum memory, by its number, is what f gives.
 abbrev pub eachWord : ℕ → (ℕ → ℕ) → Machine → Machine
@@ -27,57 +33,48 @@ eachWord q f m = filled (quadrantAt q) 1 quadrantWords f m
 unfoldable pub inactiveModifiers : Machine → Machine
 inactiveModifiers m = filled (modifierAt 0 + MMODE) modifierWords 128 (λ k. 0) m
 
--- Every envelope that is on overflows: GP is 1 and GQ 16,777,215. So each 1110 and each 1101 triggers.
-abbrev pub overflowingGP : ℕ
-overflowingGP = 1
+-- And the words from which F comes, those of generator-last and of modifier-last, are what two functions give.
+unfoldable pub withLast : (ℕ → ℕ) → (ℕ → ℕ) → Machine → Machine
+withLast first second m = eachWord modifierLast second (eachWord generatorLast first (inactiveModifiers m))
 
-abbrev pub overflowingGQ : ℕ
-overflowingGQ = 16777215
+-- Every envelope that is on overflows: GP is 1 and GQ 16,777,215. So each 1110 and each 1101 triggers.
+abbrev pub overflowing : List Column
+overflowing = column GQ (λ g. 16777215) ∷ column GP (λ g. 1) ∷ []
 
 unfoldable pub triggeringContents : Machine → Machine
-triggeringContents m = eachRegister GQ (λ g. overflowingGQ) (eachRegister GP (λ g. overflowingGP) (inactiveModifiers m))
+triggeringContents m = withColumns overflowing (inactiveModifiers m)
+
+-- GK and the high 20 bits of GJ are the generator's number.
+abbrev pub ownNumbers : List Column
+ownNumbers = column GJ (λ g. 256 * g) ∷ column GK (λ g. g) ∷ []
 
 -- What is sent tells its source. In 1978's text it is F: the word at each GFM is that GFM, generator-last word w is w, modifier-last word w is 64 + w.
+-- In the older text it is GK or J, by the oscillator mode: with every F 0 both are the generator's number.
 unfoldable pub sendingContents : Text → Machine → Machine
-sendingContents Of1978 m = eachWord modifierLast (λ w. 64 + w) (eachWord generatorLast (λ w. w) (inactiveModifiers m))
+sendingContents Of1978 m = withLast (λ w. w) (λ w. 64 + w) m
+sendingContents Old m = withColumns ownNumbers (withLast (λ w. 0) (λ w. 0) m)
 
--- GL at which V is 0 where GQ is 0, by envelope mode: the exponential of 0 is 4,093.
-abbrev pub silentLevel : ℕ → ℕ
-silentLevel mode = getD (0 ∷ 0 ∷ 4093 ∷ 3 ∷ []) mode 0
-
--- The envelope mode of generator g of a machine.
-abbrev pub envelopeModeAt : Machine → ℕ → ℕ
-envelopeModeAt m g = gmodeAt m g / 2 ^ 4 % 2 ^ 2
+-- GL at which V is 0 where GQ is 0, by the envelope mode in GMODE: the exponential of 0 is 4,093; the older text adds it in 10 and takes it away in 11.
+abbrev pub silentLevel : Text → ℕ → ℕ
+silentLevel Of1978 gmode = getD (0 ∷ 0 ∷ 4093 ∷ 3 ∷ []) (gmode / 2 ^ 4 % 2 ^ 2) 0
+silentLevel Old gmode = getD (0 ∷ 0 ∷ 3 ∷ 4093 ∷ []) (oldEnvelope gmode) 0
 
 -- GL of generator g where only generator s sounds: V is 64 at s and 0 at every other.
-unfoldable pub soundingLevel : Machine → ℕ → ℕ → ℕ
-soundingLevel m s g = (silentLevel (envelopeModeAt m g) + cond (eqb g s) 64 0) % 2 ^ glBits
+unfoldable pub soundingLevel : Text → Machine → ℕ → ℕ → ℕ
+soundingLevel text m s g = (silentLevel text (gmodeAt m g) + cond (eqb g s) 64 0) % 2 ^ glBits
 
--- GJ, GK and GN with which W is not 0 in any oscillator mode: the high 20 bits of GJ are the largest signed number, so that step 1 leaves its range
--- where F is 1; K is 1 unless it comes from J; GN is 1.
-abbrev pub soundingGJ : ℕ
-soundingGJ = 134217472
+-- K, the high 13 bits of GK or in the older text 12, is 1 unless it comes from J, and GN is 1. The older text has no use for GN in a wave: there it is a setting, and stays.
+abbrev pub waveColumns : Text → List Column
+waveColumns Of1978 = column GK (λ g. 128) ∷ column GN (λ g. 1) ∷ []
+waveColumns Old = column GK (λ g. 256) ∷ []
 
-abbrev pub soundingGK : ℕ
-soundingGK = 128
+-- With these, GM 0 and every F 1, W is not 0 in any oscillator mode: the high 20 bits of GJ are the largest signed number, so that step 1 leaves its range. GQ is 0.
+abbrev pub soundingColumns : Text → Machine → ℕ → List Column
+soundingColumns text m s = column GL (soundingLevel text m s) ∷ column GQ (λ g. 0) ∷ column GM (λ g. 0) ∷ column GJ (λ g. 134217472) ∷ waveColumns text
 
-abbrev pub soundingGN : ℕ
-soundingGN = 1
-
--- Every F is 1.
-unfoldable pub onesLast : Machine → Machine
-onesLast m = eachWord modifierLast (λ w. 1) (eachWord generatorLast (λ w. 1) (inactiveModifiers m))
-
--- Generator s alone sounds: every F is 1, GJ, GK and GN are these, GM and GQ 0. Where s is no generator's number, none does.
+-- Generator s alone sounds. Where s is no generator's number, none does.
 unfoldable pub soundingContents : Text → Machine → ℕ → Machine
-soundingContents Of1978 m s =
-    eachRegister GJ (λ g. soundingGJ)
-    (eachRegister GK (λ g. soundingGK)
-    (eachRegister GN (λ g. soundingGN)
-    (eachRegister GM (λ g. 0)
-    (eachRegister GQ (λ g. 0)
-    (eachRegister GL (soundingLevel m s)
-    (onesLast m))))))
+soundingContents text m s = withColumns (soundingColumns text m s) (withLast (λ w. 1) (λ w. 1) m)
 
 -- Of three contents the one that shows a point, by its number: the first shows where generators trigger, the fourth where one sounds,
 -- the second and third where what is sent tells its source.

@@ -1,10 +1,10 @@
 // Contents that show which point fails, written into a run of a machine's words and into a read list.
 ghost use mathlib.Core.Path.{_≡_};
-ghost use Prim.Native.Nat.{_≤_};
+ghost use Prim.Native.Nat.{_+_, _≤_};
 ghost use lib.ListN.{length};
 ghost use Rattle.layout.specs.Layout.{machineLength, generators};
 ghost use Rattle.fills.specs.Fills.{filled};
-ghost use Rattle.order_contents.specs.Contents.{inactiveModifiers, triggeringContents, sendingContents, onesLast, soundingContents, contentsFor, itemFor};
+ghost use Rattle.order_contents.specs.Contents.{withColumns, inactiveModifiers, withLast, triggeringContents, ownNumbers, sendingContents, waveColumns, soundingContents, contentsFor, itemFor};
 use texts::Text;
 
 // The machine, with every modifier inactive.
@@ -44,24 +44,89 @@ fn triggering(m: &[u32], run: &mut [u32])
     );
 }
 
+// Every F is one word.
+fn level_last(m: &[u32], word: u32, run: &mut [u32])
+    requires { ⌜ (length (now m) ≡ machineLength) × (length (now run) ≡ machineLength) ⌝ }
+    ensures { λ _. ⌜ now (run .exit) ≡ withLast (λ w. word) (λ w. word) (now (m .entry)) ⌝ }
+{
+    inactive(m, run);
+    fills::fill(
+        run,
+        layout::GENERATOR_LAST_AT,
+        1,
+        layout::QUADRANT_WORDS,
+        word,
+    );
+    fills::fill(
+        run,
+        layout::MODIFIER_LAST_AT,
+        1,
+        layout::QUADRANT_WORDS,
+        word,
+    );
+}
+
 // The word at each GFM is that GFM.
+fn numbered_last(m: &[u32], run: &mut [u32])
+    requires { ⌜ (length (now m) ≡ machineLength) × (length (now run) ≡ machineLength) ⌝ }
+    ensures { λ _. ⌜ now (run .exit) ≡ withLast (λ w. w) (λ w. 64 + w) (now (m .entry)) ⌝ }
+{
+    inactive(m, run);
+    fills::count(
+        run,
+        layout::GENERATOR_LAST_AT,
+        1,
+        layout::QUADRANT_WORDS,
+        0,
+        1,
+    );
+    fills::count(
+        run,
+        layout::MODIFIER_LAST_AT,
+        1,
+        layout::QUADRANT_WORDS,
+        64,
+        1,
+    );
+}
+
+// GK and the high 20 bits of GJ are the generator's number, and every F is 0.
+fn own_numbers(m: &[u32], run: &mut [u32])
+    requires { ⌜ (length (now m) ≡ machineLength) × (length (now run) ≡ machineLength) ⌝ }
+    ensures { λ _. ⌜ now (run .exit) ≡ withColumns ownNumbers (withLast (λ w. 0) (λ w. 0) (now (m .entry))) ⌝ }
+{
+    let step = layout::GENERATOR_WORDS;
+    let n = layout::GENERATORS;
+    level_last(m, 0, run);
+    fills::count(run, layout::GK, step, n, 0, 1);
+    fills::count(run, layout::GJ, step, n, 0, 256);
+}
+
+// What is sent tells its source.
 fn sending(text: Text, m: &[u32], run: &mut [u32])
     requires { ⌜ (length (now m) ≡ machineLength) × (length (now run) ≡ machineLength) ⌝ }
     ensures { λ _. ⌜ now (run .exit) ≡ sendingContents text (now (m .entry)) ⌝ }
 {
-    inactive(m, run);
-    fills::number(run, layout::GENERATOR_LAST_AT, layout::QUADRANT_WORDS, 0);
-    fills::number(run, layout::MODIFIER_LAST_AT, layout::QUADRANT_WORDS, 64);
+    match text {
+        Text::Of1978 => numbered_last(m, run),
+        Text::Old => own_numbers(m, run),
+    }
 }
 
-// Every F is 1.
-fn ones(m: &[u32], run: &mut [u32])
-    requires { ⌜ (length (now m) ≡ machineLength) × (length (now run) ≡ machineLength) ⌝ }
-    ensures { λ _. ⌜ now (run .exit) ≡ onesLast (now (m .entry)) ⌝ }
+// GK and GN with which no wave is 0.
+fn waves(text: Text, run: &mut [u32])
+    requires { ⌜ length (now run) ≡ machineLength ⌝ }
+    ensures { λ _. ⌜ now (run .exit) ≡ withColumns (waveColumns text) (now (run .entry)) ⌝ }
 {
-    inactive(m, run);
-    fills::fill(run, layout::GENERATOR_LAST_AT, 1, layout::QUADRANT_WORDS, 1);
-    fills::fill(run, layout::MODIFIER_LAST_AT, 1, layout::QUADRANT_WORDS, 1);
+    let step = layout::GENERATOR_WORDS;
+    let n = layout::GENERATORS;
+    match text {
+        Text::Of1978 => {
+            fills::fill(run, layout::GN, step, n, 1);
+            fills::fill(run, layout::GK, step, n, 128);
+        }
+        Text::Old => fills::fill(run, layout::GK, step, n, 256),
+    }
 }
 
 // Generator s alone sounds; none does where s is no generator's number.
@@ -71,13 +136,12 @@ fn sounding(text: Text, m: &[u32], s: usize, run: &mut [u32])
 {
     let step = layout::GENERATOR_WORDS;
     let n = layout::GENERATORS;
-    ones(m, run);
-    parts_levels::levels(m, s, run);
-    fills::fill(run, layout::GQ, step, n, 0);
-    fills::fill(run, layout::GM, step, n, 0);
-    fills::fill(run, layout::GN, step, n, 1);
-    fills::fill(run, layout::GK, step, n, 128);
+    level_last(m, 1, run);
+    waves(text, run);
     fills::fill(run, layout::GJ, step, n, 134217472);
+    fills::fill(run, layout::GM, step, n, 0);
+    fills::fill(run, layout::GQ, step, n, 0);
+    parts_levels::levels(text, m, s, run);
 }
 
 // Contents with the settings of a machine that show where a point fails; generator s is to sound for the fourth.
@@ -102,7 +166,7 @@ pub fn items(point: u32, s: usize, n: usize, run: &mut [u32])
     ensures { λ _. ⌜ now (run .exit) ≡ filled 0 1 n (itemFor point s) (now (run .entry)) ⌝ }
 {
     if (point == 4) & (s == layout::GENERATORS) {
-        fills::number(run, 0, n, 0);
+        fills::count(run, 0, 1, n, 0, 1);
         return;
     }
     fills::fill(run, 0, 1, n, 0);

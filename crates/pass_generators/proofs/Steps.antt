@@ -1,6 +1,6 @@
 -- A step by the three ways that the code takes: envelope on, waiting, nothing on.
 -- Assumes nothing.
-use mathlib.Core.Path.{_≡_, refl}
+use mathlib.Core.Path.{_≡_, refl, _∙_}
 use mathlib.Core.Bool.{Bool, true, false, cond, not}
 use mathlib.Core.List.{List}
 use Prim.Native.Nat.{ℕ, _+_, _<_}
@@ -17,11 +17,13 @@ use Rattle.modes.proofs.Exclusions.{quiet, idle, on-not-off, outputs}
 use Rattle.sums.specs.Sums.{fAt}
 use Rattle.generator.specs.declared.Generator.{Generator}
 use Rattle.generator.specs.declared.Sounded.{Sounded}
-use Rattle.texts.specs.declared.Text.the-variants.{Of1978}
-use Rattle.generator.specs.Generator.{runMode, stored, triggers, after, soundedOf}
-use Rattle.generator.proofs.Turns.{rests, after-untold}
-use Rattle.pass_model.specs.Generators.{generatorsOf, generatorOf, turn1978, State, told, fed, summed, step}
-use Rattle.pass_model.proofs.Turns.{waits-silent}
+use Rattle.texts.specs.declared.Text.{Text}
+use Rattle.texts.specs.Texts.{distanceOf}
+use Rattle.generator.specs.Generator.{stored}
+use Rattle.generator_turn.specs.GeneratorTurn.{runOf, afterOf, soundedBy}
+use Rattle.generator_turn.proofs.Turns.{untold, rests-in, no-trigger}
+use Rattle.pass_model.specs.Generators.{generatorsOf, generatorOf, generatorTurn, State, told, fed, summed, step}
+use Rattle.pass_model.proofs.Turns.{partsOf, turn-parts, waits-silent}
 use Rattle.pass_model.specs.Clipped.{Marks, sumLeaves, markedAt, marked}
 use Rattle.pass_outputs.specs.Outputs.{heard, heardLeaves, Sending, sent}
 use Rattle.pass_generators.specs.Loops.{WithinWidths, Sounding, sounded}
@@ -36,19 +38,22 @@ not-alone : {A : Type 0} (a : Bool) (x y : A) → cond (not a) x y ≡ cond a y 
 not-alone true x y = refl
 not-alone false x y = refl
 
-module _ (items : Items) (s : State) (g : ℕ) (u : Generator) (f : ℕ) (is-u : u ≡ generatorOf (s .words) g) (is-f : f ≡ fAt (s .sums) (u .gfm)) where
+module _ (text : Text) (items : Items) (s : State) (g : ℕ) (u : Generator) (f : ℕ) (is-u : u ≡ generatorOf (s .words) g) (is-f : f ≡ fAt (s .sums) (u .gfm)) where
+  -- The turn by its parts.
+  turn-of : (t : Bool) → generatorTurn text (s .words) (s .sums) g t ≡ partsOf text u f t
+  turn-of t = turn-parts text (s .words) (s .sums) g t ∙ rw (is-f, is-u)
+
   -- The envelope is on. The step, and its marks.
-  pub sounds-on : (marks : Marks) {v : Sounding} → envelopeOn (runMode u) ≡ true →
-      v ≡ sounded items (record { words = s .words; sums = s .sums; clipped = marks; triggered = s .triggered; reads = s .reads }) g u f →
-      record { words = v .words; sums = v .sums; triggered = v .triggered; places = s .places; reads = v .reads; writes = s .writes } ≡ step (generatorsOf Of1978) items s g
-  unfolding step turn1978 fed summed sounded heard envelopeOn isOneOf
+  pub sounds-on : (marks : Marks) {v : Sounding} → envelopeOn (runOf text u) ≡ true →
+      v ≡ sounded text items (record { words = s .words; sums = s .sums; clipped = marks; triggered = s .triggered; reads = s .reads }) g u f →
+      record { words = v .words; sums = v .sums; triggered = v .triggered; places = s .places; reads = v .reads; writes = s .writes } ≡ step (generatorsOf text) items s g
+  unfolding step fed summed sounded heard envelopeOn isOneOf
   sounds-on marks on e =
-      let r = runMode u in
+      let r = runOf text u in
       rw (
         e,
-        ← is-u,
-        ← is-f,
-        after-untold u f (told 1 (s .triggered) g) (on-not-off envelopeOn r wait on refl),
+        turn-of (told (distanceOf text) (s .triggered) g),
+        untold text u f (told (distanceOf text) (s .triggered) g) (on-not-off envelopeOn r wait on refl),
         on-not-off envelopeOn r writeDAC on refl,
         on-not-off envelopeOn r writeData on refl,
         outputs r on,
@@ -57,63 +62,63 @@ module _ (items : Items) (s : State) (g : ℕ) (u : Generator) (f : ℕ) (is-u :
         add-one,
       )
 
-  pub sounds-marked : (marks : Marks) {v : Sounding} → envelopeOn (runMode u) ≡ true →
-      v ≡ sounded items (record { words = s .words; sums = s .sums; clipped = marks; triggered = s .triggered; reads = s .reads }) g u f →
-      v .clipped ≡ marked (generatorsOf Of1978) items s marks g
-  unfolding marked turn1978 sumLeaves sounded heardLeaves
-  sounds-marked marks on e = rw (e, ← is-u, ← is-f, outputs (runMode u) on, not-first)
+  pub sounds-marked : (marks : Marks) {v : Sounding} → envelopeOn (runOf text u) ≡ true →
+      v ≡ sounded text items (record { words = s .words; sums = s .sums; clipped = marks; triggered = s .triggered; reads = s .reads }) g u f →
+      v .clipped ≡ marked (generatorsOf text) items s marks g
+  unfolding marked sumLeaves sounded heardLeaves
+  sounds-marked marks on e = rw (e, turn-of (told (distanceOf text) (s .triggered) g), outputs (runOf text u) on, not-first)
 
   -- The generator waits.
-  pub waits-on : {words : Machine} → runMode u ≡ wait → words ≡ stored (s .words) (generatorAt g) (after u f (told 1 (s .triggered) g)) →
-      record { words = words; sums = s .sums; triggered = s .triggered; places = s .places; reads = s .reads; writes = s .writes } ≡ step (generatorsOf Of1978) items s g
-  unfolding step turn1978 fed summed
+  pub waits-on : {words : Machine} → runOf text u ≡ wait → words ≡ stored (s .words) (generatorAt g) (afterOf text u f (told (distanceOf text) (s .triggered) g)) →
+      record { words = words; sums = s .sums; triggered = s .triggered; places = s .places; reads = s .reads; writes = s .writes } ≡ step (generatorsOf text) items s g
+  unfolding step fed summed
   waits-on w e =
-      let q = waits-silent (s .words) (s .sums) g (told 1 (s .triggered) g) (rw (← is-u) w) in
-      rw (e, q .no-trigger, q .no-add, q .no-replace, q .no-feed, q .no-write, ← is-u, ← is-f)
+      let q = waits-silent text (s .words) (s .sums) g (told (distanceOf text) (s .triggered) g) (rw (← is-u) w) in
+      rw (e, q .no-trigger, q .no-add, q .no-replace, q .no-feed, q .no-write, turn-of (told (distanceOf text) (s .triggered) g))
 
-  pub waits-marked : (marks : Marks) → runMode u ≡ wait → marks ≡ marked (generatorsOf Of1978) items s marks g
+  pub waits-marked : (marks : Marks) → runOf text u ≡ wait → marks ≡ marked (generatorsOf text) items s marks g
   unfolding marked markedAt sumLeaves
   waits-marked marks w =
-      let q = waits-silent (s .words) (s .sums) g (told 1 (s .triggered) g) (rw (← is-u) w) in
+      let q = waits-silent text (s .words) (s .sums) g (told (distanceOf text) (s .triggered) g) (rw (← is-u) w) in
       rw (q .no-replace, q .no-add)
 
   -- Nothing is on.
-  pub sends-on : {v : Sending} → WithinWidths (s .words) g → envelopeOn (runMode u) ≡ false → oscillatorOn (runMode u) ≡ false →
-      v ≡ sent (record { words = s .words; places = s .places; writes = s .writes }) u f →
-      record { words = v .words; sums = s .sums; triggered = s .triggered; places = v .places; reads = s .reads; writes = v .writes } ≡ step (generatorsOf Of1978) items s g
-  unfolding step turn1978 fed summed triggers sent
+  pub sends-on : {v : Sending} → WithinWidths (s .words) g → envelopeOn (runOf text u) ≡ false → oscillatorOn (runOf text u) ≡ false →
+      v ≡ sent text (record { words = s .words; places = s .places; writes = s .writes }) u f →
+      record { words = v .words; sums = s .sums; triggered = s .triggered; places = v .places; reads = s .reads; writes = v .writes } ≡ step (generatorsOf text) items s g
+  unfolding step fed summed sent
   sends-on low e o x =
-      let q = quiet (runMode u) e in
-      rw (x, ← is-u, ← is-f, rests u f (told 1 (s .triggered) g) e o, q .no-add, q .no-replace, q .not-free, same)
+      let q = quiet (runOf text u) e in
+      rw (x, turn-of (told (distanceOf text) (s .triggered) g), rests-in text u f (told (distanceOf text) (s .triggered) g) e o, no-trigger text u f e, q .no-add, q .no-replace, same)
     where
       same : stored (s .words) (generatorAt g) u ≡ s .words
       same = rw is-u (put-same (s .words) g low)
 
-  pub sends-marked : (marks : Marks) → envelopeOn (runMode u) ≡ false → marks ≡ marked (generatorsOf Of1978) items s marks g
-  unfolding marked markedAt sumLeaves turn1978
+  pub sends-marked : (marks : Marks) → envelopeOn (runOf text u) ≡ false → marks ≡ marked (generatorsOf text) items s marks g
+  unfolding marked markedAt sumLeaves
   sends-marked marks e =
-      let q = quiet (runMode u) e in
-      rw (← is-u, q .no-replace, q .no-add)
+      let q = quiet (runOf text u) e in
+      rw (turn-of (told (distanceOf text) (s .triggered) g), q .no-replace, q .no-add)
 
   -- Inactive or paused.
-  pub step-idle : WithinWidths (s .words) g → runMode u < 2 → s ≡ step (generatorsOf Of1978) items s g
+  pub step-idle : WithinWidths (s .words) g → runOf text u < 2 → s ≡ step (generatorsOf text) items s g
   unfolding sent
   step-idle low h =
-      let i = idle (runMode u) h in
+      let i = idle (runOf text u) h in
       sends-on low (i .no-envelope) (i .no-oscillator) (rw (i .no-DAC, i .no-write))
 
-  pub idle-marked : (marks : Marks) → runMode u < 2 → marks ≡ marked (generatorsOf Of1978) items s marks g
-  idle-marked marks h = sends-marked marks (idle (runMode u) h .no-envelope)
+  pub idle-marked : (marks : Marks) → runOf text u < 2 → marks ≡ marked (generatorsOf text) items s marks g
+  idle-marked marks h = sends-marked marks (idle (runOf text u) h .no-envelope)
 
 -- What the code does for a generator whose envelope is on: x is what it brings.
-module _ (items : Items) (v : Sounding) (g : ℕ) (u : Generator) (f : ℕ) {on : Switches} {x : Sounded} where
+module _ (text : Text) (items : Items) (v : Sounding) (g : ℕ) (u : Generator) (f : ℕ) {on : Switches} {x : Sounded} where
   pub sounds-by : {words triggered : List ℕ} {sums : Sums} {clipped : Marks} {reads : ℕ} →
-      on ≡ switchesOf (runMode u) → x ≡ soundedOf u f →
+      on ≡ switchesOf (runOf text u) → x ≡ soundedBy text u f →
       words ≡ stored (v .words) (generatorAt g) (x .unit) →
       triggered ≡ cond (x .triggers) (set (v .triggered) g 1) (v .triggered) →
       (sums ≡ heard (v .sums) (eqb (on .output) 1) (u .gsum) (x .p) (getD items (v .reads) 0))
       × (clipped ≡ markedAt (v .clipped) (u .gsum) (heardLeaves (v .sums) (eqb (on .output) 1) (u .gsum) (x .p) (getD items (v .reads) 0)))
       × (reads ≡ cond (eqb (on .output) 1) (v .reads) (v .reads + 1)) →
-      record { words = words; sums = sums; clipped = clipped; triggered = triggered; reads = reads } ≡ sounded items v g u f
-  unfolding soundedOf sounded
-  sounds-by is ex ew et (es, em, er) = rw (ew, et, es, em, er, ex, is, adds-tells (runMode u))
+      record { words = words; sums = sums; clipped = clipped; triggered = triggered; reads = reads } ≡ sounded text items v g u f
+  unfolding sounded
+  sounds-by is ex ew et (es, em, er) = rw (ew, et, es, em, er, ex, is, adds-tells (runOf text u))

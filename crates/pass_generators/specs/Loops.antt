@@ -1,7 +1,7 @@
 -- What the code of the generators' stage asks, and the turn of a generator whose envelope is on.
 -- Laws join them to a step, which alone a reader has to believe. Assumes nothing.
 use Prim.Native.Nat.{ℕ, _+_, _^_, _<_, _≤_}
-use mathlib.Core.Bool.{false, cond}
+use mathlib.Core.Bool.{cond}
 use mathlib.Core.List.{List}
 use lib.ListN.{length, getD, set}
 use Rattle.layout.specs.Layout.{generatorAt, GJ, GK, GQ, GMODE}
@@ -9,7 +9,9 @@ use Rattle.layout.specs.Widths.{gjBits, gkBits, gqBits, gmodeBits}
 use Rattle.layout.specs.Machine.{Machine, Order, Items, Sums, Reaches}
 use Rattle.modes.specs.Modes.{adds}
 use Rattle.generator.specs.declared.Generator.{Generator}
-use Rattle.generator.specs.Generator.{stored, runMode, pOf, triggers, after}
+use Rattle.generator.specs.Generator.{stored}
+use Rattle.texts.specs.declared.Text.{Text}
+use Rattle.generator_turn.specs.GeneratorTurn.{runOf, soundedBy}
 use Rattle.pass_model.specs.Clipped.{Marks, markedAt}
 use Rattle.pass_outputs.specs.Outputs.{heard, heardLeaves}
 
@@ -39,12 +41,14 @@ pub record Sounding : Type 0 where
   pub reads : ℕ
 
 -- Generator g, u with its envelope on, is taken.
-unfoldable pub sounded : Items → Sounding → ℕ → Generator → ℕ → Sounding
-sounded items v g u f =
+unfoldable pub sounded : Text → Items → Sounding → ℕ → Generator → ℕ → Sounding
+sounded text items v g u f =
+    let x = soundedBy text u f in
+    let adding = adds (runOf text u) in
     record {
-      words = stored (v .words) (generatorAt g) (after u f false);
-      sums = heard (v .sums) (adds (runMode u)) (u .gsum) (pOf u f) (getD items (v .reads) 0);
-      clipped = markedAt (v .clipped) (u .gsum) (heardLeaves (v .sums) (adds (runMode u)) (u .gsum) (pOf u f) (getD items (v .reads) 0));
-      triggered = cond (triggers u) (set (v .triggered) g 1) (v .triggered);
-      reads = cond (adds (runMode u)) (v .reads) (v .reads + 1);
+      words = stored (v .words) (generatorAt g) (x .unit);
+      sums = heard (v .sums) adding (u .gsum) (x .p) (getD items (v .reads) 0);
+      clipped = markedAt (v .clipped) (u .gsum) (heardLeaves (v .sums) adding (u .gsum) (x .p) (getD items (v .reads) 0));
+      triggered = cond (x .triggers) (set (v .triggered) g 1) (v .triggered);
+      reads = cond adding (v .reads) (v .reads + 1);
     }

@@ -7,9 +7,9 @@ ghost use Rattle.sine.specs.Sine.{quarter};
 ghost use Rattle.exponential.specs.Exponential.{tableSize, entries};
 ghost use Rattle.modes.specs.Modes.{rows, switchesOf, envelopeOn, wait};
 ghost use Rattle.layout.specs.Layout.{generatorAt};
-ghost use Rattle.generator.specs.Generator.{Ranged, stored, runMode, after};
+ghost use Rattle.generator.specs.Generator.{stored};
+ghost use Rattle.generator_turn.specs.GeneratorTurn.{runOf, afterOf};
 ghost use Rattle.texts.specs.Texts.{distanceOf};
-ghost use Rattle.texts.specs.declared.Text.the-variants.{Of1978};
 ghost use Rattle.pass_model.specs.Generators.{generatorsOf, generatorOf, told, step, begun, takenBy};
 ghost use Rattle.pass_model.specs.Clipped.{marked, markedBy};
 ghost use Rattle.pass_generators.specs.Loops.{WithinWidths, Ready, Numbers, sounded};
@@ -51,6 +51,7 @@ fn put_generator_at(m: &mut [u32], g: usize, unit: Generator)
 
 // A generator whose envelope is on is taken; the answer is how many items were read.
 fn play(
+    text: Text,
     m: &mut [u32],
     s: &mut Sums,
     clipped: &mut Clipped,
@@ -60,18 +61,17 @@ fn play(
     items: &[u32],
     reads: usize,
     g: usize,
-    unit: Generator,
     on: Switches,
     f: u32,
 ) -> usize
     requires { ⌜ Reaches (now m) ⌝ }
-    requires { ⌜ Ranged unit ⌝ }
     requires { ⌜ (now sine ≡ quarter) × (now decay ≡ entries tableSize) ⌝ }
-    requires { ⌜ (on ≡ switchesOf (runMode unit)) × (envelopeOn (runMode unit) ≡ true) ⌝ }
+    requires { ⌜ (on ≡ switchesOf (runOf text (generatorOf (now m) g))) × (envelopeOn (runOf text (generatorOf (now m) g)) ≡ true) ⌝ }
     requires { ⌜ (f < 2 ^ 20) × (g < 256) × (reads < 256) ⌝ }
-    ensures { λ r. ⌜ record { words = now (m .exit); sums = now (s .exit); clipped = now (clipped .exit); triggered = now (triggered .exit); reads = r } ≡ sounded (now (items .entry)) (record { words = now (m .entry); sums = now (s .entry); clipped = now (clipped .entry); triggered = now (triggered .entry); reads = reads }) g unit f ⌝ }
+    ensures { λ r. ⌜ record { words = now (m .exit); sums = now (s .exit); clipped = now (clipped .exit); triggered = now (triggered .exit); reads = r } ≡ sounded text (now (items .entry)) (record { words = now (m .entry); sums = now (s .entry); clipped = now (clipped .entry); triggered = now (triggered .entry); reads = reads }) g (generatorOf (now (m .entry)) g) f ⌝ }
 {
-    let sounded = unit.play(sine, decay, on, f);
+    let unit = generator_at(m, g);
+    let sounded = generator_turn::play(text, unit, sine, decay, on, f);
     let turned = sounded.unit;
     let p = sounded.p;
     put_generator_at(m, g, turned);
@@ -79,77 +79,19 @@ fn play(
     pass_outputs::hear(s, clipped, items, reads, on.output, unit.gsum, p)
 }
 
-// A generator in 1001 is taken.
-fn wait(m: &mut [u32], triggered: &Triggered, g: usize, unit: Generator, f: u32)
+// A generator that waits is taken.
+fn wait(text: Text, m: &mut [u32], triggered: &Triggered, g: usize, f: u32)
     requires { ⌜ Reaches (now m) ⌝ }
-    requires { ⌜ Ranged unit ⌝ }
-    requires { ⌜ (runMode unit ≡ wait) × (f < 2 ^ 20) × (g < 256) ⌝ }
-    ensures { λ r. ⌜ now (m .exit) ≡ stored (now (m .entry)) (generatorAt g) (after unit f (told (distanceOf Of1978) (now (triggered .entry)) g)) ⌝ }
+    requires { ⌜ (runOf text (generatorOf (now m) g) ≡ wait) × (f < 2 ^ 20) × (g < 256) ⌝ }
+    ensures { λ r. ⌜ now (m .exit) ≡ stored (now (m .entry)) (generatorAt g) (afterOf text (generatorOf (now (m .entry)) g) f (told (distanceOf text) (now (triggered .entry)) g)) ⌝ }
 {
-    let told = pass_outputs::told(Text::Of1978, triggered, g);
-    let after = unit.wait(f, told);
+    let unit = generator_at(m, g);
+    let told = pass_outputs::told(text, triggered, g);
+    let after = generator_turn::wait(text, unit, f, told);
     put_generator_at(m, g, after);
 }
 
-// One generator of the 1978 text is taken.
-fn step_1978(
-    m: &mut [u32],
-    s: &mut Sums,
-    clipped: &mut Clipped,
-    triggered: &mut Triggered,
-    switches: &Rows,
-    sine: &Quarter,
-    decay: &Entries,
-    items: &[u32],
-    places: &mut [u32],
-    done: Items,
-    g: usize,
-) -> Items
-    requires { ⌜ Reaches (now m) ⌝ }
-    requires { ⌜ WithinWidths (now m) g ⌝ }
-    requires { ⌜ (now switches ≡ rows) × (now sine ≡ quarter) × (now decay ≡ entries tableSize) ⌝ }
-    requires { ⌜ (g < 256) × (done .reads < 256) × (done .writes < 256) ⌝ }
-    ensures { λ r. ⌜ record { words = now (m .exit); sums = now (s .exit); triggered = now (triggered .exit); places = now (places .exit); reads = r .reads; writes = r .writes } ≡ step (generatorsOf Of1978) (now (items .entry)) (record { words = now (m .entry); sums = now (s .entry); triggered = now (triggered .entry); places = now (places .entry); reads = done .reads; writes = done .writes }) g ⌝ }
-    ensures { λ _. ⌜ now (clipped .exit) ≡ marked (generatorsOf Of1978) (now (items .entry)) (record { words = now (m .entry); sums = now (s .entry); triggered = now (triggered .entry); places = now (places .entry); reads = done .reads; writes = done .writes }) (now (clipped .entry)) g ⌝ }
-{
-    let unit = generator_at(m, g);
-    if unit.gmode < 128 {
-        return done;
-    }
-    let f = sums::f_at(s, unit.gfm);
-    let on = modes::switches_of(switches, unit.gmode / 64);
-    if on.envelope == 1 {
-        let reads = play(
-            m,
-            s,
-            clipped,
-            triggered,
-            sine,
-            decay,
-            items,
-            done.reads,
-            g,
-            unit,
-            on,
-            f,
-        );
-        return Items {
-            reads,
-            writes: done.writes,
-        };
-    }
-    if on.oscillator == 1 {
-        wait(m, triggered, g, unit, f);
-        return done;
-    }
-    let writes = pass_outputs::send(m, places, done.writes, unit, f);
-    Items {
-        reads: done.reads,
-        writes,
-    }
-}
-
-// One generator is taken.
+// One generator is taken. Its registers are loaded where its way is known: inactive and paused ones are many.
 fn step(
     text: Text,
     m: &mut [u32],
@@ -171,20 +113,41 @@ fn step(
     ensures { λ r. ⌜ record { words = now (m .exit); sums = now (s .exit); triggered = now (triggered .exit); places = now (places .exit); reads = r .reads; writes = r .writes } ≡ step (generatorsOf text) (now (items .entry)) (record { words = now (m .entry); sums = now (s .entry); triggered = now (triggered .entry); places = now (places .entry); reads = done .reads; writes = done .writes }) g ⌝ }
     ensures { λ _. ⌜ now (clipped .exit) ≡ marked (generatorsOf text) (now (items .entry)) (record { words = now (m .entry); sums = now (s .entry); triggered = now (triggered .entry); places = now (places .entry); reads = done .reads; writes = done .writes }) (now (clipped .entry)) g ⌝ }
 {
-    match text {
-        Text::Of1978 => step_1978(
+    let run = texts::run_mode(text, m, g);
+    if run <= modes::PAUSE {
+        return done;
+    }
+    let f = sums::f_at(s, layout::gfm(m, g) % layout::GFM_LIMIT);
+    let on = modes::switches_of(switches, run);
+    if on.envelope == 1 {
+        let reads = play(
+            text,
             m,
             s,
             clipped,
             triggered,
-            switches,
             sine,
             decay,
             items,
-            places,
-            done,
+            done.reads,
             g,
-        ),
+            on,
+            f,
+        );
+        return Items {
+            reads,
+            writes: done.writes,
+        };
+    }
+    if on.oscillator == 1 {
+        wait(text, m, triggered, g, f);
+        return done;
+    }
+    let unit = generator_at(m, g);
+    let writes = pass_outputs::send(text, m, places, done.writes, run, unit, f);
+    Items {
+        reads: done.reads,
+        writes,
     }
 }
 

@@ -98,7 +98,7 @@ module _ (text : Text) (t : ℕ) (h : Held) (s : Sums) where
         by-number q b false e = ap length (other-after q (eqb-false q 2 e)) ∙ k .each q b
 
     -- A word that is neither in sum memory nor the counter is as the modifiers leave it.
-    completed-by : (i : ℕ) → Outside i 3840 256 → i ≢ counterAt → getD (completed text t h s .words) i 0 ≡ getD wordsAfter i 0
+    pub completed-by : (i : ℕ) → Outside i 3840 256 → i ≢ counterAt → getD (completed text t h s .words) i 0 ≡ getD wordsAfter i 0
     unfolding completed counted
     completed-by i o c =
         getD-set-other (closed wordsAfter sumsAfter) counterAt i ((getD (closed wordsAfter sumsAfter) counterAt 0 + 1) % 2 ^ counterBits) 0 c

@@ -12,3 +12,4 @@ pub mod PassDelays
 pub mod PassCounts
 pub mod PassClipped
 pub mod PassesInSequence
+pub mod OldPass

@@ -4,19 +4,17 @@ use mathlib.Core.Path.{_≡_, refl, sym, _∙_, ap}
 use mathlib.Core.Logic.{_≢_}
 use mathlib.Core.Bool.{Bool, true, false, cond}
 use mathlib.Core.List.{[], _∷_}
-use Prim.Native.Nat.{ℕ, suc, _+_, _/_, _%_, _^_, _<_}
+use Prim.Native.Nat.{ℕ, suc, _+_, _%_, _^_, _<_}
 use native.Mathlib.Omega.{arith}
 use native.Mathlib.Nat.{zero-add, add-zero, mod-add-mod}
 use lib.Dec.{eqb, lit<, lit≤}
 use lib.ListN.{length, getD}
-use lib.Seq.{getD-drop}
 use Rattle.words.proofs.Residues.{wrapped}
-use Rattle.layout.specs.Layout.{generatorAt, GN, GMODE, counterAt}
+use Rattle.layout.specs.Layout.{generatorAt, counterAt}
 use Rattle.layout.specs.Widths.{counterBits, lingerBits}
-use Rattle.layout.specs.Machine.{Machine, Order, Items, ticksOf, gmodeAt, lowCounter}
+use Rattle.layout.specs.Machine.{Machine, Order, Items, ticksOf, lowCounter}
 use Rattle.texts.specs.Texts.{runModeAt, distanceOf}
 use Rattle.texts.specs.declared.Text.{Text}
-use Rattle.texts.specs.declared.Text.the-variants.{Of1978, Old}
 use Rattle.modes.specs.Modes.{replaces, readData, writeData}
 use Rattle.modes.proofs.RunModes.{replaces-is}
 use Rattle.machine.specs.Questions.{sound}
@@ -28,10 +26,10 @@ use Rattle.order_lists.specs.Sequences.{keep}
 use Rattle.order_lists.proofs.Entries.{keep-same}
 use Rattle.order_lists.proofs.Orders.{keep-order-same, length-keep}
 use Rattle.generator.specs.declared.Generator.{Generator}
-use Rattle.generator.specs.Generator.{loaded}
-use Rattle.old_modes.proofs.RunModes.{loaded-mode}
 use Rattle.pass_model.specs.Generators.{generatorsOf, State, generatorOf, told, step, steps, begun}
-use Rattle.pass_model.proofs.Keeps.{runOf, turn-keeps}
+use Rattle.generator_turn.specs.GeneratorTurn.{runOf}
+use Rattle.pass_model.proofs.Keeps.{turn-keeps}
+use Rattle.pass_model.proofs.Turns.{run-loaded}
 use Rattle.pass_model.specs.Pass.{Call, passRefusal, passOf}
 use Rattle.pass_laws.proofs.Frames.{apart-other, not-there, step-below, steps-length, steps-beyond, steps-quadrants}
 use Rattle.pass_laws.proofs.TextTurns.{sixteen, same-generator}
@@ -74,9 +72,7 @@ writes-on text items t g = rw (turn-keeps text (t .words) (t .sums) g (told (dis
 
 -- The run mode of a generator of a sound machine.
 pub run-mode-loaded : (text : Text) (m : Machine) → sound text m ≡ true → (g : ℕ) → g < 256 → runOf text (generatorOf m g) ≡ runModeAt text m g
-unfolding generatorOf loaded
-run-mode-loaded Of1978 m e g h = ap (λ (x : ℕ). x / 2 ^ 6) (gmode-loaded Of1978 m e g h)
-run-mode-loaded Old m e g h = rw (getD-drop (generatorAt g) m GMODE 0, getD-drop (generatorAt g) m GN 0) (loaded-mode (gmodeAt m g) (getD m (generatorAt g + GN) 0))
+run-mode-loaded text m e g h = run-loaded text m g (gmode-loaded text m e g h)
 
 module _ (text : Text) (m : Machine) (call : Call) (e : passRefusal text m call ≡ 0) where
   p : Admitted text m (call .order)

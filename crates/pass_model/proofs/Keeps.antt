@@ -26,17 +26,13 @@ use Rattle.sums.proofs.Memory.{word-low}
 use Rattle.generator.specs.declared.Generator.{Generator}
 use Rattle.generator.specs.Generator.{Ranged, runMode, triggers, gmodeAfter, after}
 use Rattle.generator.proofs.Registers.{after-ranged}
+use Rattle.generator_turn.specs.GeneratorTurn.{runOf}
 use Rattle.old_modes.specs.OldModes.{oldRun, oldOscillator, oldOscillators, oldBuiltModes, oldRunMode}
-use Rattle.old_generator.specs.OldGenerator.{switchedMode, switched as asSwitched, withOldRun, oldGmodeAfter, oldAfter}
+use Rattle.old_generator.specs.OldGenerator.{switched as asSwitched, withOldRun, oldGmodeAfter, oldAfter}
 use Rattle.old_generator.proofs.OldTurns.{e-low}
 use Rattle.old_generator.proofs.Registers.{old-after-ranged}
 use Rattle.pass_model.specs.Generators.{Brought, generatorOf, turn1978, turnOld, generatorTurn}
 use Rattle.pass_model.proofs.Puts.{generator-ranged}
-
--- The run mode of a generator by a text.
-abbrev pub runOf : Text → Generator → ℕ
-runOf Of1978 u = runMode u
-runOf Old u = switchedMode u
 
 -- GMODE of generator g in r, as it was in m: the other modes are kept, and the run mode too unless it was 1001 or 1101, when it is one of these.
 pub record ModeKept (text : Text) (m r : Machine) (g : ℕ) : Type 0 where

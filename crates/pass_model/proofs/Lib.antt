@@ -7,3 +7,4 @@ pub mod Asked
 pub mod Turns
 pub mod Clipped
 pub mod Keeps
+pub mod OldModifiers

@@ -10,7 +10,8 @@ use Rattle.layout.specs.Machine.{Machine, Places, Sums}
 use Rattle.modes.specs.Modes.{writeData, writeDAC}
 use Rattle.sums.specs.Sums.{sumAt, putSum}
 use Rattle.generator.specs.declared.Generator.{Generator}
-use Rattle.generator.specs.Generator.{runMode}
+use Rattle.texts.specs.declared.Text.{Text}
+use Rattle.generator_turn.specs.GeneratorTurn.{runOf, sendsOf, dacOf}
 
 -- What is heard in sum memory: P is added, or replaces the word together with a read item.
 unfoldable pub heard : Sums → Bool → ℕ → ℕ → ℕ → Sums
@@ -26,11 +27,11 @@ pub record Sending : Type 0 where
   pub places : Places
   pub writes : ℕ
 
--- A generator with nothing on is taken: it may send F.
-unfoldable pub sent : Sending → Generator → ℕ → Sending
-sent v u f =
+-- A generator with nothing on is taken: it may send.
+unfoldable pub sent : Text → Sending → Generator → ℕ → Sending
+sent text v u f =
     record {
-      words = cond (eqb (runMode u) writeDAC) (set (v .words) (dacAt (u .go % 2 ^ 4)) f) (v .words);
-      places = cond (eqb (runMode u) writeData) (set (v .places) (v .writes) f) (v .places);
-      writes = cond (eqb (runMode u) writeData) (suc (v .writes)) (v .writes);
+      words = cond (eqb (runOf text u) writeDAC) (set (v .words) (dacAt (dacOf text u)) (sendsOf text u f)) (v .words);
+      places = cond (eqb (runOf text u) writeData) (set (v .places) (v .writes) (sendsOf text u f)) (v .places);
+      writes = cond (eqb (runOf text u) writeData) (suc (v .writes)) (v .writes);
     }

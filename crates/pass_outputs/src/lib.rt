@@ -5,7 +5,9 @@ ghost use lib.Dec.{eqb};
 ghost use Prim.Native.Nat.{_+_, _<_, _^_};
 ghost use lib.ListN.{getD, set};
 ghost use Rattle.layout.specs.Machine.{Reaches};
+ghost use Rattle.generator.specs.Generator.{Ranged};
 ghost use Rattle.texts.specs.Texts.{distanceOf};
+ghost use Rattle.generator_turn.specs.GeneratorTurn.{runOf};
 ghost use Rattle.pass_model.specs.Generators.{told};
 ghost use Rattle.pass_model.specs.Clipped.{markedAt};
 ghost use Rattle.pass_outputs.specs.Outputs.{heard, heardLeaves, sent};
@@ -77,20 +79,28 @@ pub fn hear(
     reads + 1
 }
 
-// A generator with nothing on is taken: 0010 feeds its DAC, 0011 writes an item. The answer is how many items were written.
-pub fn send(m: &mut [u32], places: &mut [u32], writes: usize, unit: Generator, f: u32) -> usize
+// A generator with nothing on is taken, by its run mode: 0010 feeds its DAC, 0011 writes an item. The answer is how many items were written.
+pub fn send(
+    text: Text,
+    m: &mut [u32],
+    places: &mut [u32],
+    writes: usize,
+    run: u32,
+    unit: Generator,
+    f: u32,
+) -> usize
     requires { ⌜ Reaches (now m) ⌝ }
-    requires { ⌜ writes < 256 ⌝ }
-    ensures { λ r. ⌜ record { words = now (m .exit); places = now (places .exit); writes = r } ≡ sent (record { words = now (m .entry); places = now (places .entry); writes = writes }) unit f ⌝ }
+    requires { ⌜ Ranged unit ⌝ }
+    requires { ⌜ (run ≡ runOf text unit) × (f < 2 ^ 20) × (writes < 256) ⌝ }
+    ensures { λ r. ⌜ record { words = now (m .exit); places = now (places .exit); writes = r } ≡ sent text (record { words = now (m .entry); places = now (places .entry); writes = writes }) unit f ⌝ }
 {
-    let run = unit.gmode / 64;
     if run == modes::WRITE_DAC {
-        let at = layout::DACS_AT + (unit.go % 16) as usize;
-        m[at] = f;
+        let at = layout::DACS_AT + layout::wide(generator_turn::dac(text, unit));
+        m[at] = generator_turn::sends(text, unit, f);
         return writes;
     }
     if run == modes::WRITE_DATA {
-        guarded::put(places, writes, f);
+        guarded::put(places, writes, generator_turn::sends(text, unit, f));
         return writes + 1;
     }
     writes

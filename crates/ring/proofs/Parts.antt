@@ -12,16 +12,16 @@ use Rattle.bench_ringing.specs.Steps.{Ringing}
 use Rattle.bench_gathering.specs.Gathering.{gathered}
 use Rattle.bench_gathering.proofs.Gatherings.{gathered-length, gathered-falls}
 use Rattle.bench_ringing.specs.declared.Output.the-variants.{Lines}
-use Rattle.texts.specs.declared.Text.the-variants.{Of1978}
+use Rattle.texts.specs.declared.Text.{Text}
 
 -- What was put into a buffer has room in it.
 put-within : (line bytes : List ℕ) {size : ℕ} {after : List ℕ} → length bytes ≤ length line → size ≡ length bytes → after ≡ sets line 0 bytes → size ≤ length after
 put-within line bytes h es ea = omega (arith, es, ap length ea, length-sets line 0 bytes)
 
-pub gathered-within : (out : List ℕ) (r : Ringing) {size : ℕ} {after : List ℕ} → size ≡ length (gathered Of1978 Lines (length out) r .bytes)
-    → after ≡ sets out 0 (gathered Of1978 Lines (length out) r .bytes) → size ≤ length after
-gathered-within out r es ea = put-within out (gathered Of1978 Lines (length out) r .bytes) (gathered-length Of1978 Lines (length out) r) es ea
+pub gathered-within : (text : Text) (out : List ℕ) (r : Ringing) {size : ℕ} {after : List ℕ} → size ≡ length (gathered text Lines (length out) r .bytes)
+    → after ≡ sets out 0 (gathered text Lines (length out) r .bytes) → size ≤ length after
+gathered-within text out r es ea = put-within out (gathered text Lines (length out) r .bytes) (gathered-length text Lines (length out) r) es ea
 
 -- Each part leaves fewer passes.
-pub part-falls : (r : Ringing) {next : Ringing} → r .passes ≢ 0 → next ≡ gathered Of1978 Lines 65536 r .next → next .passes < r .passes
-part-falls r n e = rw e (gathered-falls Of1978 Lines 65536 r (lit≤ tt) n)
+pub part-falls : (text : Text) (r : Ringing) {next : Ringing} → r .passes ≢ 0 → next ≡ gathered text Lines 65536 r .next → next .passes < r .passes
+part-falls text r n e = rw e (gathered-falls text Lines 65536 r (lit≤ tt) n)

@@ -4,7 +4,6 @@ ghost use mathlib.Core.Path.{_≡_};
 ghost use Rattle.bench_ringing.specs.Steps.{ringingAt};
 ghost use Rattle.bench_ringing.specs.declared.Output.the-variants.{Lines};
 ghost use Rattle.bench_gathering.specs.Gathering.{gathered};
-ghost use Rattle.texts.specs.declared.Text.the-variants.{Of1978};
 use bench_ringing::Output;
 use bench_ringing::Progress;
 use bench_streams::Input;
@@ -23,26 +22,18 @@ struct Part {
 }
 
 // Rings as many passes as the buffer has room for, and prints them; says whether they were written.
-fn ring_part(at: Progress, m: &mut [u32], commands: &[u32], memory: &mut [u32]) -> Part
-    ensures { λ r. ⌜ ringingAt (r .next) (now (m .exit)) (now (memory .exit)) (now (commands .entry)) ≡ gathered Of1978 Lines 65536 (ringingAt at (now (m .entry)) (now (memory .entry)) (now (commands .entry))) .next ⌝ }
+fn ring_part(text: Text, at: Progress, m: &mut [u32], commands: &[u32], memory: &mut [u32]) -> Part
+    ensures { λ r. ⌜ ringingAt (r .next) (now (m .exit)) (now (memory .exit)) (now (commands .entry)) ≡ gathered text Lines 65536 (ringingAt at (now (m .entry)) (now (memory .entry)) (now (commands .entry))) .next ⌝ }
 {
     let mut out = [0u8; OUTPUT_BYTES];
-    let next = bench_gathering::gather(
-        Text::Of1978,
-        Output::Lines,
-        at,
-        m,
-        commands,
-        memory,
-        &mut out,
-    );
+    let next = bench_gathering::gather(text, Output::Lines, at, m, commands, memory, &mut out);
     let length = next.length;
     let written = io::write_all(STDOUT_FILENO, &out[0..length]);
     Part { next, written }
 }
 
 // Rings until no pass is left or a write fails; says whether all was written.
-fn ring_all(m: &mut [u32], commands: &[u32], memory: &mut [u32], passes: u32) -> bool {
+fn ring_all(text: Text, m: &mut [u32], commands: &[u32], memory: &mut [u32], passes: u32) -> bool {
     let mut at = Progress {
         passes,
         taken: 0,
@@ -50,7 +41,7 @@ fn ring_all(m: &mut [u32], commands: &[u32], memory: &mut [u32], passes: u32) ->
         refused: 0,
     };
     while at.passes != 0 {
-        let part = ring_part(at, m, commands, memory);
+        let part = ring_part(text, at, m, commands, memory);
         if !part.written {
             return false;
         }
@@ -70,7 +61,8 @@ fn ring(file: &[u8]) -> bool {
         return bench_streams::refuse(STDOUT_FILENO, reading.number);
     }
     let count = reading.count;
-    ring_all(&mut m, &room[0..count], &mut memory, reading.passes)
+    let text = reading.text;
+    ring_all(text, &mut m, &room[0..count], &mut memory, reading.passes)
 }
 
 // One byte more than a file may have is read, so that a longer one is told apart.

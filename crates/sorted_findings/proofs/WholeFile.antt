@@ -2,11 +2,13 @@
 -- Assumes nothing.
 use mathlib.Core.Path.{_≡_, refl, sym, ap, _∙_}
 use mathlib.Core.Logic.{_≢_}
-use mathlib.Core.Bool.{Bool, true, false, cond}
+use mathlib.Core.Bool.{Bool, true, false}
 use mathlib.Core.List.{List}
 use Prim.Native.Nat.{ℕ, _-_, _≤_}
 use native.Mathlib.Omega.{arith}
 use native.Mathlib.Nat.{sub-zero}
+use borrow.Author.Tests.{eq-eqb, ne-eqb}
+use lib.Dec.{eqb}
 use lib.ListN.{length, take, replicate, length-replicate}
 use lib.Seq.{sets, length-sets}
 use Rattle.lists.specs.Lists.{zeros}
@@ -15,7 +17,6 @@ use Rattle.lists.proofs.Zeros.{zeros-length}
 use Rattle.layout.specs.Layout.{generators}
 use Rattle.layout.specs.Machine.{Machine, Order, ticksOf}
 use Rattle.texts.specs.declared.Text.{Text}
-use Rattle.texts.specs.declared.Text.the-variants.{Of1978}
 use Rattle.order_pitch.specs.Pitch.{byPitch}
 use Rattle.order_pitch.proofs.Sorted.{by-pitch-sorted}
 use Rattle.order_file.specs.OrderFile.{Answer, isOrderFile, orderOf, noOrderFile, readOf}
@@ -23,7 +24,8 @@ use Rattle.order_file.proofs.Answers.{number-zero, number-nine, count-within, e
 use Rattle.bench_bytes.proofs.Puts.{first-part}
 use Rattle.bench_text.specs.Text.{refusalLine}
 use Rattle.bench_text.proofs.Lines.{refusal-line-length}
-use Rattle.bench_file.specs.BenchFile.{fileOf, isBenchFile, Answer as FileAnswer, readOf as fileReadOf}
+use Rattle.bench_file.specs.BenchFile.{fileOf, textOf, fileRefusal, Answer as FileAnswer, readOf as fileReadOf}
+use Rattle.bench_file.proofs.WholeFile.{read-number}
 use Rattle.sorted_lines.specs.SortedLines.{orderRefusalLine}
 use Rattle.sorted_lines.proofs.Lines.{order-refusal-line-length}
 use Rattle.sorted_findings.specs.Findings.{comparedLines, byFileLines, findingsOf, findingsRoom}
@@ -68,52 +70,46 @@ module _ (text : Text) (m : Machine) (file : List ℕ) {a : Answer} (read : a �
 
 -- A bench file.
 module _ (file m room : List ℕ) {a : FileAnswer} (read : a ≡ fileReadOf file m room) where
-  good : isBenchFile file ≡ true → (a .number ≡ 0) × (a .machine ≡ fileOf file .machine)
-  unfolding fileReadOf
-  good e = rw (read, e) (refl, refl)
+  number-is : a .number ≡ fileRefusal file
+  number-is = ap (λ (b : FileAnswer). b .number) read ∙ read-number file m room
 
-  bad : isBenchFile file ≡ false → a .number ≡ 9
+  good : fileRefusal file ≡ 0 → (a .text ≡ textOf (fileOf file .title)) × (a .machine ≡ fileOf file .machine)
   unfolding fileReadOf
-  bad e = rw (read, e)
+  good e = rw (read, eq-eqb (fileRefusal file) 0 e) (refl, refl)
 
   pub bench-refused : a .number ≢ 0 → (given : Bool) (orderFile : List ℕ) → findingsOf file given orderFile ≡ refusalLine (a .number)
   unfolding findingsOf
-  bench-refused h given orderFile = go (isBenchFile file) refl
-    where
-      go : (b : Bool) → isBenchFile file ≡ b
-          → cond b (cond given (byFileLines Of1978 (fileOf file .machine) orderFile) (comparedLines Of1978 (fileOf file .machine) (byPitch (fileOf file .machine)))) (refusalLine 9)
-          ≡ refusalLine (a .number)
-      go true e = absurd (h (good e .0))
-      go false e = ap refusalLine (sym (bad e))
+  bench-refused h given orderFile = rw (← number-is, ne-eqb (a .number) 0 h)
 
   module _ (z : a .number ≡ 0) where
-    is-good : isBenchFile file ≡ true
-    is-good = go (isBenchFile file) refl
-      where
-        go : (b : Bool) → isBenchFile file ≡ b → b ≡ true
-        go true e = refl
-        go false e = absurd (omega (arith, bad e, z))
+    none : eqb (fileRefusal file) 0 ≡ true
+    none = eq-eqb (fileRefusal file) 0 (sym number-is ∙ z)
 
-    pub bench-given : {given : Bool} → given ≡ true → (orderFile : List ℕ) → findingsOf file given orderFile ≡ byFileLines Of1978 (a .machine) orderFile
-    unfolding findingsOf
-    bench-given e orderFile = rw (is-good, e, good is-good .1)
+    as-read : (a .text ≡ textOf (fileOf file .title)) × (a .machine ≡ fileOf file .machine)
+    as-read = good (sym number-is ∙ z)
 
-    pub bench-sorted : {given : Bool} → given ≡ false → (orderFile : List ℕ) → findingsOf file given orderFile ≡ comparedLines Of1978 (a .machine) (byPitch (a .machine))
+    pub bench-given : {given : Bool} → given ≡ true → (orderFile : List ℕ) → findingsOf file given orderFile ≡ byFileLines (a .text) (a .machine) orderFile
     unfolding findingsOf
-    bench-sorted e orderFile = rw (is-good, e, good is-good .1)
+    bench-given e orderFile = rw (none, e, as-read .0, as-read .1)
+
+    pub bench-sorted : {given : Bool} → given ≡ false → (orderFile : List ℕ) → findingsOf file given orderFile ≡ comparedLines (a .text) (a .machine) (byPitch (a .machine))
+    unfolding findingsOf
+    bench-sorted e orderFile = rw (none, e, as-read .0, as-read .1)
 
 -- All that is printed has room in its buffer.
-by-file-length : (m : Machine) (file : List ℕ) → length (byFileLines Of1978 m file) ≤ findingsRoom
+by-file-length : (text : Text) (m : Machine) (file : List ℕ) → length (byFileLines text m file) ≤ findingsRoom
 unfolding byFileLines
-by-file-length m file =
-    of-cond (λ (l : List ℕ). length l ≤ findingsRoom) (isOrderFile file) (compared-length Of1978 m (orderOf file)) (omega (arith, order-refusal-line-length 9))
+by-file-length text m file =
+    of-cond (λ (l : List ℕ). length l ≤ findingsRoom) (isOrderFile file) (compared-length text m (orderOf file)) (omega (arith, order-refusal-line-length 9))
 
 findings-length : (file : List ℕ) (given : Bool) (order : List ℕ) → length (findingsOf file given order) ≤ findingsRoom
 unfolding findingsOf
 findings-length file given order =
     let m = fileOf file .machine in
-    of-cond (λ (l : List ℕ). length l ≤ findingsRoom) (isBenchFile file)
-    (of-cond (λ (l : List ℕ). length l ≤ findingsRoom) given (by-file-length m order) (compared-length Of1978 m (byPitch m))) (omega (arith, refusal-line-length 9))
+    let text = textOf (fileOf file .title) in
+    of-cond (λ (l : List ℕ). length l ≤ findingsRoom) (eqb (fileRefusal file) 0)
+    (of-cond (λ (l : List ℕ). length l ≤ findingsRoom) given (by-file-length text m order) (compared-length text m (byPitch m)))
+    (omega (arith, refusal-line-length (fileRefusal file)))
 
 pub findings-within : (file : List ℕ) (given : Bool) (order out : List ℕ) {size : ℕ} {after : List ℕ} → length out ≡ findingsRoom
     → (size ≡ length (findingsOf file given order)) × (after ≡ sets out 0 (findingsOf file given order)) → size ≤ length after

@@ -8,14 +8,13 @@ use Rattle.lists.specs.Lists.{zeros}
 use Rattle.layout.specs.Layout.{machineLength, generators}
 use Rattle.layout.specs.Machine.{Machine, Order, ticksOf}
 use Rattle.texts.specs.declared.Text.{Text}
-use Rattle.texts.specs.declared.Text.the-variants.{Of1978}
 use Rattle.order_lists.specs.Sequences.{byNumber}
 use Rattle.order_pitch.specs.Pitch.{byPitch}
 use Rattle.order_file.specs.OrderFile.{isOrderFile, orderOf}
 use Rattle.parts.specs.Parts.{Parting, partsOf}
 use Rattle.parts_shown.specs.Shown.{differenceShown}
 use Rattle.bench_text.specs.Text.{lineBytes, refusalLine}
-use Rattle.bench_file.specs.BenchFile.{fileOf, isBenchFile}
+use Rattle.bench_file.specs.BenchFile.{fileOf, textOf, fileRefusal}
 use Rattle.sorted_lines.specs.SortedLines.{orderLines, equalLine, failingLine, orderRefusalLine, entryBytes}
 
 -- What parts the order by number from a second one. The run and the read list for the contents are zeros, and long enough.
@@ -37,11 +36,14 @@ comparedLines text m order =
 unfoldable pub byFileLines : Text → Machine → List ℕ → List ℕ
 byFileLines text m orderFile = cond (isOrderFile orderFile) (comparedLines text m (orderOf orderFile)) (orderRefusalLine 9)
 
--- What is printed: question 9 of the bench file; then what its machine, before any command, gives with an order file if there is one, else with the order by pitch.
+-- What is printed: the questions of the bench file; then what its machine, before any command, gives by the file's text with an order file if there is one, else with the order by pitch.
 unfoldable pub findingsOf : List ℕ → Bool → List ℕ → List ℕ
 findingsOf file given orderFile =
-    let m = fileOf file .machine in
-    cond (isBenchFile file) (cond given (byFileLines Of1978 m orderFile) (comparedLines Of1978 m (byPitch m))) (refusalLine 9)
+    let reading = fileOf file in
+    let text = textOf (reading .title) in
+    let m = reading .machine in
+    let number = fileRefusal file in
+    cond (eqb number 0) (cond given (byFileLines text m orderFile) (comparedLines text m (byPitch m))) (refusalLine number)
 
 -- The room for all that is printed: the lines of an order of 256 entries, and one line more.
 abbrev pub findingsRoom : ℕ

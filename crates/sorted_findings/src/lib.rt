@@ -159,8 +159,9 @@ pub fn findings(file: &[u8], given: bool, order: &[u8], out: &mut [u8; FINDINGS_
     if reading.number != 0 {
         return put_refusal(reading.number, out);
     }
+    let text = reading.text;
     if given {
-        return by_file(Text::Of1978, &m, order, out);
+        return by_file(text, &m, order, out);
     }
-    by_pitch(Text::Of1978, &m, out)
+    by_pitch(text, &m, out)
 }

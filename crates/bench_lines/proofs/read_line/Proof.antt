@@ -2,7 +2,7 @@
 -- Assumes nothing.
 use mathlib.Core.Path.{sym, _∙_}
 use Rattle.bench_bytes.proofs.Searches.{starts-long}
-use Rattle.bench_lines.specs.Lines.{passesStart, wordStart, commandStart}
+use Rattle.bench_lines.specs.Lines.{passesStart, wordStart, commandStart, textStart}
 use Rattle.bench_lines.proofs.LineKinds as kinds
 use borrow.Author.Needs.{needs}
 use Rattle.bench_lines.proofs.read_line.Statement.{statement}
@@ -54,9 +54,33 @@ returns-3 c =
     (c .before .after3 .ensures)
     (c .command .ensures)
 
+after-requires-4 : tie.Need-after-requires-4
+after-requires-4 c κs = starts-long _ textStart (sym (c .before .starts4 .ensures) ∙ c .if4 .taken)
+
 returns-4 : tie.Need-returns-4
 returns-4 c =
-    let else2 = c .before .before .before .before in
+    let then4 = c .before .before in
+    let else3 = then4 .before .before .before .before in
+    let else2 = else3 .before .before .before .before in
+    let else1 = else2 .before .before .before .before in
+    let a = else1 .before .before .before .before .before .args in
+    kinds.line-titled
+    (a .file .now)
+    (else1 .before .starts .ensures)
+    (else1 .if1 .left)
+    (else2 .before .starts2 .ensures)
+    (else2 .if2 .left)
+    (else3 .before .starts3 .ensures)
+    (else3 .if3 .left)
+    (then4 .before .starts4 .ensures)
+    (then4 .if4 .taken)
+    (c .before .after4 .ensures)
+    (c .titled .ensures)
+
+returns-5 : tie.Need-returns-5
+returns-5 c =
+    let else3 = c .before .before .before .before in
+    let else2 = else3 .before .before .before .before in
     let else1 = else2 .before .before .before .before in
     let a = else1 .before .before .before .before .before .args in
     kinds.line-other
@@ -65,12 +89,14 @@ returns-4 c =
     (else1 .if1 .left)
     (else2 .before .starts2 .ensures)
     (else2 .if2 .left)
-    (c .before .starts3 .ensures)
-    (c .if3 .left)
+    (else3 .before .starts3 .ensures)
+    (else3 .if3 .left)
+    (c .before .starts4 .ensures)
+    (c .if4 .left)
 
 pub read-line-spec : {M : Type 1} → statement M
 read-line-spec =
     tie.close
     (tie.spec (λ c κs. search needs) after-requires (λ c κs. search needs) returns (λ c κs. search needs)
     after-requires-2 (λ c κs. search needs) returns-2 (λ c κs. search needs) after-requires-3 (λ c κs. search needs)
-    returns-3 returns-4)
+    returns-3 (λ c κs. search needs) after-requires-4 (λ c κs. search needs) returns-4 returns-5)

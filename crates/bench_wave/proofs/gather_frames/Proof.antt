@@ -12,7 +12,7 @@ returns c =
     let known = called .before .before .before .before in
     let start = known .before .before .before .before in
     let a = start .args in
-    behind-header (a .out .now) (ringingAt (a .at) (a .m .now) (a .memory .now) (a .commands .now)) (start .pre) (called .gather .ensures .0) (called .gather .ensures .1 .0) (called .gather .ensures .1 .1 .0)
+    behind-header (a .text) (a .out .now) (ringingAt (a .at) (a .m .now) (a .memory .now) (a .commands .now)) (start .pre) (called .gather .ensures .0) (called .gather .ensures .1 .0) (called .gather .ensures .1 .1 .0)
 
 pub gather-frames-spec : {M : Type 1} → statement M
 gather-frames-spec =

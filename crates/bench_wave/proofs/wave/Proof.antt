@@ -1,4 +1,4 @@
--- `bench_wave::wave` meets its contract: a file is refused by 9, by question 2, or rung.
+-- `bench_wave::wave` meets its contract: a file is refused by 9 or 13, by question 2, or rung.
 -- Assumes nothing.
 use mathlib.Core.Path.{sym, _∙_}
 use mathlib.Core.List.{[]}

@@ -8,10 +8,10 @@ use Rattle.parts_contents.proofs.items.Tie as tie
 
 returns : tie.Need-returns
 returns c =
-    let numbered = c .before .before in
-    let chosen = numbered .before .before in
+    let counted = c .before .before in
+    let chosen = counted .before .before in
     let a = chosen .before .before .args in
-    numbered .number .ensures ∙ items-count (a .point) (a .s) (a .n) (a .run .now) (chosen .if1 .taken)
+    counted .count .ensures ∙ items-count (a .point) (a .s) (a .n) (a .run .now) (chosen .if1 .taken)
 
 returns-2 : tie.Need-returns-2
 returns-2 c =

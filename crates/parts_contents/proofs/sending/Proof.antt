@@ -1,20 +1,24 @@
--- `parts_contents::sending` meets its contract: both last quadrants are numbered, one after the other.
+-- `parts_contents::sending` meets its contract: by the text.
 -- Assumes nothing.
 use borrow.Author.Needs.{needs}
-use Rattle.texts.proofs.One.{one}
-use Rattle.parts_contents.proofs.Filling.{sends}
+use Rattle.order_contents.specs.Contents.{sendingContents}
 use Rattle.parts_contents.proofs.sending.Statement.{statement}
 use Rattle.parts_contents.proofs.sending.Tie as tie
 
 returns : tie.Need-returns
+unfolding sendingContents
 returns c =
-    let second = c .before .before in
-    let first = second .before .before .before .before in
-    let inactive = first .before .before .before .before in
-    let a = inactive .before .before .before .before .args in
-    rw (one (a .text)) (sends (a .m .now) (inactive .inactive .ensures) (first .number .ensures) (second .number2 .ensures))
+    let done = c .before .before in
+    rw (done .before .before .enum-told .given .1) (done .numbered-last .ensures)
+
+returns-2 : tie.Need-returns-2
+unfolding sendingContents
+returns-2 c =
+    let done = c .before .before in
+    rw (done .before .before .enum-told2 .given .1) (done .own-numbers .ensures)
 
 pub sending-spec : {M : Type 1} → statement M
 sending-spec =
     tie.close
-    (tie.spec (λ c κs. search needs) (λ c κs. search needs) (λ c κs. search needs) (λ c. search needs) returns)
+    (tie.spec (λ c. search needs) (λ c κs. search needs) (λ c. search needs) (λ c κs. search needs) (λ c. search needs)
+    returns (λ c. search needs) returns-2)

@@ -10,13 +10,13 @@ returns : tie.Need-returns
 returns c =
     let silent = c .before in
     let a = silent .before .before .before .args in
-    sounds-here (a .m .now) (a .s) (a .g) (silent .silent-level .ensures .0) (c .if1 .taken)
+    sounds-here (a .text) (a .m .now) (a .s) (a .g) (silent .silent-level .ensures .0) (c .if1 .taken)
 
 returns-2 : tie.Need-returns-2
 returns-2 c =
     let silent = c .before in
     let a = silent .before .before .before .args in
-    silent-here (a .m .now) (a .s) (a .g) (silent .silent-level .ensures .0) (silent .silent-level .ensures .1) (c .if1 .left)
+    silent-here (a .text) (a .m .now) (a .s) (a .g) (silent .silent-level .ensures .0) (silent .silent-level .ensures .1) (c .if1 .left)
 
 pub level-spec : {M : Type 1} → statement M
 level-spec =

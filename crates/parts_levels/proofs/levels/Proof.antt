@@ -12,15 +12,15 @@ use Rattle.parts_levels.proofs.levels.Statement.{statement}
 use Rattle.parts_levels.proofs.levels.Tie as tie
 
 abbrev Inv-loop : tie.InvT-loop
-Inv-loop m s run₀ g₀ run g = (g ≤ generators) × (run ≡ filled GL generatorWords g (soundingLevel m s) run₀) × (length run ≡ length run₀)
+Inv-loop text m s run₀ g₀ run g = (g ≤ generators) × (run ≡ filled GL generatorWords g (soundingLevel text m s) run₀) × (length run ≡ length run₀)
 
 abbrev μ-loop : tie.MeasureT-loop
-μ-loop m s run₀ g₀ run g = generators - g
+μ-loop text m s run₀ g₀ run g = generators - g
 
 loop-holds : tie.Need-loop-holds Inv-loop μ-loop
 loop-holds c =
     let a = c .before .before .args in
-    (omega arith, filled-none GL generatorWords (soundingLevel (a .m .now) (a .s)) (a .run .now), refl)
+    (omega arith, filled-none GL generatorWords (soundingLevel (a .text) (a .m .now) (a .s)) (a .run .now), refl)
 
 level-requires : tie.Need-level-requires Inv-loop μ-loop
 level-requires c κs =
@@ -42,7 +42,7 @@ loop-again c =
     let z = c .before .before in
     let a = z .before .before .before .args in (
       omega arith,
-      rw (c .level .ensures) (filled-next GL generatorWords (z .loop .g) (soundingLevel (a .m .now) (a .s)) (a .run .now) (z .loop .inv .1)),
+      rw (c .level .ensures) (filled-next GL generatorWords (z .loop .g) (soundingLevel (a .text) (a .m .now) (a .s)) (a .run .now) (z .loop .inv .1)),
       length-set (z .loop .run) (GL + generatorWords * z .loop .g) _ ∙ z .loop .inv .2,
     )
 

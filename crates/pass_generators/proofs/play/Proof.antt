@@ -1,30 +1,39 @@
 -- `play` meets its contract: what the generator brings is put back, marked and heard.
-use Rattle.generator.specs.Generator.{soundedOf}
-use Rattle.generator.proofs.Registers.{p-low}
+use Rattle.generator_turn.proofs.Turns.{sounded-p-low}
+use Rattle.pass_model.proofs.Puts.{generator-ranged}
 use Rattle.pass_generators.proofs.Steps.{sounds-by}
 use borrow.Author.Needs.{needs}
 use Rattle.pass_generators.proofs.play.Statement.{statement}
 use Rattle.pass_generators.proofs.play.Tie as tie
 
+play-requires : tie.Need-play-requires
+play-requires c κs =
+    let start = c .before .before .before .before in
+    let is-unit = c .generator-at .ensures in
+    (rw is-unit (generator-ranged _ _), (start .pre .1 .0, (rw is-unit (start .pre .1 .1 .0), start .pre .1 .1 .1 .0)))
+
 hear-requires : tie.Need-hear-requires
-unfolding soundedOf
 hear-requires c κs =
     let mark = c .before .before in
     let put = mark .before .before .before .before in
     let played = put .before .before .before in
-    let start = played .before .before .before in
-    (start .pre .1 .0 .gsum-low, rw (played .play .ensures) (p-low _ _), start .pre .1 .1 .1 .1 .2)
+    let unit = played .before in
+    let start = unit .before .before .before .before in
+    (rw (unit .generator-at .ensures) (generator-ranged _ _ .gsum-low), rw (played .play .ensures) (sounded-p-low (start .args .text) (unit .generator-at .result) (start .args .f)), start .pre .1 .1 .1 .2)
 
 returns : tie.Need-returns
 returns c =
     let mark = c .before .before .before in
     let put = mark .before .before .before .before in
     let played = put .before .before .before in
-    let start = played .before .before .before in
-    sounds-by _ _ _ _ _ (start .pre .1 .1 .1 .0 .0) (played .play .ensures) (put .put-generator-at .ensures) (mark .mark .ensures) (c .hear .ensures)
+    let unit = played .before in
+    let start = unit .before .before .before .before in
+    let on = rw (← (unit .generator-at .ensures)) at (start .pre .1 .1 .0 .0) in
+    rw (← (unit .generator-at .ensures))
+    (sounds-by _ _ _ _ _ _ on (played .play .ensures) (put .put-generator-at .ensures) (mark .mark .ensures) (c .hear .ensures))
 
 pub play-spec : {M : Type 1} → statement M
 play-spec =
     tie.close
-    (tie.spec (λ c κs. search needs) (λ c κs. search needs) (λ c κs. search needs) hear-requires (λ c. search needs)
-    returns)
+    (tie.spec (λ c κs. search needs) play-requires (λ c κs. search needs) (λ c κs. search needs) hear-requires
+    (λ c. search needs) returns)

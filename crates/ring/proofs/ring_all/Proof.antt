@@ -9,10 +9,10 @@ use Rattle.ring.proofs.ring_all.Statement.{statement}
 use Rattle.ring.proofs.ring_all.Tie as tie
 
 abbrev Inv-loop : tie.InvT-loop
-Inv-loop m₀ commands memory₀ passes at₀ m memory at = (length m ≡ length m₀) × (length memory ≡ length memory₀)
+Inv-loop text m₀ commands memory₀ passes at₀ m memory at = (length m ≡ length m₀) × (length memory ≡ length memory₀)
 
 abbrev μ-loop : tie.MeasureT-loop
-μ-loop m₀ commands memory₀ passes at₀ m memory at = at .passes
+μ-loop text m₀ commands memory₀ passes at₀ m memory at = at .passes
 
 loop-holds : tie.Need-loop-holds Inv-loop μ-loop
 loop-holds c = (refl, refl)
@@ -20,12 +20,12 @@ loop-holds c = (refl, refl)
 same-length : tie.Need-same-length Inv-loop μ-loop
 same-length c =
     let part = c .before .before .before .before .before .before in
-    part .ring-part .kept .1 .0 ∙ part .before .before .before .before .before .loop .inv .0
+    part .ring-part .kept .1 .1 .0 ∙ part .before .before .before .before .before .loop .inv .0
 
 same-length-2 : tie.Need-same-length-2 Inv-loop μ-loop
 same-length-2 c =
     let part = c .before .before .before .before .before .before in
-    part .ring-part .kept .1 .1 .1 .0 ∙ part .before .before .before .before .before .loop .inv .1
+    part .ring-part .kept .1 .1 .1 .1 .0 ∙ part .before .before .before .before .before .loop .inv .1
 
 loop-less : tie.Need-loop-less Inv-loop μ-loop
 loop-less c =
@@ -33,14 +33,14 @@ loop-less c =
     let part = next .before .before .before .before .before .before in
     let test = part .before .before .before in
     let turn = test .before .before in
-    part-falls (ringingAt (turn .loop .at) (turn .loop .m) (turn .loop .memory) (turn .before .before .before .before .args .commands .now)) (test .if1 .taken) (part .ring-part .ensures)
+    part-falls (turn .before .before .before .before .args .text) (ringingAt (turn .loop .at) (turn .loop .m) (turn .loop .memory) (turn .before .before .before .before .args .commands .now)) (test .if1 .taken) (part .ring-part .ensures)
 
 loop-again : tie.Need-loop-again Inv-loop μ-loop
 loop-again c =
     let next = c .before in
     let part = next .before .before .before .before .before .before in
     let turn = part .before .before .before .before .before in
-    (part .ring-part .kept .1 .0 ∙ turn .loop .inv .0, part .ring-part .kept .1 .1 .1 .0 ∙ turn .loop .inv .1)
+    (part .ring-part .kept .1 .1 .0 ∙ turn .loop .inv .0, part .ring-part .kept .1 .1 .1 .1 .0 ∙ turn .loop .inv .1)
 
 pub ring-all-spec : {M : Type 1} → statement M
 ring-all-spec =

@@ -12,7 +12,7 @@ part-write-all-end c =
     let part = c .before .before .before .before .before .before in
     let known = part .before .before .before .before in
     let a = known .before .before .before .args in
-    gathered-within (replicate 65536 0) (ringingAt (a .at) (a .m .now) (a .memory .now) (a .commands .now)) (part .gather .ensures .0) (part .gather .ensures .1 .0)
+    gathered-within (a .text) (replicate 65536 0) (ringingAt (a .at) (a .m .now) (a .memory .now) (a .commands .now)) (part .gather .ensures .0) (part .gather .ensures .1 .0)
 
 pub ring-part-spec : {M : Type 1} → statement M
 ring-part-spec =

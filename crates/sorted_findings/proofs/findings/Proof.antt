@@ -1,4 +1,4 @@
--- `sorted_findings::findings` meets its contract: a file that is no bench file, an order file, or the order by pitch.
+-- `sorted_findings::findings` meets its contract: a refused file, an order file, or the order by pitch.
 -- Assumes nothing.
 use Prim.Native.Nat.{ℕ}
 use lib.ListN.{replicate, length-replicate}
