@@ -91,9 +91,9 @@ module _ (m : Machine) (whole : length m ≡ machineLength) (good : sound Of1978
           let low : getD m (generatorAt g + GO) 0 < 1048576 = rw at (sound-generator Of1978 m good g l .go) in
           let h = ltb-true v 16 e in
           sym (
-            register-decides (generatorAt g + GO) (getD m (generatorAt g + GO) 0 / 16 * 16 + v) (omega arith)
-                ∙ go-test g l (getD m (generatorAt g + GO) 0 / 16 * 16 + v)
-                ∙ lt-ltb (getD m (generatorAt g + GO) 0 / 16 * 16 + v) 1048576 (omega (arith, low, h))
+          register-decides (generatorAt g + GO) (getD m (generatorAt g + GO) 0 / 16 * 16 + v) (omega arith)
+          ∙ go-test g l (getD m (generatorAt g + GO) 0 / 16 * 16 + v)
+          ∙ lt-ltb (getD m (generatorAt g + GO) 0 / 16 * 16 + v) 1048576 (omega (arith, low, h))
           )
       go false e = refl
 
@@ -108,14 +108,14 @@ module _ (m : Machine) (whole : length m ≡ machineLength) (good : sound Of1978
         go : (a : Bool) → eqb kind gmodeChange ≡ a → (b : Bool) → eqb kind gsumChange ≡ b → (d : Bool) → eqb kind gfmChange ≡ d
             → cond a (goodGmode Of1978 v) (cond b (bits 6 v) (cond d (bits 7 v) (ltb v 16)))
             ≡ (
-              cond (eqb kind dacChange) (ltb v 16) true
-              && sound Of1978
-              (
-                cond a (set m (generatorAt g + GMODE) v)
-                (cond b (set m (generatorAt g + GSUM) v)
-                (cond d (set m (generatorAt g + GFM) v)
-                (set m (generatorAt g + GO) (getD m (generatorAt g + GO) 0 / 16 * 16 + v))))
-              )
+            cond (eqb kind dacChange) (ltb v 16) true
+            && sound Of1978
+            (
+            cond a (set m (generatorAt g + GMODE) v)
+            (cond b (set m (generatorAt g + GSUM) v)
+            (cond d (set m (generatorAt g + GFM) v)
+            (set m (generatorAt g + GO) (getD m (generatorAt g + GO) 0 / 16 * 16 + v))))
+            )
             )
         go true p b q d r =
             rw (ne-eqb kind dacChange (λ e. omega (arith, eqb-true kind gmodeChange p, e)))
@@ -148,8 +148,8 @@ module _ (m : Machine) (whole : length m ≡ machineLength) (good : sound Of1978
         go : (a : Bool) → eqb kind tickMore ≡ a → (b : Bool) → eqb kind tickFewer ≡ b
             → cond a (ltb (ticksOf m) 256) (cond b (ltb 1 (ticksOf m)) (leb kind 3 && ltb g 256 && valueFits kind v))
             ≡ (
-              cond (leb kind 3) (ltb g 256 && cond (eqb kind dacChange) (ltb v 16) true) (leb kind 5)
-              && sound Of1978 (cond a (withTicks m (ticksOf m + 1)) (cond b (withTicks m (ticksOf m - 1)) (registerChanged m c)))
+            cond (leb kind 3) (ltb g 256 && cond (eqb kind dacChange) (ltb v 16) true) (leb kind 5)
+            && sound Of1978 (cond a (withTicks m (ticksOf m + 1)) (cond b (withTicks m (ticksOf m - 1)) (registerChanged m c)))
             )
         go true p b q = rw (eqb-true kind tickMore p) (sym (ticks-decide (ticksOf m + 1) ∙ more-decides))
         go false p true q = rw (eqb-true kind tickFewer q) (sym (ticks-decide (ticksOf m - 1) ∙ fewer-decides))

@@ -281,18 +281,18 @@ module _ (up : Bool) (k : Kept) (f : ℕ → ℕ) (few : (j : ℕ) → f j ≤ 2
       dac-sums : Sums (fedMoved up count d)
       unfolding fedMoved
       dac-sums = rw asked (
-        record {
-          size = moved-if-length (eqb used 1) up fedWords partedAt ∙ moved-length up count (fedAt d) ∙ count-size;
-          kinds = λ j l. other j (λ q. omega arith) (λ q. omega arith);
-          fed = λ e l. at e l (eqb e d) refl;
-          written = written-stays left (other writtenAt (λ q. omega arith) (λ q. omega arith)) (inr (omega arith));
-          parted =
-              moved-if-own (eqb used 1) up fedWords partedAt (partedBy f)
-              (omega (arith, moved-length up count (fedAt d), count-size)) (omega (arith, count-below-le (λ c. ltb 1 (usedBy f (256 + 128 * c))) 16))
-              (moved-other up count (fedAt d) partedAt (λ q. omega arith) ∙ count-rest partedAt (omega arith) ∙ o .parted ∙ parted-here (not up) f i none d v ld lv is)
-              ∙ sym (parted-here up f i none d v ld lv is);
-          shared = shared-stays left (other sharedAt (λ q. omega arith) (λ q. omega arith)) (omega arith);
-        })
+          record {
+            size = moved-if-length (eqb used 1) up fedWords partedAt ∙ moved-length up count (fedAt d) ∙ count-size;
+            kinds = λ j l. other j (λ q. omega arith) (λ q. omega arith);
+            fed = λ e l. at e l (eqb e d) refl;
+            written = written-stays left (other writtenAt (λ q. omega arith) (λ q. omega arith)) (inr (omega arith));
+            parted =
+                moved-if-own (eqb used 1) up fedWords partedAt (partedBy f)
+                (omega (arith, moved-length up count (fedAt d), count-size)) (omega (arith, count-below-le (λ c. ltb 1 (usedBy f (256 + 128 * c))) 16))
+                (moved-other up count (fedAt d) partedAt (λ q. omega arith) ∙ count-rest partedAt (omega arith) ∙ o .parted ∙ parted-here (not up) f i none d v ld lv is)
+                ∙ sym (parted-here up f i none d v ld lv is);
+            shared = shared-stays left (other sharedAt (λ q. omega arith) (λ q. omega arith)) (omega arith);
+          })
         where
           left : Kept
           left = movedIf (eqb used 1) up fedWords partedAt
