@@ -1,18 +1,18 @@
 -- What the calls answer, by the branches that the code takes.
 -- Assumes nothing.
-use mathlib.Core.Path.{_≡_, refl, sym, ap, _∙_}
+use mathlib.Core.Path.{_≡_, refl, sym, _∙_}
 use mathlib.Core.Logic.{_≢_}
 use mathlib.Core.Bool.{Bool, true, false, cond, _&&_, true≢false}
 use mathlib.Core.List.{[], _∷_}
 use Prim.Native.Nat.{ℕ}
 use native.Mathlib.Omega.{arith}
-use borrow.Author.Tests.{eq-eqb, ne-eqb}
+use borrow.Author.Tests.{ne-eqb}
 use lib.ListN.{length}
 use Rattle.lists.proofs.Below.{and-first, and-second}
 use Rattle.layout.specs.Layout.{machineLength}
 use Rattle.layout.specs.Machine.{Machine, ticksOf}
 use Rattle.texts.specs.declared.Text.the-variants.{Of1978}
-use Rattle.questions.specs.Questions.{Question, asked}
+use Rattle.questions.specs.Questions.{asked}
 use Rattle.questions.proofs.Asked.{asked-first, asked-later}
 use Rattle.machine.specs.Questions.{question1, question2, sound}
 use Rattle.machine.proofs.Asked.{machine-passes}

@@ -3,21 +3,20 @@
 use mathlib.Core.Path.{_≡_, refl, sym, ap, _∙_}
 use mathlib.Core.Logic.{_≢_}
 use mathlib.Core.Bool.{Bool, true, false, cond, _&&_, _||_}
-use Prim.Native.Nat.{ℕ, _+_, _-_, _*_, _/_, _<_, _≤_}
+use Prim.Native.Nat.{ℕ, _+_, _-_, _/_, _<_, _≤_}
 use native.Mathlib.Omega.{arith}
 use native.Mathlib.Nat.{add-zero}
-use borrow.Author.Tests.{eqb-true, eqb-false, eq-eqb, ne-eqb, ltb-true, ltb-false, lt-ltb, le-ltb}
+use borrow.Author.Tests.{eqb-true, eqb-false, ne-eqb, ltb-true, lt-ltb}
 use lib.Dec.{eqb, ltb}
 use lib.ListN.{length, getD, set}
 use lib.Seq.{getD-set-same}
-use Rattle.lists.proofs.Below.{both-ways, and-first, and-second}
+use Rattle.lists.proofs.Below.{both-ways, and-second}
 use Rattle.layout.specs.Layout.{machineLength, generatorAt, tAt, updateTicksAt}
 use Rattle.layout.specs.Machine.{Machine, ticksOf}
 use Rattle.layout.proofs.UpdateTicks.{counted-other}
 use Rattle.texts.specs.declared.Text.the-variants.{Of1978}
 use Rattle.machine.specs.Questions.{sound}
 use Rattle.machine.proofs.SoundMachine.{sound-controls}
-use Rattle.order_sums.specs.Places.{Kept}
 use Rattle.order_counts.specs.Kept.{placeIn, keptOf}
 use Rattle.order_counts.specs.KeptCounts.{Countable, countedMoved}
 use Rattle.order_counts.proofs.Own.{SameBut, changed-tally}

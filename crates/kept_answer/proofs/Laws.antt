@@ -6,7 +6,7 @@ use mathlib.Core.Bool.{Bool, true, false, cond, _&&_, true≢false}
 use mathlib.Core.List.{List, [], _∷_}
 use Prim.Native.Nat.{ℕ, _+_, _*_, _/_, _%_, _<_, _≤_}
 use native.Mathlib.Omega.{arith}
-use borrow.Author.Tests.{eqb-true, eqb-false, eq-eqb, ne-eqb, leb-true, leb-false, le-leb, lt-leb, ltb-true, ltb-false, lt-ltb, le-ltb}
+use borrow.Author.Tests.{eqb-true, eqb-false, eq-eqb, ne-eqb, leb-true, leb-false, le-leb, lt-leb, ltb-true, ltb-false, le-ltb}
 use lib.Dec.{eqb, leb, ltb}
 use lib.ListN.{length, getD, set}
 use lib.Seq.{getD-set-same}
@@ -15,7 +15,6 @@ use Rattle.layout.specs.Machine.{Machine}
 use Rattle.texts.specs.declared.Text.the-variants.{Of1978}
 use Rattle.questions.specs.Questions.{asked}
 use Rattle.machine.specs.Questions.{question1, question2, sound}
-use Rattle.machine.proofs.Asked.{machine-passes}
 use Rattle.order_sums.specs.Places.{Kept, alikeAt}
 use Rattle.order_counts.specs.Kept.{keptOf}
 use Rattle.order_rule.proofs.Rule.{own-answer}
@@ -23,10 +22,10 @@ use Rattle.machine_change.specs.Change.{Change, dacChange, tickFewer, isChange,
 use Rattle.machine_change.specs.Words.{letThrough}
 use Rattle.machine_change.proofs.Sound.{let-through-is, change-elsewhere}
 use Rattle.any_order.specs.AnyOrder.{anyOrderOf}
-use Rattle.any_order.proofs.Answers.{is-countable, any-number, any-rule}
+use Rattle.any_order.proofs.Answers.{is-countable, any-rule}
 use Rattle.kept_answer.specs.Keeping.{keepOf, keptAfter, changeOf, changesOf}
 use Rattle.kept_answer.specs.Reasons.{Reason}
-use Rattle.kept_answer.proofs.Changed.{changed-sound, changed-whole, few, kept-own}
+use Rattle.kept_answer.proofs.Changed.{changed-whole, few, kept-own}
 
 and-false : (b : Bool) → (b && false) ≡ false
 and-false true = refl

@@ -5,7 +5,7 @@ use mathlib.Core.Logic.{_≢_}
 use mathlib.Core.Bool.{Bool, true, false, _&&_}
 use Prim.Native.Nat.{ℕ, _+_, _-_, _*_, _/_, _%_, _<_, _≤_}
 use borrow.Author.Tests.{eq-eqb, ne-eqb, ltb-true, lt-ltb, le-ltb, leb-true}
-use lib.Dec.{eqb, leb, ltb}
+use lib.Dec.{leb, ltb}
 use lib.ListN.{getD, set}
 use Rattle.lists.proofs.Below.{and-first, and-second}
 use Rattle.layout.specs.Layout.{generatorAt, tAt, nAt, updateTicksAt, GO, GSUM, GFM, GMODE}
@@ -14,7 +14,7 @@ use Rattle.layout.proofs.UpdateTicks.{ticks-by-t}
 use Rattle.modes.specs.Modes.{builtRun, builtOscillator}
 use Rattle.texts.specs.declared.Text.the-variants.{Of1978}
 use Rattle.machine.specs.Questions.{goodGmode}
-use Rattle.machine_change.specs.Change.{Change, gmodeChange, gsumChange, gfmChange, dacChange, tickMore, tickFewer, registerChanged, withTicks, changedBy, concerned}
+use Rattle.machine_change.specs.Change.{Change, gmodeChange, gsumChange, gfmChange, tickMore, tickFewer, registerChanged, withTicks, changedBy, concerned}
 use Rattle.machine_change.specs.Words.{valueFits, letThrough}
 
 -- A GMODE.

@@ -1,18 +1,18 @@
 -- A change of a machine that passes question 2 is let through by its new word just where there is such a change and the changed machine passes.
 -- Assumes nothing.
-use mathlib.Core.Path.{_≡_, refl, sym, ap, _∙_}
+use mathlib.Core.Path.{_≡_, refl, sym, _∙_}
 use mathlib.Core.Logic.{_≢_}
 use mathlib.Core.Bool.{Bool, true, false, cond, _&&_, _||_, true≢false}
-use Prim.Native.Nat.{ℕ, _+_, _-_, _*_, _/_, _^_, _<_, _≤_}
+use Prim.Native.Nat.{ℕ, _+_, _-_, _*_, _/_, _<_, _≤_}
 use native.Mathlib.Omega.{arith}
 use native.Mathlib.Nat.{zero-add}
-use borrow.Author.Tests.{eqb-true, eqb-false, eq-eqb, ne-eqb, leb-true, leb-false, le-leb, lt-leb, ltb-true, ltb-false, lt-ltb, le-ltb}
+use borrow.Author.Tests.{eqb-true, eqb-false, eq-eqb, ne-eqb, leb-true, leb-false, le-leb, lt-leb, ltb-true, lt-ltb}
 use lib.Dec.{eqb, leb, ltb, lit<}
 use lib.ListN.{length, getD, set, length-set}
 use lib.Seq.{getD-set-same, getD-set-other}
 use Rattle.lists.proofs.Below.{both-ways, and-first, and-second, and-both}
 use Rattle.layout.specs.Layout.{machineLength, generatorAt, tAt, updateTicksAt, GO, GSUM, GFM, GMODE}
-use Rattle.layout.specs.Machine.{Machine, ticksOf, withUpdateTicks}
+use Rattle.layout.specs.Machine.{Machine, ticksOf}
 use Rattle.layout.proofs.UpdateTicks.{counted-length, counted-other}
 use Rattle.texts.specs.declared.Text.the-variants.{Of1978}
 use Rattle.machine.specs.Questions.{bits, between, goodGmode, regions, testAt, sound}

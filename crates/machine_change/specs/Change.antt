@@ -8,7 +8,7 @@ use lib.ListN.{getD, set}
 use Rattle.layout.specs.Layout.{generators, dacs, generatorAt, tAt, updateTicksAt, GO, GSUM, GFM, GMODE}
 use Rattle.layout.specs.Machine.{Machine, ticksOf, withUpdateTicks}
 use Rattle.texts.specs.declared.Text.the-variants.{Of1978}
-use Rattle.questions.specs.Questions.{Question, asked}
+use Rattle.questions.specs.Questions.{asked}
 use Rattle.machine.specs.Questions.{question1, question2}
 
 -- The kinds of changes, by number.

@@ -1,21 +1,19 @@
 -- Words that hold the counts of the first t generators hold them after a generator is put in or taken out.
 -- Assumes nothing.
 use mathlib.Core.Path.{_≡_, refl, sym, ap, _∙_}
-use mathlib.Core.Logic.{_≢_}
 use mathlib.Core.Bool.{Bool, true, false, not, _&&_, _||_}
-use Prim.Native.Nat.{ℕ, zero, suc, _+_, _-_, _<_, _≤_}
+use Prim.Native.Nat.{ℕ, zero, suc, _+_, _<_, _≤_}
 use native.Mathlib.Omega.{arith}
-use native.Mathlib.Nat.{add-zero}
-use borrow.Author.Tests.{eqb-true, eqb-false, eq-eqb, ne-eqb, ltb-true, ltb-false, lt-ltb, le-ltb}
-use lib.Dec.{eqb, leb, ltb}
-use Rattle.lists.specs.Lists.{countBelow, zeros}
+use borrow.Author.Tests.{eqb-true, eqb-false, ne-eqb, ltb-true, ltb-false, lt-ltb, le-ltb}
+use lib.Dec.{eqb, ltb}
+use Rattle.lists.specs.Lists.{countBelow}
 use Rattle.lists.proofs.Counts.{count-below-same, count-below-le}
-use Rattle.layout.specs.Machine.{Machine, ticksOf}
+use Rattle.layout.specs.Machine.{Machine}
 use Rattle.texts.specs.Texts.{runModeAt}
 use Rattle.texts.specs.declared.Text.the-variants.{Of1978}
-use Rattle.modes.specs.Modes.{wait, free, replaces}
+use Rattle.modes.specs.Modes.{replaces}
 use Rattle.order_agreement.specs.Agreement.{settingsOf, awaits}
-use Rattle.order_sums.specs.Places.{Kept, othersAt, allReadersAt, awaitingAt, keptLength}
+use Rattle.order_sums.specs.Places.{Kept, othersAt, allReadersAt, awaitingAt}
 use Rattle.order_sums.specs.Moves.{movedIf, kindMoved}
 use Rattle.order_sums.proofs.CountsAt.{bit, bit-le, count-upto, count-side}
 use Rattle.order_sums.proofs.Levels.{level}

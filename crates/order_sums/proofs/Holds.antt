@@ -6,14 +6,14 @@ use mathlib.Core.Bool.{Bool, true, false, not, cond, _&&_}
 use Prim.Native.Nat.{ℕ, _+_, _-_, _*_, _/_, _%_, _^_, _<_, _≤_}
 use native.Mathlib.Omega.{arith}
 use native.Mathlib.Nat.{mod-eq-of-lt, add-zero, add-mod-right}
-use borrow.Author.Tests.{eqb-true, eqb-false, eq-eqb, ne-eqb, ltb-true, ltb-false, lt-ltb, le-ltb}
+use borrow.Author.Tests.{eqb-true, eqb-false, eq-eqb, ne-eqb, ltb-true, ltb-false, lt-ltb}
 use lib.Dec.{eqb, ltb, lit≤, lit<}
 use lib.ListN.{length, getD, length-set}
 use lib.Seq.{getD-set-same, getD-set-other}
 use Rattle.lists.specs.Lists.{zeros}
 use Rattle.lists.proofs.Counts.{count-below-le}
 use Rattle.lists.proofs.Zeros.{zeros-length, zeros-at}
-use Rattle.order_sums.specs.Places.{Kept, writersAt, feedersAt, othersAt, allReadersAt, awaitingAt, fedAt, writtenAt, partedAt, sharedAt, keptLength}
+use Rattle.order_sums.specs.Places.{Kept, othersAt, allReadersAt, awaitingAt, fedAt, writtenAt, partedAt, sharedAt, keptLength}
 use Rattle.order_sums.specs.Moves.{stepped, moved, movedIf, atEdge, pastEdge, otherKind, fedMoved, sumsMoved, kindMoved}
 use Rattle.order_sums.proofs.CountsAt.{bit, count-none}
 use Rattle.order_sums.proofs.Levels.{usedBy, partedBy, sharedBy, level, level-off, level-on, used-there, parted-there, shared-there, used-elsewhere, parted-elsewhere, shared-elsewhere, used-here, parted-here, shared-here, used-same, parted-same, shared-same}

@@ -9,7 +9,7 @@ use native.Mathlib.Nat.{add-zero}
 use borrow.Author.Tests.{eqb-true, eqb-false, eq-eqb, ne-eqb, ltb-true, ltb-false, lt-ltb, le-ltb}
 use lib.Dec.{eqb, ltb}
 use Rattle.lists.specs.Lists.{countBelow}
-use Rattle.lists.proofs.Counts.{count-below-same, count-below-le}
+use Rattle.lists.proofs.Counts.{count-below-same}
 use Rattle.order_sums.specs.Moves.{otherKind}
 use Rattle.order_sums.proofs.CountsAt.{bit, and-false, count-below-at, count-below-more}
 

@@ -1,6 +1,6 @@
 -- `kept_answer::update` meets its contract: the generator is taken out by the machine before the change and put in by the one after it.
 -- Assumes nothing.
-use mathlib.Core.Path.{sym, _∙_}
+use mathlib.Core.Path.{_∙_}
 use native.Mathlib.Omega.{arith}
 use Rattle.texts.specs.declared.Text.the-variants.{Of1978}
 use Rattle.machine.proofs.SoundMachine.{reaches, sound-controls}

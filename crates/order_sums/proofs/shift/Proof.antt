@@ -1,6 +1,6 @@
 -- `order_sums::shift` meets its contract: a wrapping add is the sum as a word.
 -- Assumes nothing.
-use mathlib.Core.Path.{_≡_, ap, _∙_}
+use mathlib.Core.Path.{ap, _∙_}
 use Prim.Native.Nat.{ℕ, _+_, _%_, _^_}
 use lib.ListN.{getD, set}
 use Rattle.order_sums.specs.Moves.{stepped, moved}
