@@ -17,7 +17,7 @@
  * - a pointer that a call answers through (read, written, clipped, taken, equal, alike, point, place) is not NULL and
  *   has valid memory for one, clipped for KARVELORN_MARKS. What was there before is not looked at, and the call always
  *   sets it, in a refusal too; numbers is not NULL and has valid memory for KARVELORN_MODIFIERS, and of these words a
- *   call sets those that it has numbers for;
+ *   call sets those that it has numbers for; an array of KARVELORN_KEPT words has valid memory for all of them;
  * - what a call writes (the runs that are not const, delay memory too, and what it answers through) overlaps nothing
  *   else that is handed to the same call, and nothing else reads or writes it during the call. Runs that are const may
  *   overlap each other.
@@ -47,9 +47,9 @@
  *   18 Is there no sum word and no DAC that both machines use?
  * A pass asks 1, 2, 5, 6, 7, 8, 10, 11 and 12 in this sequence. An update asks 1 and 2, then 3 and 4 as each command
  * has its turn; a compare asks 1 and 2, then 5 and 6 of each order, karvelorn_parts the same, then 1 of the run for the
- * contents and 7 of the read list, and karvelorn_any_order 1 and 2; karvelorn_join asks 1 and 2 of the first machine, 1
- * and 2 of the second, then 16, 17 and 18. These five ask none of 10 to 12. karvelorn_chain, which is handed no machine,
- * asks 14 and then 15. No call answers 9.
+ * contents and 7 of the read list, and karvelorn_any_order and karvelorn_keep 1 and 2; karvelorn_change asks 1 and 2,
+ * then of the change; karvelorn_join asks 1 and 2 of the first machine, 1 and 2 of the second, then 16, 17 and 18. These
+ * seven ask none of 10 to 12. karvelorn_chain, which is handed no machine, asks 14 and then 15. No call answers 9.
  * A refused call leaves every run as it was, but for an update that refuses a command (3 or 4): what it did before that
  * command stays done.
  *
@@ -101,8 +101,8 @@
  *
  * Machines of the older text: karvelorn_old_pass, karvelorn_old_compare and karvelorn_old_parts. They are the same runs
  * of words, and karvelorn_fresh makes them too: a fresh machine is good by both texts. No word tells which text a machine
- * follows; the call does. karvelorn_update, karvelorn_any_order and karvelorn_join are for machines of 1978 alone. What
- * differs:
+ * follows; the call does. karvelorn_update, karvelorn_any_order, karvelorn_keep, karvelorn_change and karvelorn_join are
+ * for machines of 1978 alone. What differs:
  *   Question 2  GMODE has 8 bits, with modes as below, and MMODE a function as below. All other words are asked as above
  *   GMODE       run mode (3 bits), each switched as a run mode of 1978: 000 inactive, 001 pause, 010 running (1111), 011
  *               running (1110), 101 running (1101), 100 wait (1001), 110 read data (0111), 111 sends. Envelope mode (2):
@@ -138,6 +138,18 @@
 #define KARVELORN_MEMORY_WORDS 65536
 #define KARVELORN_MARKS 64
 #define KARVELORN_MODIFIERS 128
+
+/* What karvelorn_keep makes: an array of so many words, and where the answer stands in it. */
+#define KARVELORN_KEPT 2327
+#define KARVELORN_KEPT_ALIKE 2326
+
+/* The kinds of changes of karvelorn_change. */
+#define KARVELORN_CHANGE_GMODE 0
+#define KARVELORN_CHANGE_GSUM 1
+#define KARVELORN_CHANGE_GFM 2
+#define KARVELORN_CHANGE_DAC 3
+#define KARVELORN_TICK_MORE 4
+#define KARVELORN_TICK_FEWER 5
 
 #ifdef __cplusplus
 extern "C" {
@@ -251,6 +263,52 @@ uint32_t karvelorn_compare(const uint32_t *machine, size_t words, const uint32_t
  * Answers 0, 1 or 2.
  */
 uint32_t karvelorn_any_order(const uint32_t *machine, size_t words, uint32_t *alike);
+
+/* Makes what is kept beside a machine, so that karvelorn_any_order's answer stays in view while karvelorn_change changes
+ * one partial after the other: kept[KARVELORN_KEPT_ALIKE] is 1 where every two orders are equal, else 0.
+ *
+ *   machine, words  the machine, of 1978, and its length: KARVELORN_WORDS; it is only read
+ *   kept            gets KARVELORN_KEPT words, the machine's own; what they were is not looked at. In a refusal they stay
+ *
+ * The words, each a count over generators 0 to T-1:
+ *   w, 64 + w        w 0 to 63: the generators in 0111, and those in 1101, 1110 or 1111, with GSUM w
+ *   128 + f          f 0 to 127: the generators in 0011 with GFM f
+ *   256 + 128d + f   d 0 to 15: the generators in 0010 of DAC d with GFM f
+ *   2304             the generators that are none of these
+ *   2305             all generators in 0111
+ *   2306             the generators in 1001 whose lower neighbour is in 1110 or 1101
+ *   2307 + d         from how many GFMs DAC d is fed
+ *   2323             from how many GFMs generators in 0011 write
+ *   2324             how many DACs are fed from more than one GFM
+ *   2325             how many sum words have a generator in 0111 and one in 1101, 1110 or 1111
+ *   2326             the answer: KARVELORN_KEPT_ALIKE
+ *
+ * Answers 0, 1 or 2.
+ */
+uint32_t karvelorn_keep(const uint32_t *machine, size_t words, uint32_t kept[KARVELORN_KEPT]);
+
+/* Changes one partial of a machine, and brings what is kept up to date: from the machine's own words it leaves the own
+ * words of the machine as it then is, whatever the changes were. It takes hardly longer than questions 1 and 2.
+ *
+ *   machine, words  the machine, of 1978, and its length: KARVELORN_WORDS; the change is made in place
+ *   kept            KARVELORN_KEPT words, as karvelorn_keep made them of this machine and karvelorn_change left them
+ *   kind            KARVELORN_CHANGE_GMODE, _GSUM, _GFM: the generator's register becomes the value.
+ *                   KARVELORN_CHANGE_DAC: GO's low 4 bits become the value, its others stay.
+ *                   KARVELORN_TICK_MORE, KARVELORN_TICK_FEWER: T becomes one more or one less, and the update ticks
+ *                   follow; neither generator nor value is looked at
+ *   generator       0 to 255. One from T on may be changed; it counts for nothing before T reaches it
+ *   value           the register's new value, or the DAC number, 0 to 15
+ *
+ * Answers 0, 1 or 2: after questions 1 and 2 of the machine, 2 where the kind is none of these, the generator is above
+ * 255 or the DAC above 15, and where question 2 would fail after the change (T 0 and T 257 among this). In a refusal
+ * machine and kept stay as they were.
+ *
+ * Words that aren't the machine's own: after a pass, an update or a word that the host sets, kept is no longer the
+ * machine's own, and karvelorn_keep makes it again. With words that aren't its own the call ends all the same, with the
+ * number and the machine that it has with its own; only what kept then holds, its answer too, tells nothing.
+ */
+uint32_t karvelorn_change(uint32_t *machine, size_t words, uint32_t kept[KARVELORN_KEPT], uint32_t kind,
+                          uint32_t generator, uint32_t value);
 
 /* What parts two orders, where karvelorn_compare says that they are not equal: what to renumber, and contents that show
  * it. The four points, over generators 0 to T-1, and what place says of each:

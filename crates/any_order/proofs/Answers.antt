@@ -2,14 +2,16 @@
 -- Assumes nothing.
 use mathlib.Core.Path.{_≡_, refl}
 use mathlib.Core.Logic.{_≢_}
-use mathlib.Core.Bool.{Bool, false}
+use mathlib.Core.Bool.{Bool, true, false}
 use mathlib.Core.List.{[], _∷_}
 use Prim.Native.Nat.{ℕ}
 use borrow.Author.Tests.{ne-eqb}
+use lib.ListN.{length}
+use Rattle.layout.specs.Layout.{machineLength}
 use Rattle.layout.specs.Machine.{Machine}
 use Rattle.texts.specs.declared.Text.the-variants.{Of1978}
 use Rattle.questions.specs.Questions.{asked}
-use Rattle.machine.specs.Questions.{question1, question2}
+use Rattle.machine.specs.Questions.{question1, question2, sound}
 use Rattle.machine.proofs.Asked.{machine-passes}
 use Rattle.machine.proofs.SoundMachine.{reaches, sound-generator, sound-controls}
 use Rattle.order_agreement.specs.Agreement.{settingsOf}
@@ -18,15 +20,17 @@ use Rattle.order_counts.specs.KeptCounts.{Countable}
 use Rattle.any_order.specs.AnyOrder.{Answer, anyOrderRefusal, anyOrderOf}
 
 -- The generators of a machine that passes questions 1 and 2 can be counted.
-pub is-countable : (m : Machine) → asked (question1 m ∷ question2 Of1978 m ∷ []) ≡ 0 → Countable m
-is-countable m e =
-    let passed = machine-passes Of1978 m e in
+pub sound-countable : (m : Machine) → length m ≡ machineLength → sound Of1978 m ≡ true → Countable m
+sound-countable m whole good =
     record {
-      reaches = reaches m (passed .0);
-      ticks = sound-controls Of1978 m (passed .1) .tHigh;
-      gsums = λ g h. sound-generator Of1978 m (passed .1) g h .gsum;
-      gfms = λ g h. sound-generator Of1978 m (passed .1) g h .gfm;
+      reaches = reaches m whole;
+      ticks = sound-controls Of1978 m good .tHigh;
+      gsums = λ g h. sound-generator Of1978 m good g h .gsum;
+      gfms = λ g h. sound-generator Of1978 m good g h .gfm;
     }
+
+pub is-countable : (m : Machine) → asked (question1 m ∷ question2 Of1978 m ∷ []) ≡ 0 → Countable m
+is-countable m e = let passed = machine-passes Of1978 m e in sound-countable m (passed .0) (passed .1)
 
 module _ (m : Machine) where
   -- One that is not refused is answered by the rule, and a refused one no.

@@ -18,9 +18,9 @@ fn holds(m: &[u32]) -> bool
     requires { ⌜ Countable (now m) ⌝ }
     ensures { λ r. ⌜ r ≡ alike (countsIn (settingsOf Of1978 (now (m .entry)))) ⌝ }
 {
-    let mut counts = [0u32; order_counts::COUNTS];
-    order_counts::count(m, &mut counts);
-    order_rule::alike(&counts)
+    let mut kept = [0u32; order_sums::KEPT];
+    order_counts::count(m, &mut kept);
+    order_rule::alike(&kept)
 }
 
 // Whether every order of a machine's generators leaves the same. A refused call says no.

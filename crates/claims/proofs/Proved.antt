@@ -11,6 +11,7 @@ use Rattle.sine.proofs.Quarter.{magnitude-positive}
 use Rattle.exponential.proofs.Entries.{entry-largest}
 use Rattle.exponential.proofs.Sizes.{older-entry, older-exponential}
 use Rattle.exponential.proofs.OlderTable.{older-table}
+use Rattle.machine.specs.Questions.{freshMachine}
 use Rattle.machine.proofs.FreshMachine.{fresh-length, fresh-sound}
 use Rattle.machine.proofs.SoundMachine.{reaches, sound-controls, sound-ticks}
 use Rattle.machine.proofs.Asked.{ticks-disagree}
@@ -34,6 +35,8 @@ use Rattle.equal_orders.proofs.Theorem.{demand-3, compare-says, refused-says-no
 use Rattle.equal_orders.proofs.WorkedExamples.{worked-examples}
 use Rattle.equal_any_order.proofs.AnyOrder.{any-order-says, any-order-refused, one-order, orders-apart}
 use Rattle.equal_any_order.proofs.MarksApart.{marks-equal, forth-sets, back-sets}
+use Rattle.order_counts.specs.Kept.{keptOf}
+use Rattle.kept_answer.proofs.Laws.{keep-own, own-after, changes-answer, change-refused, refused-leaves, made-machine, made-whole, made-good, made-elsewhere, dac-changed, same-by-any}
 use Rattle.equal_parts.proofs.Parts.{parts-says, none-shown, contents-part}
 use Rattle.equal_parts.proofs.Shown.{found-differs}
 use Rattle.chain.proofs.Claimed.{chain-numbers, chain-least, chain-none, chain-names}
@@ -65,6 +68,15 @@ claims =
       any-order-refused = any-order-refused;
       one-order = one-order;
       orders-apart = orders-apart;
+      keep-own = keep-own;
+      change-own = λ m c. own-after m c (keptOf m) refl;
+      changes-answer = λ m good cs. changes-answer m (good .whole) (good .is-sound) cs;
+      changes-fresh = λ cs. changes-answer freshMachine fresh-length (fresh-sound Of1978) cs .1;
+      change-refused = λ m k c l. change-refused m c k l;
+      change-leaves = λ m k c. refused-leaves m c k;
+      change-machine = λ m k c z. (made-machine m c k z, record { whole = made-whole m c k z; is-sound = made-good m c k z }, made-elsewhere m c k z);
+      change-dac = λ m k c z dac. dac-changed m c k z dac;
+      change-any = λ m k l c. same-by-any m c k l;
       parts-says = parts-says;
       none-shown = none-shown;
       contents-part = contents-part;

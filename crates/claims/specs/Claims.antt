@@ -1,14 +1,14 @@
 -- Every claim that the demands, document 01 and the requests of document 02 make beyond the contracts of the calls. One value of this record, `claims` in proofs/Proved.antt, is the proof of all.
 -- Assumes nothing.
-use Prim.Native.Nat.{ℕ, suc, _+_, _*_, _%_, _^_, _≤_, _<_}
-use mathlib.Core.Bool.{true, false}
+use Prim.Native.Nat.{ℕ, suc, _+_, _*_, _/_, _%_, _^_, _≤_, _<_}
+use mathlib.Core.Bool.{true, false, cond}
 use mathlib.Core.List.{List, [], _∷_}
 use mathlib.Core.Logic.{_↔_, _≢_}
 use mathlib.Core.Path.{_≡_}
 use lib.IntN.{pos, _*ℤ_}
 use lib.ListN.{length, getD, set}
 use Rattle.words.specs.Words.{signed}
-use Rattle.layout.specs.Layout.{counterAt, dxAt, lingeringAt, quadrantWords, generators, machineLength, updateTicksAt}
+use Rattle.layout.specs.Layout.{counterAt, dxAt, lingeringAt, quadrantWords, generators, machineLength, updateTicksAt, generatorAt, GO, dacs}
 use Rattle.layout.specs.Machine.{Machine, Order, Items, Commands, Memory, ticksOf, updateTicks, updateTicksOf, lowCounter}
 use Rattle.layout.specs.Widths.{counterBits, lingerBits}
 use Rattle.texts.specs.declared.Text.{Text}
@@ -41,6 +41,11 @@ use Rattle.order_agreement.specs.Agreement.{settingsOf, Agree}
 use Rattle.order_alike.specs.Parting.{partingOrders}
 use Rattle.compare.specs.Compare.{compareOf}
 use Rattle.any_order.specs.AnyOrder.{anyOrderOf}
+use Rattle.order_sums.specs.Places.{Kept, alikeAt}
+use Rattle.order_counts.specs.Kept.{keptOf}
+use Rattle.machine_change.specs.Change.{Change, dacChange, changedBy, isOf}
+use Rattle.kept_answer.specs.Keeping.{keepOf, changeOf, changesOf}
+use Rattle.kept_answer.specs.Reasons.{Reason}
 use Rattle.parts.specs.Parts.{partsOf}
 use Rattle.parts_shown.specs.Shown.{passBy, differenceShown, Differ}
 use Rattle.order_pitch.specs.Pitch.{byPitch, SortedByPitch}
@@ -82,6 +87,28 @@ pub record Claims : Type 0 where
   pub one-order : (m : Machine) → anyOrderOf m .number ≡ 0 → ticksOf m ≡ 1 → anyOrderOf m .alike ≡ true
   pub orders-apart : (m : Machine) → anyOrderOf m .number ≡ 0 → anyOrderOf m .alike ≡ false
       → Apart m (partingOrders (settingsOf Of1978 m) .first) (partingOrders (settingsOf Of1978 m) .second)
+  -- What keep makes, not refused, is the machine's own, and its answer is that of the call above.
+  pub keep-own : (m : Machine) (k : Kept) → keepOf m k .number ≡ 0 → (keepOf m k .kept ≡ keptOf m) × (getD (keptOf m) alikeAt 0 ≡ cond (anyOrderOf m .alike) 1 0)
+  -- From a machine's own words every change, refused or not, leaves the own words of the machine as it then is.
+  pub change-own : (m : Machine) (c : Change) → changeOf m (keptOf m) c .kept ≡ keptOf (changeOf m (keptOf m) c .machine)
+  -- So after every list of changes from a machine that passes questions 1 and 2, a fresh one among them, the kept answer is the one worked out from the machine as it then is.
+  pub changes-answer : (m : Machine) → Good Of1978 m → (cs : List Change)
+      → (changesOf m (keptOf m) cs .kept ≡ keptOf (changesOf m (keptOf m) cs .machine))
+      × (getD (changesOf m (keptOf m) cs .kept) alikeAt 0 ≡ cond (anyOrderOf (changesOf m (keptOf m) cs .machine) .alike) 1 0)
+  pub changes-fresh : (cs : List Change)
+      → getD (changesOf freshMachine (keptOf freshMachine) cs .kept) alikeAt 0 ≡ cond (anyOrderOf (changesOf freshMachine (keptOf freshMachine) cs .machine) .alike) 1 0
+  -- A change is refused with 2 exactly for one of the reasons, and a refused one alters neither the machine nor what is kept.
+  pub change-refused : (m : Machine) (k : Kept) (c : Change) → length m ≡ machineLength → (changeOf m k c .number ≡ 2) ↔ Reason m c
+  pub change-leaves : (m : Machine) (k : Kept) (c : Change) → changeOf m k c .number ≢ 0 → (changeOf m k c .machine ≡ m) × (changeOf m k c .kept ≡ k)
+  -- Not refused, the machine is the changed one, passes questions 1 and 2, and has every word as it was but those that the change is of;
+  -- of GO it changes the low 4 bits alone.
+  pub change-machine : (m : Machine) (k : Kept) (c : Change) → changeOf m k c .number ≡ 0
+      → (changeOf m k c .machine ≡ changedBy m c) × Good Of1978 (changedBy m c) × ((i : ℕ) → isOf c i ≡ false → getD (changedBy m c) i 0 ≡ getD m i 0)
+  pub change-dac : (m : Machine) (k : Kept) (c : Change) → changeOf m k c .number ≡ 0 → c .kind ≡ dacChange
+      → (getD (changedBy m c) (generatorAt (c .generator) + GO) 0 % dacs ≡ c .value)
+      × (getD (changedBy m c) (generatorAt (c .generator) + GO) 0 / dacs ≡ getD m (generatorAt (c .generator) + GO) 0 / dacs)
+  -- Whatever is handed in as kept, number and machine are the same.
+  pub change-any : (m : Machine) (k l : Kept) (c : Change) → (changeOf m k c .number ≡ changeOf m l c .number) × (changeOf m k c .machine ≡ changeOf m l c .machine)
   -- The call that says what parts two orders names no point, where it passes the questions, exactly when they are equal; where it names none, as in a refusal,
   -- the run and the read list for the contents stay. Where it names one, what they hold parts the orders: passes from it, over any delay memory that passes 10
   -- and with places enough, run by both orders and leave another machine or other written data.

@@ -7,11 +7,13 @@ ghost use Rattle.update.specs.Update.{outcome, updateOf, takenCount};
 ghost use mathlib.Core.Bool.{cond};
 ghost use Rattle.compare.specs.Compare.{compareOf};
 ghost use Rattle.any_order.specs.AnyOrder.{anyOrderOf};
+ghost use Rattle.kept_answer.specs.Keeping.{keepOf, changeOf};
 ghost use Rattle.parts.specs.Parts.{partsOf};
 ghost use Rattle.join_model.specs.Join.{joinOf};
 ghost use Rattle.texts.specs.declared.Text.the-variants.{Of1978, Old};
 ghost use Rattle.chain.specs.Chain.{chainOf};
 use chain_numbers::Numbers;
+use order_sums::Kept;
 use sums::Clipped;
 use texts::Text;
 
@@ -159,6 +161,28 @@ pub extern "C" fn karvelorn_any_order(m: &[u32], alike: &mut u32) -> u32
     let answer = any_order::any_order(m);
     *alike = answer.alike as u32;
     answer.number
+}
+
+// Makes what is kept beside a machine. The answer is the number of the refusing question or 0.
+#[no_mangle]
+pub extern "C" fn karvelorn_keep(m: &[u32], kept: &mut Kept) -> u32
+    ensures { λ r. ⌜ record { number = r; kept = now (kept .exit) } ≡ keepOf (now (m .entry)) (now (kept .entry)) ⌝ }
+{
+    kept_answer::keep(m, kept)
+}
+
+// A change of one partial, with what is kept brought up to date. The answer is the number of the refusing question or 0.
+#[no_mangle]
+pub extern "C" fn karvelorn_change(
+    m: &mut [u32],
+    kept: &mut Kept,
+    kind: u32,
+    generator: u32,
+    value: u32,
+) -> u32
+    ensures { λ r. ⌜ record { number = r; machine = now (m .exit); kept = now (kept .exit) } ≡ changeOf (now (m .entry)) (now (kept .entry)) (record { kind = kind; generator = generator; value = value }) ⌝ }
+{
+    kept_answer::change(m, kept, kind, generator, value)
 }
 
 // What parts two orders of a machine of a text. The answer is the number of the refusing question or 0; point gets 0 where they are equal, else the first of

@@ -3,4 +3,3 @@ pub mod EveryOrder
 pub mod Ending
 pub mod Parted
 pub mod Telling
-pub mod SameCounts

@@ -1,4 +1,5 @@
+pub mod OfKinds
 pub mod Places
 pub mod Steps
-pub mod OfKinds
-pub mod Held
+pub mod Tallies
+pub mod Own

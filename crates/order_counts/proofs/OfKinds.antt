@@ -16,7 +16,8 @@ use Rattle.texts.specs.declared.Text.the-variants.{Of1978}
 use Rattle.modes.specs.Modes.{writeData, writeDAC, adds, replaces}
 use Rattle.modes.proofs.Exclusions.{on-not-off}
 use Rattle.modes.proofs.RunModes.{replaces-alone}
-use Rattle.order_counts.specs.KeptCounts.{readersAt, addersAt, writersAt, feedersAt, othersAt, placeIn}
+use Rattle.order_sums.specs.Places.{readersAt, addersAt, writersAt, feedersAt, othersAt}
+use Rattle.order_counts.specs.Kept.{placeIn}
 
 -- Two numbers behind the same bound.
 behind : (c a b : ℕ) → eqb (c + a) (c + b) ≡ eqb a b

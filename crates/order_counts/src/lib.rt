@@ -1,103 +1,92 @@
-// The counts of a machine's generators by which any order of them leaves the same or not.
+// The generators of a machine counted by what an order of them can tell: one is put in or taken out at a time.
 ghost use mathlib.Core.Path.{_≡_};
-ghost use mathlib.Core.Bool.{cond};
-ghost use Prim.Native.Nat.{_<_};
+ghost use Prim.Native.Nat.{_<_, _≤_};
 ghost use Rattle.lists.specs.Lists.{zeros};
 ghost use Rattle.layout.specs.Layout.{generators};
-ghost use Rattle.layout.specs.Machine.{ticksOf};
-ghost use Rattle.order_counts.specs.KeptCounts.{Countable, countsLength, placeIn, raised, counted, countedTo};
+ghost use Rattle.layout.specs.Machine.{Reaches, ticksOf};
+ghost use Rattle.order_sums.specs.Places.{othersAt, keptLength};
+ghost use Rattle.order_counts.specs.Kept.{placeIn};
+ghost use Rattle.order_counts.specs.KeptCounts.{Countable, awaited, generatorMoved, countedMoved, countedTo};
+use order_sums::Kept;
 use texts::Text;
-
-// Where the counts of 0111s and of adding generators by sum word stand, of writers by GFM, and of feeders by DAC and GFM;
-// of the generators that are none of these; of all 0111s; of the generators that wait and have a lower neighbour that can trigger.
-pub const READERS_AT: usize = 0;
-
-pub const ADDERS_AT: usize = 64;
-
-pub const WRITERS_AT: usize = 128;
-
-pub const FEEDERS_AT: usize = 256;
-
-pub const OTHERS_AT: usize = 2304;
-
-pub const ALL_READERS_AT: usize = 2305;
-
-pub const AWAITING_AT: usize = 2306;
-
-pub const COUNTS: usize = 2307;
-
-// The GFMs: as many counts as each DAC has.
-pub const SOURCES: usize = 128;
-
-pub type Counts = [u32; COUNTS];
 
 // The place of generator g's kind among the counts.
 fn place(m: &[u32], g: usize) -> usize
     requires { ⌜ Countable (now m) ⌝ }
     requires { ⌜ g < generators ⌝ }
-    ensures { λ r. ⌜ (r ≡ placeIn (now (m .entry)) g) × (r < countsLength) ⌝ }
+    ensures { λ r. ⌜ (r ≡ placeIn (now (m .entry)) g) × (r ≤ othersAt) ⌝ }
 {
     let run = texts::run_mode(Text::Of1978, m, g);
     if run == modes::READ_DATA {
-        return READERS_AT + layout::gsum(m, g);
+        return order_sums::READERS_AT + layout::gsum(m, g);
     }
     if order_roles::adding(run) {
-        return ADDERS_AT + layout::gsum(m, g);
+        return order_sums::ADDERS_AT + layout::gsum(m, g);
     }
     if run == modes::WRITE_DATA {
-        return WRITERS_AT + layout::wide(layout::gfm(m, g));
+        return order_sums::WRITERS_AT + layout::wide(layout::gfm(m, g));
     }
     if run == modes::WRITE_DAC {
-        return FEEDERS_AT
-            + SOURCES * texts::dac_number(Text::Of1978, m, g)
+        return order_sums::FEEDERS_AT
+            + order_sums::SOURCES * texts::dac_number(Text::Of1978, m, g)
             + layout::wide(layout::gfm(m, g));
     }
-    OTHERS_AT
+    order_sums::OTHERS_AT
 }
 
-// 1 is added to count i.
-fn raise(counts: &mut Counts, i: usize)
-    requires { ⌜ i < countsLength ⌝ }
-    ensures { λ r. ⌜ now (counts .exit) ≡ raised (now (counts .entry)) i ⌝ }
-{
-    counts[i] = std::num::wrapping_add_u32(counts[i], 1);
-}
-
-// 1 is added to count i, if it is to be.
-fn raise_if(counts: &mut Counts, i: usize, more: bool)
-    requires { ⌜ i < countsLength ⌝ }
-    ensures { λ r. ⌜ now (counts .exit) ≡ cond more (raised (now (counts .entry)) i) (now (counts .entry)) ⌝ }
-{
-    if !more {
-        return;
-    }
-    raise(counts, i);
-}
-
-// Generator g is counted.
-pub fn count_generator(m: &[u32], counts: &mut Counts, g: usize)
-    requires { ⌜ Countable (now m) ⌝ }
+// Whether generator g has an upper neighbour below t that waits for it.
+fn awaited(m: &[u32], t: usize, g: usize) -> bool
+    requires { ⌜ Reaches (now m) ⌝ }
     requires { ⌜ g < generators ⌝ }
-    ensures { λ r. ⌜ now (counts .exit) ≡ counted (now (m .entry)) (now (counts .entry)) g ⌝ }
+    requires { ⌜ t ≤ generators ⌝ }
+    ensures { λ r. ⌜ r ≡ awaited (now (m .entry)) t g ⌝ }
+{
+    let above = g + 1;
+    if t <= above {
+        return false;
+    }
+    order_roles::awaits(Text::Of1978, m, above)
+}
+
+// Generator g of the t first ones is put in (up) or taken out.
+fn shift_generator(m: &[u32], t: usize, kept: &mut Kept, g: usize, up: bool)
+    requires { ⌜ Countable (now m) ⌝ }
+    requires { ⌜ t ≤ generators ⌝ }
+    requires { ⌜ g < generators ⌝ }
+    ensures { λ r. ⌜ now (kept .exit) ≡ generatorMoved up (now (m .entry)) t (now (kept .entry)) g ⌝ }
 {
     let i = place(m, g);
     let reads = texts::run_mode(Text::Of1978, m, g) == modes::READ_DATA;
     let awaits = order_roles::awaits(Text::Of1978, m, g);
-    raise(counts, i);
-    raise_if(counts, ALL_READERS_AT, reads);
-    raise_if(counts, AWAITING_AT, awaits);
+    let above = awaited(m, t, g);
+    order_sums::shift_kind(kept, i, up);
+    order_sums::shift_if(kept, order_sums::ALL_READERS_AT, up, reads);
+    order_sums::shift_if(kept, order_sums::AWAITING_AT, up, awaits);
+    order_sums::shift_if(kept, order_sums::AWAITING_AT, up, above);
 }
 
-// The generators below T are counted, from counts of zero.
-pub fn count(m: &[u32], counts: &mut Counts)
+// The same where it is below T.
+pub fn shift_counted(m: &[u32], kept: &mut Kept, g: usize, up: bool)
     requires { ⌜ Countable (now m) ⌝ }
-    requires { ⌜ now counts ≡ zeros countsLength ⌝ }
-    ensures { λ r. ⌜ now (counts .exit) ≡ countedTo (now (m .entry)) (ticksOf (now (m .entry))) ⌝ }
+    requires { ⌜ g < generators ⌝ }
+    ensures { λ r. ⌜ now (kept .exit) ≡ countedMoved up (now (m .entry)) (now (kept .entry)) g ⌝ }
+{
+    let t = layout::ticks(m);
+    if g < t {
+        shift_generator(m, t, kept, g, up);
+    }
+}
+
+// The generators below T are put in, from counts of zero.
+pub fn count(m: &[u32], kept: &mut Kept)
+    requires { ⌜ Countable (now m) ⌝ }
+    requires { ⌜ now kept ≡ zeros keptLength ⌝ }
+    ensures { λ r. ⌜ now (kept .exit) ≡ countedTo (now (m .entry)) (ticksOf (now (m .entry))) ⌝ }
 {
     let t = layout::ticks(m);
     let mut g: usize = 0;
     while g < t {
-        count_generator(m, counts, g);
+        shift_generator(m, g + 1, kept, g, true);
         g += 1;
     }
 }

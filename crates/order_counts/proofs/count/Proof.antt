@@ -10,10 +10,10 @@ use Rattle.order_counts.proofs.count.Statement.{statement}
 use Rattle.order_counts.proofs.count.Tie as tie
 
 abbrev Inv-loop : tie.InvT-loop
-Inv-loop m counts₀ t g₀ counts g = (g ≤ t) × (counts ≡ countedTo m g)
+Inv-loop m kept₀ t g₀ kept g = (g ≤ t) × (kept ≡ countedTo m g)
 
 abbrev μ-loop : tie.MeasureT-loop
-μ-loop m counts₀ t g₀ counts g = t - g
+μ-loop m kept₀ t g₀ kept g = t - g
 
 ticks-requires : tie.Need-ticks-requires Inv-loop μ-loop
 ticks-requires c κs = c .before .pre .0 .reaches
@@ -21,17 +21,18 @@ ticks-requires c κs = c .before .pre .0 .reaches
 loop-holds : tie.Need-loop-holds Inv-loop μ-loop
 loop-holds c = let b = c .before .before in (omega arith, counted-none (b .args .m .now) (b .pre .1))
 
-count-generator-requires : tie.Need-count-generator-requires Inv-loop μ-loop
-count-generator-requires c κs =
+shift-generator-requires : tie.Need-shift-generator-requires Inv-loop μ-loop
+shift-generator-requires c κs =
     let z = c .before .before in
     let b = z .before .before .before in
-    (b .pre .0, omega (arith, z .before .ticks .ensures, b .pre .0 .ticks))
+    let t = z .before .ticks .ensures in
+    (b .pre .0, (omega (arith, t, b .pre .0 .ticks), omega (arith, t, b .pre .0 .ticks)))
 
 loop-again : tie.Need-loop-again Inv-loop μ-loop
 loop-again c =
     let z = c .before .before .before in
     let a = z .before .before .before .args in
-    (omega arith, counted-next (a .m .now) (z .loop .g) (z .loop .inv .1) (c .count-generator .ensures))
+    (omega arith, counted-next (a .m .now) (z .loop .g) (z .loop .inv .1) (c .shift-generator .ensures))
 
 returns : tie.Need-returns Inv-loop μ-loop
 returns c =
@@ -43,5 +44,5 @@ returns c =
 pub count-spec : {M : Type 1} → statement M
 count-spec =
     tie.close
-    (tie.spec Inv-loop μ-loop ticks-requires loop-holds count-generator-requires (λ c. omega arith) (λ c. omega arith)
+    (tie.spec Inv-loop μ-loop ticks-requires loop-holds (λ c. omega arith) shift-generator-requires (λ c. omega arith) (λ c. omega arith)
     loop-again returns)

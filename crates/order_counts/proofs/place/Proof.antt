@@ -15,7 +15,7 @@ returns c =
     let a = b .args in
     let w = c .gsum .ensures in
     let p = reader-place (a .m .now) (a .g) (mode .run-mode .ensures) (taken .if1 .taken) w (omega (arith, w, b .pre .0 .gsums (a .g) (b .pre .1))) in
-    (p .is, p .below)
+    (p .is, p .within)
 
 add-result-2 : tie.Need-add-result-2
 add-result-2 c =
@@ -34,7 +34,7 @@ returns-2 c =
     let p =
     adder-place (a .m .now) (a .g) (mode .run-mode .ensures) (other .if1 .left) (sym (asked .adding .ensures) ∙ adds .if2 .taken) w
     (omega (arith, w, b .pre .0 .gsums (a .g) (b .pre .1))) in
-    (p .is, p .below)
+    (p .is, p .within)
 
 returns-3 : tie.Need-returns-3
 returns-3 c =
@@ -50,7 +50,7 @@ returns-3 c =
     let p =
     writer-place (a .m .now) (a .g) (mode .run-mode .ensures) (other .if1 .left) (sym (asked .adding .ensures) ∙ quiet .if2 .left) (writes .if3 .taken) v
     (omega (arith, v, b .pre .0 .gfms (a .g) (b .pre .1))) in
-    (p .is, p .below)
+    (p .is, p .within)
 
 returns-4 : tie.Need-returns-4
 returns-4 c =
@@ -69,7 +69,7 @@ returns-4 c =
     let p =
     feeder-place (a .m .now) (a .g) (mode .run-mode .ensures) (other .if1 .left) (sym (asked .adding .ensures) ∙ quiet .if2 .left) (kept .if3 .left)
     (feeds .if4 .taken) (d .0) (d .1) v (omega (arith, v, b .pre .0 .gfms (a .g) (b .pre .1))) in
-    (p .is, p .below)
+    (p .is, p .within)
 
 returns-5 : tie.Need-returns-5
 returns-5 c =
@@ -82,7 +82,7 @@ returns-5 c =
     let p =
     other-place (a .m .now) (a .g) (mode .run-mode .ensures) (other .if1 .left) (sym (asked .adding .ensures) ∙ quiet .if2 .left) (kept .if3 .left)
     (c .if4 .left) in
-    (p .is, p .below)
+    (p .is, p .within)
 
 pub place-spec : {M : Type 1} → statement M
 place-spec =

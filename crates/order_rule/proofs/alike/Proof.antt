@@ -1,19 +1,16 @@
--- `order_rule::alike` meets its contract: the five tests together are the rule.
+-- `order_rule::alike` meets its contract: the five comparisons are the rule.
 -- Assumes nothing.
-use Rattle.order_rule.proofs.Asked.{rule-by}
+use mathlib.Core.Path.{refl}
+use Rattle.order_rule.specs.Rule.{alikeBy}
 use borrow.Author.Needs.{needs}
 use Rattle.order_rule.proofs.alike.Statement.{statement}
 use Rattle.order_rule.proofs.alike.Tie as tie
 
 returns : tie.Need-returns
-returns c =
-    let readers = c .before in
-    let writers = readers .before in
-    let feeders = writers .before in
-    rule-by (feeders .before .before .args .counts .now) (feeders .feeders-share .ensures) (writers .share-one .ensures) (c .words-apart .ensures)
+unfolding alikeBy
+returns c = refl
 
 pub alike-spec : {M : Type 1} → statement M
 alike-spec =
     tie.close
-    (tie.spec (λ c. search needs) (λ c κs. search needs) (λ c κs. search needs) (λ c. search needs)
-    (λ c κs. search needs) returns)
+    (tie.spec (λ c. search needs) (λ c. search needs) (λ c. search needs) (λ c. search needs) (λ c. search needs) returns)
