@@ -19,12 +19,12 @@ use Rattle.order_sums.specs.Places.{Kept, alikeAt}
 use Rattle.order_counts.specs.Kept.{keptOf}
 use Rattle.order_rule.proofs.Rule.{own-answer}
 use Rattle.machine_change.specs.Change.{Change, dacChange, tickFewer, isChange, registerChanged, changedBy, concerned, changeRefusal, isOf}
-use Rattle.machine_change.specs.Words.{letThrough}
-use Rattle.machine_change.proofs.Sound.{let-through-is, change-elsewhere}
+use Rattle.machine_change.proofs.Sound.{change-elsewhere}
 use Rattle.any_order.specs.AnyOrder.{anyOrderOf}
 use Rattle.any_order.proofs.Answers.{is-countable, any-rule}
 use Rattle.kept_answer.specs.Keeping.{keepOf, keptAfter, changeOf, changesOf}
 use Rattle.kept_answer.specs.Reasons.{Reason}
+use Rattle.kept_answer.proofs.Asked.{whole-asked, none-refuses, through}
 use Rattle.kept_answer.proofs.Changed.{changed-whole, few, kept-own}
 
 and-false : (b : Bool) → (b && false) ≡ false
@@ -44,43 +44,7 @@ pub keep-own : (m : Machine) (k : Kept) → keepOf m k .number ≡ 0 → (keepOf
 unfolding keepOf
 keep-own m k e = (rw e, answer-own m e)
 
--- The questions of a change, one after the other.
 module _ (m : Machine) (c : Change) where
-  -- What they ask of a machine of the right length.
-  whole-asked : length m ≡ machineLength → changeRefusal m c ≡ cond (sound Of1978 m) (cond (isChange c) (cond (sound Of1978 (changedBy m c)) 0 2) 2) 2
-  unfolding changeRefusal asked
-  whole-asked l = rw (eq-eqb (length m) machineLength l)
-
-  short-asked : length m ≢ machineLength → changeRefusal m c ≡ 1
-  unfolding changeRefusal asked
-  short-asked n = rw (ne-eqb (length m) machineLength n)
-
-  -- None refuses.
-  record Passed : Type 0 where
-    whole : length m ≡ machineLength
-    good : sound Of1978 m ≡ true
-    is : isChange c ≡ true
-    after : sound Of1978 (changedBy m c) ≡ true
-
-  none-refuses : changeRefusal m c ≡ 0 → Passed
-  none-refuses e = at (eqb (length m) machineLength) refl
-    where
-      go : (a b d : Bool) → _≡_ {A = ℕ} (cond a (cond b (cond d 0 2) 2) 2) 0 → (a ≡ true) × (b ≡ true) × (d ≡ true)
-      go true true true q = (refl, refl, refl)
-      go true true false q = absurd (omega (arith, q))
-      go true false d q = absurd (omega (arith, q))
-      go false b d q = absurd (omega (arith, q))
-
-      at : (b : Bool) → eqb (length m) machineLength ≡ b → Passed
-      at true q =
-          let l = eqb-true (length m) machineLength q in
-          let all = go (sound Of1978 m) (isChange c) (sound Of1978 (changedBy m c)) (sym (whole-asked l) ∙ e) in
-          record { whole = l; good = all .0; is = all .1; after = all .2 }
-      at false q = absurd (omega (arith, short-asked (eqb-false (length m) machineLength q), e))
-
-  through : Passed → letThrough m c ≡ true
-  through p = let-through-is m (p .whole) (p .good) (c .kind) (c .generator) (c .value) ∙ rw (p .is, p .after)
-
   -- What the call answers.
   module _ (k : Kept) where
     number-made : changeRefusal m c ≡ 0 → changeOf m k c .number ≡ changeRefusal m c
@@ -114,11 +78,11 @@ module _ (m : Machine) (c : Change) where
         go : (b : Bool) → eqb (changeRefusal m c) 0 ≡ b → changeOf m k c .kept ≡ keptOf (changeOf m k c .machine)
         go true e =
             let z = eqb-true (changeRefusal m c) 0 e in
-            let p = none-refuses z in
+            let p = none-refuses m c z in
             let left = made-leaves k z in
             left .1
             ∙ ap (keptAfter m (changedBy m c) (concerned m c)) own
-            ∙ kept-own m (p .whole) (p .good) (c .kind) (c .generator) (c .value) (through p)
+            ∙ kept-own m (p .whole) (p .good) (c .kind) (c .generator) (c .value) (through m c p)
             ∙ ap keptOf (sym (left .0))
         go false e =
             let left = refused-leaves k (λ z. eqb-false (changeRefusal m c) 0 e (sym (number-is k) ∙ z)) in
@@ -132,8 +96,8 @@ module _ (m : Machine) (c : Change) where
         go : (b : Bool) → eqb (changeRefusal m c) 0 ≡ b → (length (changeOf m k c .machine) ≡ machineLength) × (sound Of1978 (changeOf m k c .machine) ≡ true)
         go true e =
             let z = eqb-true (changeRefusal m c) 0 e in
-            let p = none-refuses z in
-            rw (made-leaves k z .0) (changed-whole m whole good (c .kind) (c .generator) (c .value) (through p), p .after)
+            let p = none-refuses m c z in
+            rw (made-leaves k z .0) (changed-whole m whole good (c .kind) (c .generator) (c .value) (through m c p), p .after)
         go false e = rw (refused-leaves k (λ z. eqb-false (changeRefusal m c) 0 e (sym (number-is k) ∙ z)) .0) (whole, good)
 
   -- 2 exactly for one of the reasons.
@@ -162,7 +126,7 @@ module _ (m : Machine) (c : Change) where
 
   module _ (k : Kept) (l : length m ≡ machineLength) where
     asked-two : {a b d : Bool} → sound Of1978 m ≡ a → isChange c ≡ b → sound Of1978 (changedBy m c) ≡ d → (a && (b && d)) ≡ false → changeOf m k c .number ≡ 2
-    asked-two {a} {b} {d} p q r e = number-is k ∙ whole-asked l ∙ rw (p, q, r) (go a b d e)
+    asked-two {a} {b} {d} p q r e = number-is k ∙ whole-asked m c l ∙ rw (p, q, r) (go a b d e)
       where
         go : (a b d : Bool) → (a && (b && d)) ≡ false → _≡_ {A = ℕ} (cond a (cond b (cond d 0 2) 2) 2) 2
         go true true true q = absurd (true≢false q)
@@ -181,7 +145,7 @@ module _ (m : Machine) (c : Change) where
         none a b = rw (and-false b) (and-false a)
 
     pub reason-for : changeOf m k c .number ≡ 2 → Reason m c
-    reason-for e = go (sound Of1978 m) refl (isChange c) refl (sound Of1978 (changedBy m c)) refl (sym (whole-asked l) ∙ sym (number-is k) ∙ e)
+    reason-for e = go (sound Of1978 m) refl (isChange c) refl (sound Of1978 (changedBy m c)) refl (sym (whole-asked m c l) ∙ sym (number-is k) ∙ e)
       where
         go : (a : Bool) → sound Of1978 m ≡ a → (b : Bool) → isChange c ≡ b → (d : Bool) → sound Of1978 (changedBy m c) ≡ d → _≡_ {A = ℕ} (cond a (cond b (cond d 0 2) 2) 2) 2 → Reason m c
         go true p true q true r z = absurd (omega (arith, z))
@@ -201,15 +165,15 @@ module _ (m : Machine) (c : Change) where
     made-machine = made-leaves k made .0
 
     pub made-whole : length (changedBy m c) ≡ machineLength
-    made-whole = let p = none-refuses made in changed-whole m (p .whole) (p .good) (c .kind) (c .generator) (c .value) (through p)
+    made-whole = let p = none-refuses m c made in changed-whole m (p .whole) (p .good) (c .kind) (c .generator) (c .value) (through m c p)
 
     pub made-good : sound Of1978 (changedBy m c) ≡ true
-    made-good = none-refuses made .after
+    made-good = none-refuses m c made .after
 
     pub made-elsewhere : (i : ℕ) → isOf c i ≡ false → getD (changedBy m c) i 0 ≡ getD m i 0
     made-elsewhere =
-        let p = none-refuses made in
-        change-elsewhere m (c .kind) (c .generator) (c .value) (few m (p .whole) (p .good) (c .kind) (c .generator) (c .value) (through p))
+        let p = none-refuses m c made in
+        change-elsewhere m (c .kind) (c .generator) (c .value) (few m (p .whole) (p .good) (c .kind) (c .generator) (c .value) (through m c p))
 
   -- A changed DAC number is GO's low 4 bits, and the others stay.
   module _ (k : Kept) (z : changeOf m k c .number ≡ 0) (dac : c .kind ≡ dacChange) where
@@ -222,7 +186,7 @@ module _ (m : Machine) (c : Change) where
 
     dac-fits : (c .generator < generators) × (c .value < dacs)
     unfolding isChange
-    dac-fits = go (ltb (c .generator) generators) refl (ltb (c .value) dacs) refl (rw dac at (none-refuses (made k z) .is))
+    dac-fits = go (ltb (c .generator) generators) refl (ltb (c .value) dacs) refl (rw dac at (none-refuses m c (made k z) .is))
       where
         go : (a : Bool) → ltb (c .generator) generators ≡ a → (b : Bool) → ltb (c .value) dacs ≡ b → (a && b) ≡ true → (c .generator < generators) × (c .value < dacs)
         go true p true q e = (ltb-true (c .generator) generators p, ltb-true (c .value) dacs q)
@@ -230,7 +194,7 @@ module _ (m : Machine) (c : Change) where
         go false p b q e = absurd (true≢false (sym e))
 
     dac-word : getD (changedBy m c) at 0 ≡ getD m at 0 / dacs * dacs + c .value
-    dac-word = ap (λ (n : Machine). getD n at 0) dac-machine ∙ getD-set-same m at (getD m at 0 / dacs * dacs + c .value) 0 (omega (arith, none-refuses (made k z) .whole, dac-fits .0))
+    dac-word = ap (λ (n : Machine). getD n at 0) dac-machine ∙ getD-set-same m at (getD m at 0 / dacs * dacs + c .value) 0 (omega (arith, none-refuses m c (made k z) .whole, dac-fits .0))
 
     pub dac-changed : (getD (changedBy m c) at 0 % dacs ≡ c .value) × (getD (changedBy m c) at 0 / dacs ≡ getD m at 0 / dacs)
     dac-changed = let low = dac-fits .1 in (omega (arith, dac-word, low), omega (arith, dac-word, low))

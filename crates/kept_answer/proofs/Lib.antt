@@ -1,3 +1,4 @@
 pub mod Changed
+pub mod Asked
 pub mod Calls
 pub mod Laws

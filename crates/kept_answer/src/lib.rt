@@ -5,7 +5,7 @@ ghost use lib.ListN.{length};
 ghost use Rattle.layout.specs.Layout.{machineLength};
 ghost use Rattle.texts.specs.declared.Text.the-variants.{Of1978};
 ghost use Rattle.machine.specs.Questions.{sound};
-ghost use Rattle.machine_change.specs.Change.{changedBy, concerned};
+ghost use Rattle.machine_change.specs.Change.{changedBy, concerned, changeRefusal};
 ghost use Rattle.machine_change.specs.Words.{letThrough};
 ghost use Rattle.kept_answer.specs.Keeping.{keepOf, keptAfter, changeOf};
 use order_sums::Kept;
@@ -23,6 +23,20 @@ pub fn keep(m: &[u32], kept: &mut Kept) -> u32
     order_counts::count(m, &mut made);
     order_rule::answer(&mut made);
     *kept = made;
+    0
+}
+
+// The number of the first question of a change that is answered no, or 0.
+fn refusal(m: &[u32], kind: u32, generator: u32, value: u32) -> u32
+    ensures { λ r. ⌜ r ≡ changeRefusal (now (m .entry)) (record { kind = kind; generator = generator; value = value }) ⌝ }
+{
+    let number = machine::refusal(Text::Of1978, m);
+    if number != 0 {
+        return number;
+    }
+    if !machine_change::let_through(m, kind, generator, value) {
+        return 2;
+    }
     0
 }
 
@@ -44,13 +58,9 @@ fn update(m: &mut [u32], kept: &mut Kept, kind: u32, generator: u32, value: u32)
 pub fn change(m: &mut [u32], kept: &mut Kept, kind: u32, generator: u32, value: u32) -> u32
     ensures { λ r. ⌜ record { number = r; machine = now (m .exit); kept = now (kept .exit) } ≡ changeOf (now (m .entry)) (now (kept .entry)) (record { kind = kind; generator = generator; value = value }) ⌝ }
 {
-    let number = machine::refusal(Text::Of1978, m);
-    if number != 0 {
-        return number;
+    let number = refusal(m, kind, generator, value);
+    if number == 0 {
+        update(m, kept, kind, generator, value);
     }
-    if !machine_change::let_through(m, kind, generator, value) {
-        return 2;
-    }
-    update(m, kept, kind, generator, value);
-    0
+    number
 }

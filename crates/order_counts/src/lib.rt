@@ -71,9 +71,9 @@ pub fn shift_counted(m: &[u32], kept: &mut Kept, g: usize, up: bool)
     requires { ⌜ g < generators ⌝ }
     ensures { λ r. ⌜ now (kept .exit) ≡ countedMoved up (now (m .entry)) (now (kept .entry)) g ⌝ }
 {
-    let t = layout::ticks(m);
-    if g < t {
-        shift_generator(m, t, kept, g, up);
+    let counted = layout::ticks(m);
+    if g < counted {
+        shift_generator(m, counted, kept, g, up);
     }
 }
 
