@@ -16,7 +16,7 @@ BESIDE = ROOT.parent / "shared" / "docs" / "01-scope.md"
 REQUESTS = "02-change-requests.md"
 
 # The requests that have landed: each landing adds its name.
-LANDED = ("Q-1", "Q-2", "Q-3", "Q-4", "Q-5", "Q-6", "Q-7", "Q-8", "Q-9", "Q-10")
+LANDED = ("Q-1", "Q-2", "Q-3", "Q-4", "Q-5", "Q-6", "Q-7", "Q-8", "Q-9", "Q-10", "Q-13")
 
 
 def plain(text):
