@@ -1,15 +1,10 @@
 /* A pass in plain C beside the proved one: bench/pass builds this, and it times both in turn on the same machines.
    The C is written from the papers, on the machine's words in place, with the same questions asked. */
 #define _POSIX_C_SOURCE 199309L
-#include "plain.h"
-#include "tables.h" /* quarter, entries: made by bench/pass from the reference */
-
-#include <string.h>
+#include "plain_pass.h"
 
 /* Bit n is 1 where function n reads A late. */
 static const uint32_t late_a = 0x0040BB90;
-
-static int32_t signed20(uint32_t x) { return (int32_t)(x << 12) >> 12; }
 
 /* Whether delay unit n doesn't act as inactive, as it would from (T-6) div 4 on. */
 static int unit_runs(const uint32_t *m, uint32_t n) {
@@ -18,8 +13,7 @@ static int unit_runs(const uint32_t *m, uint32_t n) {
 
 /* The questions of a pass. */
 
-/* Question 10, of memory that is long enough. */
-static int sound_memory(const uint32_t *memory) {
+__attribute__((noinline, aligned(64))) int sound_memory(const uint32_t *memory) {
     uint32_t all = 0;
     for (int i = 0; i < KARVELORN_MEMORY_WORDS; i++) all |= memory[i];
     return !(all >> 20);
@@ -60,11 +54,6 @@ static uint32_t refusal(const uint32_t *m, size_t words, const uint32_t *order, 
 
 /* Generators. */
 
-static int leaves20(uint32_t a, uint32_t b) {
-    int32_t s = signed20(a) + signed20(b);
-    return s < -524288 || s > 524287;
-}
-
 /* Steps 3 and 6 to 9: P of a generator as its turn begins. */
 static uint32_t output(const uint32_t *g, int turning, uint32_t f, uint32_t j) {
     uint32_t mode = g[GMODE] & 15, env = g[GMODE] >> 4 & 3;
@@ -85,26 +74,6 @@ static uint32_t output(const uint32_t *g, int turning, uint32_t f, uint32_t j) {
     uint32_t v = LOW(env & 1 ? g[GL] + q : g[GL] - q, 12);
     uint32_t p = (w * v + 32) / 64;
     return LOW(negative ? 0u - p : p, 20);
-}
-
-/* Steps 2 and 4. */
-static void turn(uint32_t *g, uint32_t j) {
-    g[GJ] = LOW(g[GJ] + (uint32_t)signed20(g[GO]), 28);
-    g[GK] = LOW(g[GK] + j, 20);
-}
-
-/* Step 7: whether the envelope overflows; GQ is brought up to date. */
-static int decay(uint32_t *g, int is_free) {
-    int32_t sum = (int32_t)g[GQ] + signed20(g[GP]);
-    int over = sum < 0 || sum > 16777215;
-    if (!over || is_free) g[GQ] = LOW((uint32_t)sum, 24);
-    return over;
-}
-
-/* A signed sum of 20 bits; the mark is set where it leaves its range. */
-static uint32_t add_marked(uint32_t a, uint32_t b, uint8_t *mark) {
-    *mark |= (uint8_t)leaves20(a, b);
-    return LOW(a + b, 20);
 }
 
 static void set_run_mode(uint32_t *g, uint32_t run) { g[GMODE] = run << 6 | LOW(g[GMODE], 6); }
@@ -144,12 +113,6 @@ static void generators(uint32_t *m, uint32_t s[4][64], const uint32_t *order, co
 
 /* Modifiers. */
 
-static int64_t scaled(uint32_t s, uint32_t a, uint32_t b) {
-    return (int64_t)signed20(a) * signed20(b) * (1 << s);
-}
-static uint32_t product(uint32_t s, uint32_t a, uint32_t b) {
-    return LOW((uint32_t)((scaled(s, a, b) + 262144) >> 19), 20);
-}
 static uint32_t integer_product(uint32_t s, uint32_t a, uint32_t b) {
     return LOW((uint32_t)(scaled(s, a, b) >> 2), 20);
 }
@@ -231,16 +194,6 @@ static uint32_t modifier_turn(uint32_t *m, uint32_t *memory, uint32_t *u, uint32
     }
 }
 
-static uint32_t look(uint32_t s[4][64], const uint32_t *view, uint32_t address) {
-    uint32_t i = address & 63;
-    return address < 64 ? s[GENERATOR_LAST][i] : address < 128 ? s[MODIFIER_LAST][i] : view[i];
-}
-
-static void write_sum(uint32_t *quadrant, uint32_t msum, uint32_t s) {
-    uint32_t *word = &quadrant[msum & 63];
-    *word = msum >> 6 ? s : LOW(*word + s, 20);
-}
-
 static void modifiers(uint32_t *m, uint32_t *memory, uint32_t s[4][64]) {
     uint32_t early[64], *late = s[MODIFIER_THIS];
     uint32_t msums[4], written[4]; /* the last four writes, that of k at k mod 4 */
@@ -275,31 +228,100 @@ __attribute__((noinline)) uint32_t plain_pass(uint32_t *m, size_t words, const u
     memcpy(s, m + SUMS, sizeof s);
     generators(m, s, order, items, places, read, written, clipped);
     modifiers(m, memory, s);
-    memset(m + SUMS, 0, sizeof s);
-    memcpy(m + SUMS + 64, s[GENERATOR_THIS], sizeof s[0]);
-    memcpy(m + SUMS + 192, s[MODIFIER_THIS], sizeof s[0]);
-    m[COUNTER]++;
+    end_pass(m, s);
     return 0;
 }
 
 #ifndef ONLY_PLAIN
 
-/* The timing. */
-
 typedef uint32_t pass_function(uint32_t *, size_t, const uint32_t *, size_t, const uint32_t *, size_t, uint32_t *,
                                size_t, uint32_t *, size_t, size_t *, size_t *, uint8_t *);
 
-pass_function plain_pass_o3;
+pass_function plain_pass_o3, plain_old_pass, plain_old_pass_o3; /* those of the older text are in old_pass.c */
 
-static const double limit = 1.1; /* the ratio to gcc -O2 at most */
+enum { OF_1978, OLD, TEXTS };
 
-static pass_function *const sides[SIDES] = {karvelorn_pass, plain_pass, plain_pass_o3};
-static uint32_t machines[SIDES][KARVELORN_WORDS], memories[SIDES][KARVELORN_MEMORY_WORDS], order[256];
-static uint8_t marks[SIDES][KARVELORN_MARKS];
-static int marked; /* whether some pass set a mark */
+static const double limit = 1.1; /* the ratio to gcc -O2 at most, by 1978 */
 
-/* Sines under exponential envelopes, sticky and free in turn, and T/2 mixing modifiers. */
-static void make_machine(uint32_t *m, uint32_t t) {
+static const char *const names[TEXTS] = {"", "old "};
+static pass_function *const sides[TEXTS][SIDES] = {{karvelorn_pass, plain_pass, plain_pass_o3},
+                                                   {karvelorn_old_pass, plain_old_pass, plain_old_pass_o3}};
+static uint32_t machines[TEXTS][SIDES][KARVELORN_WORDS], idle[TEXTS][SIDES][KARVELORN_WORDS];
+static uint32_t memories[TEXTS][SIDES][KARVELORN_MEMORY_WORDS], order[256];
+static uint8_t marks[TEXTS][SIDES][KARVELORN_MARKS];
+static int marked[TEXTS]; /* whether some pass set a mark */
+
+/* Plain C by the older text answers as the proved pass: in all modes and functions, some machines not good. */
+
+static const uint8_t old_functions[16] = {0, 1, 2, 3, 4, 5, 6, 7, 8, 9, 10, 12, 13, 14, 16, 3};
+
+static void draw_old_machine(uint32_t *m, uint32_t t) {
+    static const uint8_t widths[GMODE] = {20, 28, 20, 11, 4, 20, 24, 12, 2, 7};
+    karvelorn_fresh(m, KARVELORN_WORDS);
+    set_ticks(m, t);
+    for (uint32_t i = 0; i < t; i++) {
+        uint32_t *g = m + GENERATOR_WORDS * i;
+        for (int k = 0; k < GMODE; k++) g[k] = draw(widths[k]);
+        if (draw(1)) g[GM] = 0;
+        if (draw(1)) g[GQ] = LOW(0u - draw(18), 24);
+        g[GMODE] = draw(3) << 5 | draw(2) << 3 | (1 + draw(16) % 5);
+    }
+    for (uint32_t k = 0; k < t / 2; k++) {
+        uint32_t *u = m + MODIFIERS + MODIFIER_WORDS * k;
+        u[M0] = draw(30);
+        u[M1] = draw(30);
+        u[L0] = draw(20) >> draw(4);
+        u[L1] = draw(20) >> draw(4);
+        u[MIN] = draw(2) + 64 * (draw(16) % 3);
+        u[MRM] = draw(2) + 64 * (draw(16) % 3);
+        u[MSUM] = draw(1) << 6 | draw(2);
+        u[MMODE] = (uint32_t)old_functions[draw(4)] << 4 | draw(4);
+    }
+    for (int i = 0; i < 4; i++)
+        for (int k = 0; k < 4; k++) m[SUMS + 64 * i + k] = draw(20);
+}
+
+static int old_alike(int cases) {
+    uint32_t items[16], places[2][16], number[2], all[13] = {0};
+    uint8_t clipped[2][KARVELORN_MARKS];
+    size_t read[2], written[2];
+    for (int i = 0; i < cases; i++) {
+        uint32_t t = 1 + draw(16) % 16;
+        size_t words = KARVELORN_WORDS - (draw(8) == 0), entries = t - (draw(8) == 0), given = draw(5) ? 16 : draw(2);
+        size_t memory_words = KARVELORN_MEMORY_WORDS - (draw(8) == 0);
+        draw_old_machine(machines[OLD][PROVED], t);
+        for (uint32_t k = 0; k < t; k++) order[k] = k;
+        for (uint32_t k = t - 1; k; k--) {
+            uint32_t at = draw(16) % (k + 1), n = order[k];
+            order[k] = order[at];
+            order[at] = n;
+        }
+        for (int k = 0; k < 16; k++) items[k] = draw(32), places[0][k] = places[1][k] = draw(32);
+        if (draw(3) == 0) machines[OLD][PROVED][draw(16) % KARVELORN_WORDS] = draw(32);
+        if (draw(5) == 0) machines[OLD][PROVED][GENERATOR_WORDS * (draw(16) % t) + GMODE] = draw(8);
+        if (draw(6) == 0) order[draw(16) % t] = draw(4);
+        memories[OLD][PROVED][7] = draw(7) ? 0 : 1u << 20;
+        memcpy(machines[OLD][PLAIN], machines[OLD][PROVED], sizeof machines[OLD][PROVED]);
+        for (int side = PROVED; side <= PLAIN; side++)
+            number[side] = sides[OLD][side](machines[OLD][side], words, order, entries, items, given, places[side], given,
+                                            memories[OLD][PROVED], memory_words, &read[side], &written[side], clipped[side]);
+        if (number[0] != number[1] || read[0] != read[1] || written[0] != written[1] || number[0] > 12 ||
+            memcmp(places[0], places[1], sizeof places[0]) || memcmp(clipped[0], clipped[1], sizeof clipped[0]) ||
+            memcmp(machines[OLD][PROVED], machines[OLD][PLAIN], sizeof machines[OLD][PROVED])) {
+            printf("old pass: case %d: R answers %u, C %u, or what they leave differs\n", i, number[0], number[1]);
+            return 0;
+        }
+        all[number[0]]++;
+    }
+    printf("old pass: %d cases alike, %u done; refused by 1 %u, 2 %u, 5 %u, 6 %u, 7 %u, 8 %u, 10 %u\n", cases, all[0],
+           all[1], all[2], all[5], all[6], all[7], all[8], all[10]);
+    return all[0] > (uint32_t)cases / 3;
+}
+
+/* The timing. */
+
+/* Sines, by the older text cosines, under exponential envelopes, sticky and free in turn, and T/2 mixing modifiers. */
+static void make_machine(uint32_t *m, int text, uint32_t t) {
     karvelorn_fresh(m, KARVELORN_WORDS);
     set_ticks(m, t);
     for (uint32_t i = 0; i < t; i++) {
@@ -312,7 +334,8 @@ static void make_machine(uint32_t *m, uint32_t t) {
         g[GL] = draw(12);
         g[GSUM] = draw(6);
         g[GFM] = draw(7);
-        g[GMODE] = (i & 1 ? RUNNING_B : RUNNING_A) << 6 | 2 << 4;
+        g[GMODE] = text == OLD ? (i & 1 ? OLD_RUNNING_B : OLD_RUNNING_A) << 5 | 2 << 3 | 4
+                               : (i & 1 ? RUNNING_B : RUNNING_A) << 6 | 2 << 4;
     }
     for (uint32_t k = 0; k < t / 2; k++) {
         uint32_t *u = m + MODIFIERS + MODIFIER_WORDS * k;
@@ -321,7 +344,7 @@ static void make_machine(uint32_t *m, uint32_t t) {
         u[MIN] = draw(6) + 64 * (k % 3);
         u[MRM] = draw(6) + 64 * (k / 3 % 3);
         u[MSUM] = draw(7);
-        u[MMODE] = 20 << 4 | draw(4);
+        u[MMODE] = (text == OLD ? 1 : 20) << 4 | draw(4);
     }
 }
 
@@ -337,87 +360,132 @@ static void add_lines(uint32_t *m, uint32_t lines) {
     }
 }
 
-/* The sides begin alike, each with a machine and a delay memory of its own. Memory is full: untouched pages could all
-   be one page of zeros. */
-static void make_sides(uint32_t t, uint32_t lines) {
-    make_machine(machines[PROVED], t);
-    add_lines(machines[PROVED], lines);
-    for (int i = 0; i < KARVELORN_MEMORY_WORDS; i++) memories[PROVED][i] = draw(20);
+/* The sides of a text begin alike, each with a machine and a delay memory of its own. Memory is full: untouched pages
+   could all be one page of zeros. */
+static void make_sides(int text, uint32_t t, uint32_t lines) {
+    uint32_t *m = machines[text][PROVED], *memory = memories[text][PROVED];
+    make_machine(m, text, t);
+    add_lines(m, lines);
+    for (int i = 0; i < KARVELORN_MEMORY_WORDS; i++) memory[i] = draw(20);
     for (int side = PLAIN; side < SIDES; side++) {
-        memcpy(machines[side], machines[PROVED], sizeof *machines);
-        memcpy(memories[side], memories[PROVED], sizeof *memories);
+        memcpy(machines[text][side], m, sizeof machines[text][side]);
+        memcpy(memories[text][side], memory, sizeof memories[text][side]);
     }
     for (uint32_t i = 0; i < t; i++) order[i] = i;
 }
 
-/* The time of one pass, from a number of passes in a row that all give the same answer. */
-static double timed(int side, size_t memory_words, uint32_t answer, int passes) {
-    uint32_t *m = machines[side];
+/* The time of one pass on a machine, from a number of passes in a row that all give the same answer. */
+static double timed_on(uint32_t *m, int text, int side, size_t memory_words, uint32_t answer, int passes) {
     size_t read, written;
     int others = 0;
     double start = now();
     for (int i = 0; i < passes; i++)
-        others += sides[side](m, KARVELORN_WORDS, order, m[T], NULL, 0, NULL, 0, memories[side], memory_words, &read,
-                              &written, marks[side]) != answer;
+        others += sides[text][side](m, KARVELORN_WORDS, order, m[T], NULL, 0, NULL, 0, memories[text][side], memory_words,
+                                    &read, &written, marks[text][side]) != answer;
     double time = (now() - start) / passes;
     if (others) {
-        fprintf(stderr, "pass: another answer than %u\n", answer);
+        fprintf(stderr, "%spass: another answer than %u\n", names[text], answer);
         exit(1);
     }
-    for (int i = 0; i < KARVELORN_MARKS; i++) marked |= marks[side][i];
+    for (int i = 0; i < KARVELORN_MARKS; i++) marked[text] |= marks[text][side][i];
     return time;
 }
 
-/* Prints the line of a call; whether the sides ended alike, and R's time within the limit. */
-static int good(const char *call, double times[SIDES][ROUNDS]) {
-    int within = print_times(call, times) <= limit, same = 1;
-    for (int side = PLAIN; side < SIDES; side++)
-        same &= !memcmp(machines[side], machines[PROVED], sizeof *machines) &&
-                !memcmp(memories[side], memories[PROVED], sizeof *memories) &&
-                !memcmp(marks[side], marks[PROVED], sizeof *marks);
-    if (!within) printf("%s: above the limit of %.2f to C -O2\n", call, limit);
-    if (!same) printf("%s: the machines, delay memories or marks differ\n", call);
-    return within && same;
+static double timed(int text, int side, size_t memory_words, uint32_t answer, int passes) {
+    return timed_on(machines[text][side], text, side, memory_words, answer, passes);
 }
 
-static int time_pass(uint32_t t, uint32_t lines, int passes) {
-    static double times[SIDES][ROUNDS];
-    char call[48];
-    make_sides(t, lines);
-    for (int i = -WARM; i < ROUNDS; i++)
-        for (int side = 0; side < SIDES; side++) {
-            double time = timed(side, KARVELORN_MEMORY_WORDS, 0, passes);
-            if (i >= 0) times[side][i] = time;
+/* Prints the line of a call and gives its ratio to -O2; whether the sides ended alike. */
+static double ended(const char *call, int text, double times[SIDES][ROUNDS], int *same) {
+    char named[64];
+    snprintf(named, sizeof named, "%s%s", names[text], call);
+    double ratio = print_times(named, times);
+    for (int side = PLAIN; side < SIDES; side++)
+        if (memcmp(machines[text][side], machines[text][PROVED], sizeof machines[text][side]) ||
+            memcmp(memories[text][side], memories[text][PROVED], sizeof memories[text][side]) ||
+            memcmp(marks[text][side], marks[text][PROVED], sizeof marks[text][side])) {
+            printf("%s: the machines, delay memories or marks differ\n", named);
+            *same = 0;
         }
+    return ratio;
+}
+
+/* The same of all texts that were timed: R's time by 1978 within the limit, and the older text's beside it. */
+static int good(const char *call, int texts, double times[TEXTS][SIDES][ROUNDS]) {
+    int all = 1;
+    double ratio[TEXTS];
+    for (int text = 0; text < texts; text++) ratio[text] = ended(call, text, times[text], &all);
+    if (ratio[OF_1978] > limit) printf("%s: above the limit of %.2f to C -O2\n", call, limit);
+    return all & (ratio[OF_1978] <= limit) & (texts == 1 || within_1978(call, ratio[OLD], ratio[OF_1978]));
+}
+
+/* By 1978, and where both texts are asked for by the older text too, in the same rounds. */
+static int time_pass(int texts, uint32_t t, uint32_t lines, int passes) {
+    static double times[TEXTS][SIDES][ROUNDS];
+    char call[48];
+    for (int text = 0; text < texts; text++) make_sides(text, t, lines);
+    for (int i = -WARM; i < ROUNDS; i++)
+        for (int side = 0; side < SIDES; side++)
+            for (int text = 0; text < texts; text++) {
+                double time = timed(text, side, KARVELORN_MEMORY_WORDS, 0, passes);
+                if (i >= 0) times[text][side][i] = time;
+            }
     snprintf(call, sizeof call, lines ? "pass at T=%u with %u lines" : "pass at T=%u", t, lines);
-    return good(call, times);
+    return good(call, texts, times);
+}
+
+/* A generator's turn in a pass: a pass of 256 that sound and no modifier that acts, without what it takes where they
+   are inactive. */
+static int time_turn(int passes) {
+    static double times[TEXTS][SIDES][ROUNDS];
+    uint32_t t = 256;
+    for (int text = 0; text < TEXTS; text++) {
+        make_sides(text, t, 0);
+        for (int side = 0; side < SIDES; side++) {
+            uint32_t *m = machines[text][side];
+            for (uint32_t k = 0; k < t / 2; k++) m[MODIFIERS + MODIFIER_WORDS * k + MMODE] = 0;
+            memcpy(idle[text][side], m, sizeof idle[text][side]);
+            for (uint32_t i = 0; i < t; i++) idle[text][side][GENERATOR_WORDS * i + GMODE] = 0;
+        }
+    }
+    for (int i = -WARM; i < ROUNDS; i++)
+        for (int side = 0; side < SIDES; side++)
+            for (int text = 0; text < TEXTS; text++) {
+                double sounding = timed(text, side, KARVELORN_MEMORY_WORDS, 0, passes);
+                double silent = timed_on(idle[text][side], text, side, KARVELORN_MEMORY_WORDS, 0, passes);
+                if (i >= 0) times[text][side][i] = (sounding - silent) / t;
+            }
+    return good("generator's turn in a pass at T=256", TEXTS, times);
 }
 
 /* The sweep of question 10 alone: a pass that the last word of delay memory refuses, without what it takes where the
    length of delay memory refuses it. */
 static int time_question_10(uint32_t t, int passes) {
-    static double times[SIDES][ROUNDS];
+    static double times[TEXTS][SIDES][ROUNDS];
     char call[48];
-    make_sides(t, 0);
-    for (int side = 0; side < SIDES; side++) memories[side][KARVELORN_MEMORY_WORDS - 1] = 1u << 20;
+    make_sides(OF_1978, t, 0);
+    for (int side = 0; side < SIDES; side++) memories[OF_1978][side][KARVELORN_MEMORY_WORDS - 1] = 1u << 20;
     for (int i = -WARM; i < ROUNDS; i++)
         for (int side = 0; side < SIDES; side++) {
-            double swept = timed(side, KARVELORN_MEMORY_WORDS, 10, passes);
-            double unswept = timed(side, KARVELORN_MEMORY_WORDS - 1, 10, passes);
-            if (i >= 0) times[side][i] = swept - unswept;
+            double swept = timed(OF_1978, side, KARVELORN_MEMORY_WORDS, 10, passes);
+            double unswept = timed(OF_1978, side, KARVELORN_MEMORY_WORDS - 1, 10, passes);
+            if (i >= 0) times[OF_1978][side][i] = swept - unswept;
         }
     snprintf(call, sizeof call, "question 10 of a pass at T=%u", t);
-    return good(call, times);
+    return good(call, 1, times);
 }
 
 int main(void) {
-    int all = time_pass(256, 0, 20);
-    all &= time_pass(64, 0, 40);
-    all &= time_pass(1, 0, 80);
-    all &= time_pass(256, 32, 20);
+    int all = old_alike(200000);
+    all &= time_pass(TEXTS, 256, 0, 20);
+    all &= time_turn(20);
+    all &= time_pass(1, 64, 0, 40);
+    all &= time_pass(1, 1, 0, 80);
+    all &= time_pass(1, 256, 32, 20);
     all &= time_question_10(256, 20);
-    if (!marked) puts("no pass set a mark");
-    return all && marked ? 0 : 1;
+    for (int text = 0; text < TEXTS; text++)
+        if (!marked[text]) printf("no %spass set a mark\n", names[text]);
+    return all && marked[OF_1978] && marked[OLD] ? 0 : 1;
 }
 
 #endif
