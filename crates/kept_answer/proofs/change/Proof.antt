@@ -1,6 +1,7 @@
 -- `kept_answer::change` meets its contract: a change that no question refuses is made, another alters nothing.
 -- Assumes nothing.
 use mathlib.Core.Path.{sym, _∙_}
+use Rattle.machine_change.specs.Change.{Change}
 use Rattle.kept_answer.proofs.Asked.{none-refuses, through}
 use Rattle.kept_answer.proofs.Calls.{change-left, change-made}
 use borrow.Author.Needs.{needs}
@@ -12,7 +13,7 @@ update-requires c κs =
     let none = c .before .before in
     let asked = none .before in
     let a = asked .before .before .before .args in
-    let change = record { kind = a .kind; generator = a .generator; value = a .value } in
+    let change : Change = record { kind = a .kind; generator = a .generator; value = a .value } in
     let p = none-refuses (a .m .now) change (sym (asked .refusal .ensures) ∙ none .if1 .taken) in
     ((p .whole, p .good), through (a .m .now) change p)
 
