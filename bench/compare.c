@@ -67,13 +67,14 @@ __attribute__((noinline)) uint32_t plain_compare(const uint32_t *m, size_t words
 
 typedef uint32_t compare_function(const uint32_t *, size_t, const uint32_t *, size_t, const uint32_t *, size_t, uint32_t *);
 
-compare_function plain_compare_o3, plain_old_compare, plain_old_compare_o3; /* those of the older text are in old_compare.c */
+compare_function plain_compare_o3, plain_compare_native, plain_old_compare, plain_old_compare_o3, plain_old_compare_native; /* those of the older text are in old_compare.c */
 
 enum { OF_1978, OLD, TEXTS };
 
 static const char *const names[TEXTS] = {"", "old "};
-static compare_function *const sides[TEXTS][SIDES] = {{karvelorn_compare, plain_compare, plain_compare_o3},
-                                                      {karvelorn_old_compare, plain_old_compare, plain_old_compare_o3}};
+static compare_function *const sides[TEXTS][SIDES] = {
+    {karvelorn_compare, plain_compare, plain_compare_o3, plain_compare_native},
+    {karvelorn_old_compare, plain_old_compare, plain_old_compare_o3, plain_old_compare_native}};
 
 /* Machines and orders. */
 
@@ -199,6 +200,7 @@ static int time_all(int texts, uint32_t t, int times_each) {
 }
 
 int main(void) {
+    print_load();
     if (!alike(OF_1978, 200000) || !alike(OLD, 200000)) return 1;
     int within = time_all(TEXTS, 256, 20);
     time_all(1, 64, 40);
