@@ -1,63 +1,42 @@
 /* Whether all orders are equal, in plain C beside the proved call: bench/any_order builds this. It asks both about the same machines, then
-   times both in turn. The C is written from the papers, in time linear in T, with the same questions asked. */
+   times both in turn. The C is written from the papers, in one loop over the generators, with the same questions asked. */
 #define _POSIX_C_SOURCE 199309L
 #include "plain.h"
 
-#include <string.h>
-
-/* The counts of the generators below T, as the proved call keeps them. */
-typedef struct {
-    uint32_t readers[64], adders[64]; /* by sum word */
-    uint32_t writers[128];            /* by GFM */
-    uint32_t feeders[16][128];        /* by DAC and GFM */
-    uint32_t all_readers, awaiting;
-} counts;
-
-static void count(const uint32_t *m, counts *c) {
-    uint32_t lower = 0;
+/* What the rule needs of the generators below T, in one loop: the first source of each DAC and of the written data, plus 1, and whether another one
+   came; the words with a reader and those with an adding generator; how many readers there are; whether one waits for a lower neighbour that can trigger. */
+static int rule(const uint32_t *m) {
+    uint8_t fed[16] = {0};
+    uint64_t read = 0, added = 0;
+    uint32_t written = 0, apart = 0, readers = 0, lower = 0;
     const uint32_t *end = m + GENERATOR_WORDS * m[T];
     for (const uint32_t *g = m; g < end; g += GENERATOR_WORDS) {
-        uint32_t run = g[GMODE] >> 6;
-        if (run == READ_DATA) {
-            c->readers[g[GSUM]]++;
-            c->all_readers++;
-        } else if (run >= RUNNING_C) {
-            c->adders[g[GSUM]]++;
-        } else if (run == WRITE_DATA) {
-            c->writers[g[GFM]]++;
+        uint32_t run = g[GMODE] >> 6, source = g[GFM] + 1;
+        if (run >= RUNNING_C) {
+            added |= (uint64_t)1 << g[GSUM];
         } else if (run == WRITE_DAC) {
-            c->feeders[g[GO] & 15][g[GFM]]++;
-        } else if (run == WAIT && (lower == RUNNING_B || lower == RUNNING_C)) {
-            c->awaiting++;
+            uint8_t *first = &fed[g[GO] & 15];
+            apart |= *first && *first != source;
+            *first = (uint8_t)source;
+        } else if (run == WRITE_DATA) {
+            apart |= written && written != source;
+            written = source;
+        } else if (run == READ_DATA) {
+            read |= (uint64_t)1 << g[GSUM];
+            readers++;
+        } else if (run == WAIT) {
+            apart |= lower == RUNNING_B || lower == RUNNING_C;
         }
         lower = run;
     }
-}
-
-/* Whether at most one of 128 counts is not 0. */
-static int share_one(const uint32_t *by_source) {
-    uint32_t used = 0;
-    for (int v = 0; v < 128; v++) used += by_source[v] != 0;
-    return used <= 1;
-}
-
-static int rule(const counts *c) {
-    if (c->awaiting || c->all_readers > 1 || !share_one(c->writers)) return 0;
-    for (int d = 0; d < 16; d++)
-        if (!share_one(c->feeders[d])) return 0;
-    for (int w = 0; w < 64; w++)
-        if (c->readers[w] && c->adders[w]) return 0;
-    return 1;
+    return !apart && readers <= 1 && !(read & added);
 }
 
 __attribute__((noinline)) uint32_t plain_any_order(const uint32_t *m, size_t words, uint32_t *yes) {
-    counts c;
     *yes = 0;
     if (words != KARVELORN_WORDS) return 1;
     if (!sound_machine(m)) return 2;
-    memset(&c, 0, sizeof c);
-    count(m, &c);
-    *yes = (uint32_t)rule(&c);
+    *yes = (uint32_t)rule(m);
     return 0;
 }
 
@@ -131,7 +110,7 @@ static const double limit = 1.1; /* the ratio to gcc -O2 at most */
 
 typedef uint32_t any_order_function(const uint32_t *, size_t, uint32_t *);
 
-any_order_function plain_any_order_o3;
+any_order_function plain_any_order_o3, plain_any_order_native;
 
 /* The time of one call, from a number of them in a row. */
 static double timed(any_order_function *any_order, const uint32_t *m, int times) {
@@ -149,9 +128,9 @@ static double timed(any_order_function *any_order, const uint32_t *m, int times)
     return spent;
 }
 
-/* Times the three sides on a machine on which every clause holds; whether R's time is within the limit. */
+/* Times the sides on a machine on which every clause holds; whether R's time is within the limit. */
 static int time_all(uint32_t t, int times_each) {
-    static any_order_function *const sides[SIDES] = {karvelorn_any_order, plain_any_order, plain_any_order_o3};
+    static any_order_function *const sides[SIDES] = {karvelorn_any_order, plain_any_order, plain_any_order_o3, plain_any_order_native};
     static uint32_t m[KARVELORN_WORDS];
     static double times[SIDES][ROUNDS];
     char call[32];
@@ -168,6 +147,7 @@ static int time_all(uint32_t t, int times_each) {
 }
 
 int main(void) {
+    print_load();
     if (!alike(200000)) return 1;
     int all = time_all(256, 20);
     all &= time_all(64, 40);

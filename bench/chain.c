@@ -122,7 +122,7 @@ static const double limit = 1.6; /* the ratio to gcc -O2 at most, where the ques
 
 typedef uint32_t chain_function(const uint32_t *, size_t, const uint32_t *, size_t, uint32_t *);
 
-chain_function plain_chain_o3, merged_chain_o3;
+chain_function plain_chain_o3, plain_chain_native, merged_chain_o3, merged_chain_native;
 
 /* The time of one call, from a number of them in a row. */
 static double timed(chain_function *chain, const list *c, int times) {
@@ -137,7 +137,7 @@ static double timed(chain_function *chain, const list *c, int times) {
     return spent;
 }
 
-/* Times the three sides on a chain that is numbered; R's time by that of gcc -O2. */
+/* Times the sides on a chain that is numbered; R's time by that of gcc -O2. */
 static double time_all(chain_function *const sides[SIDES], const char *beside, uint32_t size, uint32_t named, int times_each) {
     static list c;
     static double times[SIDES][ROUNDS];
@@ -154,8 +154,9 @@ static double time_all(chain_function *const sides[SIDES], const char *beside, u
 }
 
 int main(void) {
-    static chain_function *const plain[SIDES] = {karvelorn_chain, plain_chain, plain_chain_o3};
-    static chain_function *const merged[SIDES] = {karvelorn_chain, merged_chain, merged_chain_o3};
+    static chain_function *const plain[SIDES] = {karvelorn_chain, plain_chain, plain_chain_o3, plain_chain_native};
+    static chain_function *const merged[SIDES] = {karvelorn_chain, merged_chain, merged_chain_o3, merged_chain_native};
+    print_load();
     if (!alike(200000)) return 1;
     double ratio = time_all(plain, "", 128, 8, 20);
     time_all(merged, ", beside one loop", 128, 8, 20);

@@ -11,25 +11,6 @@ static uint32_t refusal(const uint32_t *m, size_t words, const uint32_t *first, 
     return orders_refusal(m, first, first_len, second, second_len);
 }
 
-static void follow(const uint32_t *m, const uint32_t *order, trace *o) {
-    uint32_t t = m[T];
-    begin(o);
-    for (uint32_t i = 0; i < t; i++) {
-        uint32_t n = order[i], run;
-        const uint32_t *g = m + GENERATOR_WORDS * n;
-        run = g[GMODE] >> 6;
-        o->at[n] = (uint8_t)i;
-        if (run == WRITE_DAC) {
-            o->fed[g[GO] & 15] = g[GFM];
-        } else if (run == WRITE_DATA) {
-            o->written[o->writes++] = g[GFM];
-        } else if (run == READ_DATA) {
-            o->last[g[GSUM]] = n + 1;
-            o->among[g[GSUM]] = o->replacing++;
-        }
-    }
-}
-
 static int neighbours_agree(const uint32_t *m, const trace *a, const trace *b) {
     for (uint32_t g = 1; g < m[T]; g++) {
         uint32_t lower = m[GENERATOR_WORDS * (g - 1) + GMODE] >> 6;
@@ -57,8 +38,8 @@ __attribute__((noinline)) uint32_t plain_compare(const uint32_t *m, size_t words
     uint32_t number = refusal(m, words, first, first_len, second, second_len);
     *equal = 0;
     if (number) return number;
-    follow(m, first, &a);
-    follow(m, second, &b);
+    follow_1978(m, first, &a);
+    follow_1978(m, second, &b);
     *equal = neighbours_agree(m, &a, &b) && same_sent(&a, &b) && words_agree(m, &a, &b);
     return 0;
 }
@@ -67,13 +48,14 @@ __attribute__((noinline)) uint32_t plain_compare(const uint32_t *m, size_t words
 
 typedef uint32_t compare_function(const uint32_t *, size_t, const uint32_t *, size_t, const uint32_t *, size_t, uint32_t *);
 
-compare_function plain_compare_o3, plain_old_compare, plain_old_compare_o3; /* those of the older text are in old_compare.c */
+compare_function plain_compare_o3, plain_compare_native, plain_old_compare, plain_old_compare_o3, plain_old_compare_native; /* those of the older text are in old_compare.c */
 
 enum { OF_1978, OLD, TEXTS };
 
 static const char *const names[TEXTS] = {"", "old "};
-static compare_function *const sides[TEXTS][SIDES] = {{karvelorn_compare, plain_compare, plain_compare_o3},
-                                                      {karvelorn_old_compare, plain_old_compare, plain_old_compare_o3}};
+static compare_function *const sides[TEXTS][SIDES] = {
+    {karvelorn_compare, plain_compare, plain_compare_o3, plain_compare_native},
+    {karvelorn_old_compare, plain_old_compare, plain_old_compare_o3, plain_old_compare_native}};
 
 /* Machines and orders. */
 
@@ -199,6 +181,7 @@ static int time_all(int texts, uint32_t t, int times_each) {
 }
 
 int main(void) {
+    print_load();
     if (!alike(OF_1978, 200000) || !alike(OLD, 200000)) return 1;
     int within = time_all(TEXTS, 256, 20);
     time_all(1, 64, 40);

@@ -123,7 +123,7 @@ static const double limit = 1.1; /* the ratio to gcc -O2 at most */
 
 typedef uint32_t join_function(uint32_t *, size_t, const uint32_t *, size_t);
 
-join_function plain_join_o3;
+join_function plain_join_o3, plain_join_native;
 
 /* The time of one call, from a number of them in a row, each on its own copy of the first machine. */
 static double timed(join_function *join, const uint32_t *first, const uint32_t *second, int times) {
@@ -140,9 +140,9 @@ static double timed(join_function *join, const uint32_t *first, const uint32_t *
     return spent;
 }
 
-/* Times the three sides on a pair that is joined; whether R's time is within the limit. */
+/* Times the sides on a pair that is joined; whether R's time is within the limit. */
 static int time_all(uint32_t t, uint32_t u, int times_each) {
-    static join_function *const sides[SIDES] = {karvelorn_join, plain_join, plain_join_o3};
+    static join_function *const sides[SIDES] = {karvelorn_join, plain_join, plain_join_o3, plain_join_native};
     static uint32_t first[KARVELORN_WORDS], second[KARVELORN_WORDS];
     static double times[SIDES][ROUNDS];
     char call[48];
@@ -160,6 +160,7 @@ static int time_all(uint32_t t, uint32_t u, int times_each) {
 }
 
 int main(void) {
+    print_load();
     if (!alike(100000)) return 1;
     int all = time_all(128, 128, 20);
     all &= time_all(255, 1, 20);

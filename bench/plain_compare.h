@@ -32,15 +32,35 @@ static void begin(trace *o) {
     o->writes = o->replacing = 0;
 }
 
+/* What an order of a 1978 machine is followed to. */
+SHARED void follow_1978(const uint32_t *m, const uint32_t *order, trace *o) {
+    uint32_t t = m[T];
+    begin(o);
+    for (uint32_t i = 0; i < t; i++) {
+        uint32_t n = order[i], run;
+        const uint32_t *g = m + GENERATOR_WORDS * n;
+        run = g[GMODE] >> 6;
+        o->at[n] = (uint8_t)i;
+        if (run == WRITE_DAC) {
+            o->fed[g[GO] & 15] = g[GFM];
+        } else if (run == WRITE_DATA) {
+            o->written[o->writes++] = g[GFM];
+        } else if (run == READ_DATA) {
+            o->last[g[GSUM]] = n + 1;
+            o->among[g[GSUM]] = o->replacing++;
+        }
+    }
+}
+
 static int same_side(const trace *a, const trace *b, uint32_t g, uint32_t h) {
     return (a->at[g] < a->at[h]) == (b->at[g] < b->at[h]);
 }
 
-static int same_sent(const trace *a, const trace *b) {
+SHARED int same_sent(const trace *a, const trace *b) {
     return !memcmp(a->fed, b->fed, sizeof a->fed) && !memcmp(a->written, b->written, a->writes * sizeof *a->written);
 }
 
-static int same_last(const trace *a, const trace *b) {
+SHARED int same_last(const trace *a, const trace *b) {
     return !memcmp(a->last, b->last, sizeof a->last) && !memcmp(a->among, b->among, sizeof a->among);
 }
 

@@ -13,51 +13,40 @@ enum { BEHIND_MOST = 4096 };
 #define FLAG(c, bit) FIELD(c, bit, bit)
 #define DATA(c) ((c) >> 12)
 
-/* Questions 3 and 4. */
-static uint32_t command_refusal(uint32_t c) {
-    uint32_t mode;
-    switch (FIELD(c, 24, 28)) {
-    case 0: return FIELD(c, 29, 30) >= 2 || FLAG(c, 35) ? 3 : 0;
-    case 1: return FIELD(c, 29, 30) == 3 || (FIELD(c, 29, 30) == 2 && !(built_delay >> FIELD(c, 20, 23) & 1)) ? 3 : 0;
-    case 3: return FLAG(c, 31) ? 3 : !FLAG(c, 32) && FIELD(c, 14, 23) > 255 ? 4 : 0;
-    case 20: case 21:
-        mode = FIELD(c, 7, 16);
-        return FLAG(c, 4) || (built_run >> (mode >> 6) & built_oscillator >> (mode & 15) & 1) ? 0 : 3;
-    case 30: return FLAG(c, 4) || (built_function >> FIELD(c, 8, 12) & 1) ? 0 : 3;
-    case 31: return (FLAG(c, 4) || FIELD(c, 8, 9) != 3) && (FLAG(c, 5) || FIELD(c, 16, 17) != 3) ? 0 : 3;
-    default: return 0;
-    }
-}
+/* The commands. Each is judged, by questions 3 and 4, and done in one place: what it answers is the number of its refusal, 0, or that it waits. */
 
-/* The commands. */
+enum { WAITS = 256 };
 
 static void release(uint32_t *m, uint32_t run) {
     for (uint32_t *g = m; g < m + MODIFIERS; g += GENERATOR_WORDS)
         if (g[GMODE] >> 6 == run) g[GMODE] = RUNNING_A << 6 | (g[GMODE] & 63);
 }
 
-static void miscellany(uint32_t *m, uint32_t c) {
+static uint32_t miscellany(uint32_t *m, uint32_t c) {
+    if (FIELD(c, 29, 30) >= 2 || FLAG(c, 35)) return 3;
     if (FIELD(c, 29, 30) == 1) m[DX] = DATA(c);
     if (FLAG(c, 33)) release(m, WAIT);
     if (FLAG(c, 34)) release(m, PAUSE);
+    return 0;
 }
 
-static void load_delay(uint32_t *d, uint32_t c) {
+static uint32_t load_delay(uint32_t *d, uint32_t c) {
     switch (FIELD(c, 29, 30)) {
     case 0:
         d[X] = FIELD(c, 4, 19);
         d[Y] = 0;
-        break;
-    case 1: d[Y] = 65535 - FIELD(c, 4, 19); break;
+        return 0;
+    case 1: d[Y] = 65535 - FIELD(c, 4, 19); return 0;
     case 2:
+        if (!(built_delay >> FIELD(c, 20, 23) & 1)) return 3;
         d[Z] = FIELD(c, 4, 19);
         d[P] = FIELD(c, 20, 23);
-        break;
+        return 0;
+    default: return 3;
     }
 }
 
-/* Says whether the Linger waits. */
-static int linger(uint32_t *m, uint32_t number) {
+static uint32_t linger(uint32_t *m, uint32_t number) {
     uint32_t behind = (m[COUNTER] - number) & 0xFFFFF;
     if (!behind) return 0;
     if (behind <= BEHIND_MOST) {
@@ -66,10 +55,10 @@ static int linger(uint32_t *m, uint32_t number) {
     }
     m[LINGERING] = 1;
     m[LINGER_PASS] = number;
-    return 1;
+    return WAITS;
 }
 
-static int timer(uint32_t *m, uint32_t c) {
+static uint32_t timer(uint32_t *m, uint32_t c) {
     switch (FIELD(c, 31, 32)) {
     case 1: m[COUNTER] = DATA(c); return 0;
     case 2: return linger(m, DATA(c));
@@ -78,10 +67,17 @@ static int timer(uint32_t *m, uint32_t c) {
     }
 }
 
-static void ticks(uint32_t *m, uint32_t c) {
-    if (FLAG(c, 32)) m[N] = FIELD(c, 14, 23) + 2;
-    else m[T] = FIELD(c, 14, 23) + 1;
+static uint32_t ticks(uint32_t *m, uint32_t c) {
+    uint32_t number = FIELD(c, 14, 23);
+    if (FLAG(c, 31)) return 3;
+    if (FLAG(c, 32)) {
+        m[N] = number + 2;
+    } else {
+        if (number > 255) return 4;
+        m[T] = number + 1;
+    }
     m[UPDATE_TICKS] = update_ticks(m[T], m[N]);
+    return 0;
 }
 
 /* A register of so many bits, right-adjusted with sign extended or left-adjusted with its low bits from DX. */
@@ -94,33 +90,42 @@ static void adjusted(uint32_t *m, uint32_t *word, int width, uint32_t left, uint
     }
 }
 
-static void load_mmode(uint32_t *u, uint32_t c) {
-    if (!FLAG(c, 4)) u[MMODE] = FIELD(c, 8, 12) << 4 | (u[MMODE] & 15);
+static uint32_t load_mmode(uint32_t *u, uint32_t c) {
+    if (!FLAG(c, 4)) {
+        if (!(built_function >> FIELD(c, 8, 12) & 1)) return 3;
+        u[MMODE] = FIELD(c, 8, 12) << 4 | (u[MMODE] & 15);
+    }
     if (!FLAG(c, 7)) u[MMODE] = (u[MMODE] & ~15u) | FIELD(c, 13, 16);
     if (!FLAG(c, 5)) u[MSUM] = FIELD(c, 17, 23);
     if (FLAG(c, 6)) u[L0] = 0;
+    return 0;
 }
 
-static void load_addresses(uint32_t *u, uint32_t c) {
+static uint32_t load_addresses(uint32_t *u, uint32_t c) {
+    if ((!FLAG(c, 4) && FIELD(c, 8, 9) == 3) || (!FLAG(c, 5) && FIELD(c, 16, 17) == 3)) return 3;
     if (!FLAG(c, 4)) u[MRM] = FIELD(c, 8, 15);
     if (!FLAG(c, 5)) u[MIN] = FIELD(c, 16, 23);
     if (FLAG(c, 6)) u[L1] = 0;
+    return 0;
 }
 
-static void load_gmode(uint32_t *g, uint32_t c) {
-    if (!FLAG(c, 4)) g[GMODE] = FIELD(c, 7, 16);
+static uint32_t load_gmode(uint32_t *g, uint32_t c) {
+    if (!FLAG(c, 4)) {
+        if (!built_gmode[FIELD(c, 7, 16)]) return 3;
+        g[GMODE] = FIELD(c, 7, 16);
+    }
     if (!FLAG(c, 5)) g[GFM] = FIELD(c, 17, 23);
     if (FLAG(c, 6)) g[GK] = 0;
+    return 0;
 }
 
-/* Says whether the command is a Linger that waits. */
-static int take_command(uint32_t *m, uint32_t c) {
+static uint32_t take_command(uint32_t *m, uint32_t c) {
     uint32_t *g = m + GENERATOR_WORDS * FIELD(c, 28, 35), *u = m + MODIFIERS + MODIFIER_WORDS * FIELD(c, 29, 35);
     switch (FIELD(c, 24, 28)) {
-    case 0: miscellany(m, c); break;
-    case 1: load_delay(m + DELAYS + DELAY_WORDS * FIELD(c, 31, 35), c); break;
+    case 0: return miscellany(m, c);
+    case 1: return load_delay(m + DELAYS + DELAY_WORDS * FIELD(c, 31, 35), c);
     case 2: return timer(m, c);
-    case 3: ticks(m, c); break;
+    case 3: return ticks(m, c);
     case 4: case 5: case 6: case 7: adjusted(m, g + GQ, 24, FLAG(c, 27), c); break;
     case 8: case 9: case 10: case 11: adjusted(m, g + GJ, 28, FLAG(c, 27), c); break;
     case 12: case 13: g[GP] = DATA(c); break;
@@ -133,12 +138,12 @@ static int take_command(uint32_t *m, uint32_t c) {
         if (!FLAG(c, 5)) g[GSUM] = FIELD(c, 18, 23);
         break;
     case 18: case 19: g[GK] = DATA(c); break;
-    case 20: case 21: load_gmode(g, c); break;
+    case 20: case 21: return load_gmode(g, c);
     case 22: case 23: g[GO] = DATA(c); break;
     case 24: case 25: case 26: case 27: adjusted(m, u + (FLAG(c, 28) ? M1 : M0), 30, FLAG(c, 27), c); break;
     case 28: case 29: u[FLAG(c, 28) ? L1 : L0] = DATA(c); break;
-    case 30: load_mmode(u, c); break;
-    case 31: load_addresses(u, c); break;
+    case 30: return load_mmode(u, c);
+    case 31: return load_addresses(u, c);
     }
     return 0;
 }
@@ -157,10 +162,10 @@ __attribute__((noinline)) uint32_t plain_update(uint32_t *m, size_t words, const
     m[LINGERING] = 0;
     size_t most = m[UPDATE_TICKS];
     for (size_t i = 0; i < count && i < most; i++) {
-        uint32_t number = command_refusal(commands[i]);
-        if (number) return number;
-        ++*taken;
-        if (take_command(m, commands[i])) break;
+        uint32_t answer = take_command(m, commands[i]);
+        if (answer && answer != WAITS) return answer;
+        *taken = i + 1;
+        if (answer) break;
     }
     return 0;
 }
@@ -173,7 +178,7 @@ enum { MOST = 256, KINDS = 16 };
 
 typedef uint32_t update_function(uint32_t *, size_t, const uint32_t *, size_t, size_t *);
 
-update_function plain_update_o3;
+update_function plain_update_o3, plain_update_native;
 
 /* A command by its data and its right 12 bits. */
 static uint32_t command(uint32_t data, uint32_t right) { return data << 12 | right; }
@@ -238,7 +243,7 @@ static double timed(update_function *update, uint32_t *m, const uint32_t *comman
 
 /* The updates in turn, each on a machine of its own that begins alike; whether they end alike. */
 static int compare(size_t count, int updates) {
-    static update_function *const sides[SIDES] = {karvelorn_update, plain_update, plain_update_o3};
+    static update_function *const sides[SIDES] = {karvelorn_update, plain_update, plain_update_o3, plain_update_native};
     static uint32_t machines[SIDES][KARVELORN_WORDS], commands[MOST];
     static double times[SIDES][ROUNDS];
     char call[40];
@@ -257,6 +262,7 @@ static int compare(size_t count, int updates) {
 }
 
 int main(void) {
+    print_load();
     int same = compare(MOST, 20);
     same &= compare(16, 40);
     same &= compare(0, 40);

@@ -82,17 +82,18 @@ def shown_in_part(printed, shown):
 
 
 def readme(folder):
-    """What README shows of hear, run and partials is what they print (tests/compare_words.py has its runs of compare)."""
+    """What README, docs/HEAR.md and examples/README.md show of hear, run and partials is what they print (tests/compare_words.py has the runs of compare)."""
     shutil.copytree(EXAMPLES, Path(folder, "examples"), ignore=shutil.ignore_patterns("*.wav", "*.older*"))
     for name in ("karvelorn", "hear", "run"):
         Path(folder, name).symlink_to(ROOT / name)
     whole = {"./hear": "./hear examples/bell.txt", "./run": "./run examples/short_bell.txt"}  # without a name these take the repository's own
-    tried = [(command, shown) for command, shown in sessions((ROOT / "README.md").read_text()) if command in whole or command.startswith("./karvelorn ")]
+    pages = "\n".join((ROOT / page).read_text() for page in ("README.md", "docs/HEAR.md", "examples/README.md"))
+    tried = [(command, shown) for command, shown in sessions(pages) if command in whole or command.startswith("./karvelorn ")]
     for command, shown in tried:
         done = run("bash", "-c", whole.get(command, command), cwd=folder)
         assert done.status == 0 and (shown_in_part(done.out.splitlines(), shown) or command == "./run" and shown_in_part(done.out.splitlines(), [*shown, "..."])), (command, done.out, shown)
         assert not shown_in_part(done.out.splitlines(), ["nonsense", *shown]), command
-    assert len(tried) == 3, tried
+    assert len(tried) == 4, tried
     return len(tried)
 
 

@@ -219,9 +219,9 @@ def long_orders(at):
 
 
 def refusals(at):
-    """Each refusal, with its question as README has it and its cause."""
-    table = dict(re.findall(r"^\| (\d+) \| (.*\?) \|$", (ROOT / "README.md").read_text(), flags=re.M))
-    assert all(table[str(number)] == question for number, question in questions.QUESTIONS.items()), "the questions aren't README's"
+    """Each refusal, with its question as docs/FILE.md has it and its cause."""
+    table = dict(re.findall(r"^\| (\d+) \| (.*\?) \|$", (ROOT / "docs" / "FILE.md").read_text(), flags=re.M))
+    assert all(table[str(number)] == question for number, question in questions.QUESTIONS.items()), "the questions aren't those of docs/FILE.md"
     two = bench([(RUNS, {}), (RUNS, {})])
     lines = two.count("\n")
     for text, cause in (("", "the file is empty: passes= is missing"), ("passes=x\n", "line 1 (passes=x): the number of passes is no decimal number"), (two + "\n", f"line {lines + 1}: is empty"),
@@ -288,13 +288,13 @@ def other_programs(at, file):
 
 
 def readme(at):
-    """The runs that README shows are real."""
-    shown = re.findall(r"^    \$ \./compare (.*)\n((?:    [^$\n].*\n)+)", (ROOT / "README.md").read_text(), flags=re.M)
+    """The runs that docs/ORDERS.md shows are real."""
+    shown = re.findall(r"^    \$ \./compare (.*)\n((?:    [^$\n].*\n)+)", (ROOT / "docs" / "ORDERS.md").read_text(), flags=re.M)
     for arguments, lines in shown:
-        assert run("./compare", *arguments.split()).stdout == re.sub("^    ", "", lines, flags=re.M), f"README shows another run of ./compare {arguments}"
+        assert run("./compare", *arguments.split()).stdout == re.sub("^    ", "", lines, flags=re.M), f"docs/ORDERS.md shows another run of ./compare {arguments}"
         at.tried += 1
-    order = re.search(r"^    \$ cat examples/two_strokes.order\n((?:    order=.*\n)+)", (ROOT / "README.md").read_text(), flags=re.M)
-    assert len(shown) == 3 and order[1].replace("    ", "") == (ROOT / "examples" / "two_strokes.order").read_text(), "README lacks a run or shows another order file"
+    order = re.search(r"^    \$ cat examples/two_strokes.order\n((?:    order=.*\n)+)", (ROOT / "docs" / "ORDERS.md").read_text(), flags=re.M)
+    assert len(shown) == 3 and order[1].replace("    ", "") == (ROOT / "examples" / "two_strokes.order").read_text(), "docs/ORDERS.md lacks a run or shows another order file"
 
 
 def named_words():

@@ -1,5 +1,5 @@
 """Tries the bench program where the outside fails it: a full device, a closed pipe, a failing descriptor, input in pieces.
-Then README's recipe for many files, also on a disk of 500 kB.
+Then the recipe of docs/HEAR.md for many files, also on a disk of 500 kB.
 
     python3 tests/outside.py [PROGRAM]
 
@@ -240,7 +240,7 @@ def slow_input():
             yield f"{name}, in pieces", in_pieces(text, 1000), Outcome(file(name, text).printed, b"", 0)
 
 
-# Many files, as README says
+# Many files, as docs/HEAR.md says
 
 SOUND_BYTES = 44 + 6 * PASSES_MOST
 DISK = "500k"
@@ -251,8 +251,8 @@ echo "status $?"; find . -type f -printf '%P/%s\\n'"""
 
 
 def recipe():
-    """README's recipe."""
-    with open(os.path.join(ROOT, "README.md"), encoding="utf-8") as page:
+    """The recipe of docs/HEAR.md."""
+    with open(os.path.join(ROOT, "docs", "HEAR.md"), encoding="utf-8") as page:
         found = re.findall(r"^    (printf .*xargs.*)$", page.read(), re.M)
     assert len(found) == 1, found
     return found[0]

@@ -206,8 +206,8 @@ def question_words(folder):
         done = ends(call("run", rung, file), REFUSED, f"question {number}: {questions.QUESTIONS[number]}", sentence)
         assert done.out == f"refused={number}\n", done
     refused(call("hear", heard, file), REFUSED, "makes no sound: refused=2", sentence)
-    readme = dict(re.findall(r"^\| (\d+) \| (.*\?) \|$", (ROOT / "README.md").read_text(), flags=re.M))
-    assert readme == {str(number): question for number, question in questions.QUESTIONS.items()}, "the questions aren't README's"
+    table = dict(re.findall(r"^\| (\d+) \| (.*\?) \|$", (ROOT / "docs" / "FILE.md").read_text(), flags=re.M))
+    assert table == {str(number): question for number, question in questions.QUESTIONS.items()}, "the questions aren't those of docs/FILE.md"
     file.write_bytes(b"passes=9\ncommand=00003110\ncommand=000000E0\n")
     done = ends(call("run", rung, file), REFUSED, "question 3", "(pass 3 of the ringing)")
     assert done.out.endswith("pass=2 left=0 right=0\nrefused=3\n"), done
@@ -225,7 +225,7 @@ def helps(_folder):
         assert all(f"{status:>3}  {meaning}" in text.out for status, meaning in statuses.MEANINGS.items()) and "\nexample:\n" in text.out and "--version" in text.out, text.out
         assert run(*caller, "--version").out == f"karvelorn {(ROOT / 'VERSION').read_text()}"
         refused(run(*caller, "--nonsense"), MISUSED, "--help")
-    table = dict(re.findall(r"^\| (\d+) \| (.*) \|$", (ROOT / "README.md").read_text().split("| Exit status |")[1].split("\n\n")[0], flags=re.M))
+    table = dict(re.findall(r"^\| (\d+) \| (.*) \|$", (ROOT / "docs" / "COMMANDS.md").read_text().split("| Exit status |")[1].split("\n\n")[0], flags=re.M))
     assert {int(number) for number in table} == set(map(int, statuses.Status)), table
     listed = run("./karvelorn", "--help").out
     places = [listed.index(f" {name} ") for name in ("measure", "partials", "show", "same", "run", "hear", "cut", "compare", "renumber", "drawer")]

@@ -147,7 +147,7 @@ def machine_faults(bench_file):
 
 
 def question(number):
-    """A question of README's, or the one that comes with the older text."""
+    """A question of docs/FILE.md, or the one that comes with the older text."""
     return questions.QUESTIONS.get(number, QUESTION_13 if number == 13 else "")
 
 

@@ -21,7 +21,7 @@ OLD_GMODE_MOST = 2 ** old_layout.GMODE_WIDTH - 1
 BYTE_ORDER_MARKS = {b"\xef\xbb\xbf": "UTF-8", b"\xff\xfe": "UTF-16", b"\xfe\xff": "UTF-16"}
 SHOWN, CUT = 6, 40  # so many words of a machine are named, so many characters of a line are shown
 
-# In README's words.
+# In the words of docs/FILE.md.
 QUESTIONS = {
     1: "Is the run 4,344 words long?",
     2: "Are all words within their width and range, with built modes and addresses, and are the update ticks those of T and N?",
