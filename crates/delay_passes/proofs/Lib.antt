@@ -1,0 +1,6 @@
+pub mod Units
+pub mod Stages
+pub mod StagesOf
+pub mod OnePass
+pub mod Sequences
+pub mod Claimed

@@ -1,0 +1,2 @@
+pub mod InPasses
+pub mod DelayClaims
