@@ -1,8 +1,8 @@
 -- What is claimed of delay units.
 -- Assumes nothing.
-use mathlib.Core.Path.{_≡_, refl, sym, ap, _∙_}
+use mathlib.Core.Path.{_≡_, sym, ap, _∙_}
 use mathlib.Core.Logic.{_≢_, _⊎_, ⊎-elim}
-use mathlib.Core.Bool.{Bool, true, false}
+use mathlib.Core.Bool.{true, false}
 use Prim.Native.Nat.{ℕ, _+_, _/_, _<_}
 use lib.ListN.{getD}
 use Rattle.layout.specs.Layout.{delayAt, delayWords, delays}
@@ -15,6 +15,8 @@ use Rattle.delay_passes.specs.InPasses.{after, acts, putsWord}
 use Rattle.delay_passes.specs.DelayClaims.{DelayClaims}
 use Rattle.delay_passes.proofs.OnePass.{rests, memory-after, l0-after}
 use Rattle.delay_passes.proofs.Sequences.{memory-stays, line-comes-back, table-comes-back}
+use Rattle.delay_passes.proofs.NothingBetween.{alone-runs, alone-writes}
+use Rattle.delay_passes.proofs.Echo.{echo-heard, echo-looked-up}
 
 module _ (m : Machine) (call : Call) where
   unit-rests : (u : ℕ) → u < delays → ((k : ℕ) → k < ticksOf m / 2 → invokes m k ≡ true → namedBy m k ≢ u) ⊎ (acts m u ≡ false)
@@ -38,6 +40,10 @@ delay-claims =
     record {
       line-comes-back = line-comes-back;
       table-comes-back = table-comes-back;
+      alone-runs = alone-runs;
+      alone-writes = alone-writes;
+      echo-heard = echo-heard;
+      echo-looked-up = echo-looked-up;
       inactive-gives-0 = λ m call k n l i a. l0-after m call n k l i ∙ rw a;
       unit-rests = unit-rests;
       memory-after = memory-after;

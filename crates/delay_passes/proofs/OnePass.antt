@@ -5,10 +5,10 @@ use mathlib.Core.Logic.{_≢_}
 use mathlib.Core.Bool.{Bool, true, false, cond}
 use Prim.Native.Nat.{ℕ, zero, suc, _+_, _/_, _≤_, _<_}
 use native.Mathlib.Omega.{arith}
-use lib.ListN.{length, getD, set}
+use lib.ListN.{length, getD}
 use Rattle.lists.proofs.Below.{below-at}
-use Rattle.layout.specs.Layout.{modifierAt, delayAt, counterAt, machineLength, L0, L1}
-use Rattle.layout.specs.Machine.{Machine, Memory, Sums, ticksOf}
+use Rattle.layout.specs.Layout.{modifierAt, delayAt, counterAt, L0, L1}
+use Rattle.layout.specs.Machine.{Machine, Sums, ticksOf}
 use Rattle.texts.specs.declared.Text.the-variants.{Of1978}
 use Rattle.questions.specs.Questions.{asked}
 use Rattle.machine.proofs.SoundMachine.{reaches}
@@ -16,7 +16,7 @@ use Rattle.sums.specs.Sums.{sumsOf}
 use Rattle.sums.proofs.Blocks.{Outside, outside-before, outside-after}
 use Rattle.sums.proofs.Memory.{sums-quadrants}
 use Rattle.delay.specs.Delay.{due, turnOf}
-use Rattle.delay_questions.specs.Questions.{memoryGood, invokes, namedBy, delayOf, goodLine, linesGood, namedOnce}
+use Rattle.delay_questions.specs.Questions.{invokes, namedBy, delayOf, goodLine, linesGood, namedOnce}
 use Rattle.delay_questions.proofs.Memory.{good-length, good-words}
 use Rattle.pass_model.specs.Generators.{generatorsOf, State, begun}
 use Rattle.pass_model.specs.Modifiers.{Held}
@@ -26,9 +26,9 @@ use Rattle.pass_laws.proofs.Frames.{steps-length, steps-middle, steps-beyond, s
 use Rattle.pass_laws.proofs.TextTurns.{sixteen}
 use Rattle.pass_laws.proofs.Passing.{Admitted, generatorsDone, heldThen, begun-words, begun-sums, admitted, let-through, pass-number, ran-machine, ran-memory}
 use Rattle.pass_laws.proofs.Completing.{completed-by}
-use Rattle.delay_passes.specs.InPasses.{l0At, l1At, after, acts, putsWord, slotOf, memoryAt}
+use Rattle.delay_passes.specs.InPasses.{l0At, l1At, after, acts, memoryAt}
 use Rattle.delay_passes.proofs.Units.{same-unit}
-use Rattle.delay_passes.proofs.Stages.{heldAt, turned, none-taken}
+use Rattle.delay_passes.proofs.Stages.{heldAt, none-taken}
 use Rattle.delay_passes.proofs.StagesOf.{Begins, unit-rests, l1-left, l0-given, unit-turned, memory-put}
 
 -- Questions 11 and 12 as they are answered.

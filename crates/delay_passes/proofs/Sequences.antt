@@ -2,12 +2,12 @@
 -- Assumes nothing.
 use mathlib.Core.Path.{_≡_, refl, sym, ap, _∙_}
 use mathlib.Core.Logic.{_≢_, _⊎_, ⊎-elim}
-use mathlib.Core.Bool.{Bool, true, false, cond, _&&_}
+use mathlib.Core.Bool.{true, false}
 use Prim.Native.Nat.{ℕ, zero, suc, _+_, _/_, _≤_, _<_}
 use native.Mathlib.Omega.{arith}
 use native.Mathlib.Numerals.{add-one}
 use borrow.Author.Tests.{eq-eqb, ltb-true, leb-true}
-use lib.Dec.{eqb, leb, ltb}
+use lib.Dec.{leb, ltb}
 use lib.ListN.{length, getD, set, length-set}
 use lib.Seq.{getD-set-other}
 use Rattle.lists.proofs.Below.{and-first, and-second}
@@ -21,10 +21,10 @@ use Rattle.delay.specs.Delay.{due, slot, address, turnOf}
 use Rattle.delay.specs.Turns.{Turns, OnlyTurnsWrite}
 use Rattle.delay.proofs.Turn.{p-kept, line-memory}
 use Rattle.delay.proofs.Returns.{line-returns, table-returns}
-use Rattle.delay_questions.specs.Questions.{invokes, namedBy, delayOf, fits}
+use Rattle.delay_questions.specs.Questions.{delayOf, fits}
 use Rattle.delay_questions.proofs.Lines.{line-runs}
 use Rattle.pass_model.specs.Pass.{Call, passOf}
-use Rattle.delay_passes.specs.InPasses.{l0At, l1At, after, acts, putsWord, slotOf, memoryAt, InvokesUnit, RunsUnchanged, NothingElseWrites}
+use Rattle.delay_passes.specs.InPasses.{l0At, l1At, after, putsWord, slotOf, memoryAt, InvokesUnit, RunsUnchanged, NothingElseWrites}
 use Rattle.delay_passes.proofs.Stages.{from-to}
 use Rattle.delay_passes.proofs.OnePass.{line-good, memory-whole, memory-after, l0-after, unit-after}
 

@@ -6,13 +6,16 @@ use mathlib.Core.Logic.{_≢_, _⊎_}
 use mathlib.Core.Path.{_≡_}
 use lib.ListN.{getD}
 use Rattle.layout.specs.Layout.{delayAt, delayWords, delays}
-use Rattle.layout.specs.Machine.{Machine, ticksOf}
+use Rattle.layout.specs.Machine.{Machine, Memory, ticksOf}
 use Rattle.texts.specs.declared.Text.the-variants.{Of1978}
 use Rattle.built_codes.specs.BuiltCodes.{line, table, roundedTable}
 use Rattle.delay.specs.Delay.{slot, address}
-use Rattle.delay_questions.specs.Questions.{invokes, namedBy, delayOf}
+use Rattle.delay_questions.specs.Questions.{memoryGood, invokes, namedBy, delayOf}
+use Rattle.order_lists.specs.Sequences.{byNumber}
 use Rattle.pass_model.specs.Pass.{Call, passOf}
-use Rattle.delay_passes.specs.InPasses.{l0At, l1At, after, acts, putsWord, memoryAt, RunsUnchanged, NothingElseWrites}
+use Rattle.pass_laws.specs.Passes.{callOf, noData}
+use Rattle.delay_passes.specs.InPasses.{l0At, l1At, after, acts, putsWord, memoryAt, InvokesUnit, RunsUnchanged, NothingElseWrites}
+use Rattle.delay_passes.specs.NothingBetween.{machineIn, callIn, echo}
 
 pub record DelayClaims : Type 0 where
   -- A line word comes back Z+3 passes later, if the unit runs unchanged in each and nothing else writes its slot until the word leaves it, Z+1 passes later:
@@ -26,6 +29,15 @@ pub record DelayClaims : Type 0 where
       → RunsUnchanged 3 k u machine call
       → l0At (after (machine 3) (call 3)) k
       ≡ getD (memoryAt (machine 0) (call 0) k) (address (delayOf (machine 0) u) (l1At (after (machine 0) (call 0)) k)) 0
+  -- These conditions are met by passes by number with nothing between them, over any delay memory, if the unit runs in the first of them: it runs unchanged in all, and
+  -- where no other modifier puts a word into delay memory, nothing else writes any place of it.
+  pub alone-runs : (m : Machine) (memory : Memory) (k u : ℕ) → InvokesUnit k u m (callOf (byNumber (ticksOf m)) memory noData) → (n : ℕ)
+      → RunsUnchanged n k u (machineIn m memory) (callIn m memory)
+  pub alone-writes : (m : Machine) (memory : Memory) (k u : ℕ) → InvokesUnit k u m (callOf (byNumber (ticksOf m)) memory noData)
+      → ((j : ℕ) → j ≢ k → j < ticksOf m / 2 → putsWord m j ≡ false) → (place n : ℕ) → NothingElseWrites place n k (machineIn m memory) (callIn m memory)
+  -- So a shown machine whose modifier sends 12,345 in pass 0 has it back in pass 3 from a line with Z 0, and from a table the word of delay memory at 12,345.
+  pub echo-heard : (memory : Memory) → memoryGood memory ≡ true → l0At (after (machineIn (echo line) memory 3) (callIn (echo line) memory 3)) 0 ≡ 12345
+  pub echo-looked-up : (memory : Memory) → memoryGood memory ≡ true → l0At (after (machineIn (echo table) memory 3) (callIn (echo table) memory 3)) 0 ≡ getD memory 12345 0
   -- An inactive unit gives 0: to the modifier that invokes it.
   pub inactive-gives-0 : (m : Machine) (call : Call) (k : ℕ) → passOf Of1978 m call .number ≡ 0 → k < ticksOf m / 2 → invokes m k ≡ true → acts m (namedBy m k) ≡ false
       → l0At (after m call) k ≡ 0
