@@ -13,7 +13,7 @@ use Rattle.pass_model.specs.Pass.{Call, Outcome, passOf}
 use Rattle.pass_laws.proofs.Passing.{pass-by, pass-number, let-through, refused-machine, refused-memory}
 use Rattle.delay_passes.specs.InPasses.{after, acts, putsWord}
 use Rattle.delay_passes.specs.DelayClaims.{DelayClaims}
-use Rattle.delay_passes.proofs.OnePass.{rests, memory-after, l0-after}
+use Rattle.delay_passes.proofs.OnePass.{rests, memory-after, l0-after, word-sent}
 use Rattle.delay_passes.proofs.Sequences.{memory-stays, line-comes-back, table-comes-back}
 use Rattle.delay_passes.proofs.NothingBetween.{alone-runs, alone-writes}
 use Rattle.delay_passes.proofs.Echo.{echo-heard, echo-looked-up}
@@ -44,6 +44,7 @@ delay-claims =
       alone-writes = alone-writes;
       echo-heard = echo-heard;
       echo-looked-up = echo-looked-up;
+      word-sent = λ m call k n l i. word-sent m call n k l i;
       inactive-gives-0 = λ m call k n l i a. l0-after m call n k l i ∙ rw a;
       unit-rests = unit-rests;
       memory-after = memory-after;

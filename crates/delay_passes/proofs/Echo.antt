@@ -8,15 +8,14 @@ use Prim.Native.Nat.{ℕ, zero, suc, _+_, _*_, _/_, _%_, _^_, _<_}
 use lib.Dec.{lit<}
 use native.Mathlib.Omega.{arith}
 use lib.ListN.{getD, set, length-set}
-use Rattle.lists.specs.Lists.{zeros, countBelow, isOneOf, tabulate}
-use Rattle.layout.specs.Layout.{L1, modifierAt, quadrantAt, delayAt, delayP, tAt, MMODE}
+use Rattle.lists.specs.Lists.{zeros, countBelow, isOneOf}
+use Rattle.layout.specs.Layout.{modifierAt, quadrantAt, delayAt, delayP, tAt, MMODE}
 use Rattle.layout.specs.Machine.{Machine, Memory, ticksOf, withUpdateTicks}
 use Rattle.layout.proofs.UpdateTicks.{counted-length}
 use Rattle.texts.specs.declared.Text.the-variants.{Of1978}
 use Rattle.questions.specs.Questions.{asked}
 use Rattle.built_codes.specs.BuiltCodes.{builtFunction, builtFunctions, builtMode, line, table}
 use Rattle.delay.specs.declared.Delay.{Delay}
-use Rattle.delay.specs.Delay.{loaded, runs}
 use Rattle.delay_questions.specs.Questions.{memoryGood, invokes, namedBy, delayOf, goodLine, linesGood, apart, namedOnce, question11, question12}
 use Rattle.machine.specs.Questions.{freshMachine, regions, testAt}
 use Rattle.machine.proofs.SoundMachine.{reaches, single-below, single-above, sound-set, sound-with-ticks}
@@ -25,29 +24,22 @@ use Rattle.modes.specs.Modes.{readData, writeData}
 use Rattle.order.specs.Order.{inMode}
 use Rattle.order.proofs.Entries.{passes-order}
 use Rattle.order_lists.specs.Sequences.{byNumber}
-use Rattle.sums.specs.Sums.{generatorLast}
 use Rattle.pass_model.proofs.Asked.{past-memory}
 use Rattle.pass_laws.specs.Good.{Good}
 use Rattle.pass_laws.specs.Passes.{callOf, noData, rungBy}
 use Rattle.pass_laws.proofs.Orders.{by-number-order}
-use Rattle.pass_laws.proofs.Passing.{good-passes, let-through, pass-number}
-use Rattle.words.specs.Words.{lowBits, signed, sum, sumInto, exactSum, outside}
-use Rattle.modes.specs.Modes.{adds, replaces, free, oscillatorOn, envelopeOn}
-use Rattle.generator.specs.Generator.{loaded as generatorLoaded, stored as generatorStored, jOf, gjAfter, kOf, gkAfter, wOf, gqAfter, vOf, pOf, triggers, gmodeAfter, after as generatorAfter}
-use Rattle.oscillator.specs.Oscillator.{waveOf}
-use Rattle.envelope.specs.Envelope.{overflows, decayed, qOf, level, rounded, enveloped}
+use Rattle.pass_laws.proofs.Passing.{good-passes, pass-number}
+use Rattle.words.specs.Words.{lowBits, signed, sum}
 use Rattle.product.specs.Product.{product, scaled}
-use Rattle.modifier.specs.Modifier.{loaded as modifierLoaded, stored as modifierStored, timesM0, timesM1}
-use Rattle.modifier_turn.specs.Turn.{turnOf as modifierTurn, readsLate}
-use Rattle.modifier_mixers.specs.Mixers.{inactive}
-use Rattle.modifier_delay.specs.Invoke.{invokeDelay}
-use Rattle.delay.specs.Delay.{stored as delayStored, turnOf, lineTurn, tableTurn, address}
-use Rattle.sums.specs.Sums.{closed, sumsOf, quadrantOf, wordAt, sumAt, putSum, fAt}
-use Rattle.pass_model.specs.Generators.{takenBy, generatorOf, turn1978, told, fed, summed, step, steps, begun}
-use Rattle.pass_model.specs.Modifiers.{modifiedBy, modified, modify, modifierOf, withWrites, withWrite, lateView, earlyView, seen, given, beside, turnSeen, delayed}
-use Rattle.pass_model.specs.Pass.{Call, Outcome, passRefusal, ran, finished, generatorsTaken, completed, counted}
-use Rattle.delay_passes.specs.InPasses.{l0At, l1At, after, acts, putsWord, InvokesUnit}
+use Rattle.modifier.specs.Modifier.{loaded as modifierLoaded, timesM1}
+use Rattle.modifier_delay.specs.Invoke.{temp0}
+use Rattle.delay.specs.Delay.{loaded, runs, due, address}
+use Rattle.sums.specs.Sums.{generatorLast, sumsOf, quadrantOf, wordAt}
+use Rattle.pass_model.specs.Modifiers.{seen, modifierOf}
+use Rattle.pass_model.specs.Pass.{Call, passRefusal}
+use Rattle.delay_passes.specs.InPasses.{l0At, l1At, minAt, after, acts, putsWord, InvokesUnit}
 use Rattle.delay_passes.specs.NothingBetween.{machineIn, callIn, echo}
+use Rattle.delay_passes.proofs.OnePass.{l0-after, word-sent}
 use Rattle.delay_passes.proofs.Sequences.{memory-none, line-comes-back, table-comes-back}
 use Rattle.delay_passes.proofs.NothingBetween.{alone-runs, alone-writes}
 
@@ -98,30 +90,32 @@ echo-alone p (suc (suc (suc zero))) n l = refl
 echo-alone p (suc (suc (suc (suc zero)))) n l = refl
 echo-alone p (suc (suc (suc (suc (suc j))))) n l = absurd (omega arith)
 
--- In mode line and in mode table: what the questions ask of the unit, and what modifier 0 sends to it.
+-- What modifier 0 sends to its unit, where that has given 0.
+sends : (p : ℕ) → temp0 (modifierOf (echo p) 0) (seen (sumsOf (echo p)) [] (minAt (echo p) 0)) 0 ≡ 12345
+unfolding echo freshMachine withUpdateTicks zeros modifierOf modifierLoaded seen sumsOf quadrantOf wordAt timesM1 product scaled sum lowBits signed
+sends p = refl
+
+gives : (p : ℕ) → due (delayOf (echo p) 0) ≡ 0
+unfolding echo freshMachine withUpdateTicks zeros loaded
+gives p = refl
+
+min-low : (p : ℕ) → minAt (echo p) 0 < 128
+unfolding echo freshMachine withUpdateTicks zeros
+min-low p = lit< tt
+
+-- In mode line and in mode table: what the questions ask of the unit, and that it acts.
 record Computed (p : ℕ) : Type 0 where
   built : testAt (regions Of1978) (delayAt 0 + delayP) p ≡ true
   units : asked (question11 (echo p) ∷ question12 (echo p) ∷ []) ≡ 0
   acting : acts (echo p) 0 ≡ true
-  sends : (memory : Memory) → getD (ran Of1978 (echo p) (callOf (byNumber 10) memory noData) .machine) (modifierAt 0 + L1) 0 ≡ 12345
 
 as-line : Computed line
 unfolding echo freshMachine withUpdateTicks zeros regions testAt builtMode isOneOf asked linesGood goodLine namedOnce apart runs loaded
-    byNumber tabulate step steps told fed summed turn1978 generatorOf generatorLoaded generatorStored sumsOf quadrantOf wordAt sumAt putSum fAt begun
-    jOf gjAfter kOf gkAfter wOf gqAfter vOf pOf triggers gmodeAfter generatorAfter waveOf overflows decayed qOf level rounded enveloped
-    lowBits signed sum sumInto exactSum outside adds replaces free oscillatorOn envelopeOn product scaled timesM0 timesM1
-    ran finished generatorsTaken takenBy completed counted closed modifiedBy modified modify modifierOf withWrites withWrite lateView earlyView seen given beside turnSeen delayed
-    modifierLoaded modifierStored modifierTurn readsLate inactive invokeDelay delayStored turnOf lineTurn
-as-line = record { built = refl; units = refl; acting = refl; sends = λ memory. refl }
+as-line = record { built = refl; units = refl; acting = refl }
 
 as-table : Computed table
 unfolding echo freshMachine withUpdateTicks zeros regions testAt builtMode isOneOf asked linesGood goodLine namedOnce apart runs loaded
-    byNumber tabulate step steps told fed summed turn1978 generatorOf generatorLoaded generatorStored sumsOf quadrantOf wordAt sumAt putSum fAt begun
-    jOf gjAfter kOf gkAfter wOf gqAfter vOf pOf triggers gmodeAfter generatorAfter waveOf overflows decayed qOf level rounded enveloped
-    lowBits signed sum sumInto exactSum outside adds replaces free oscillatorOn envelopeOn product scaled timesM0 timesM1
-    ran finished generatorsTaken takenBy completed counted closed modifiedBy modified modify modifierOf withWrites withWrite lateView earlyView seen given beside turnSeen delayed
-    modifierLoaded modifierStored modifierTurn readsLate inactive invokeDelay delayStored turnOf tableTurn address
-as-table = record { built = refl; units = refl; acting = refl; sends = λ memory. refl }
+as-table = record { built = refl; units = refl; acting = refl }
 
 no-data : (p : ℕ) → (inMode Of1978 (echo p) readData ≡ 0) × (inMode Of1978 (echo p) writeData ≡ 0)
 unfolding echo freshMachine withUpdateTicks zeros inMode countBelow
@@ -145,9 +139,12 @@ module _ (p : ℕ) (c : Computed p) (memory : Memory) (memory-good : memoryGood 
       record { through = pass-number Of1978 m call ∙ runs-first; below = rw (ten p) (lit< tt); invoked = invoked p; named = named p; acting = c .acting }
 
   -- What it sends in pass 0.
+  given-0 : l0At (after m call) 0 ≡ 0
+  given-0 = let i = invokes-unit in l0-after m call (i .through) 0 (i .below) (i .invoked) ∙ rw (i .named, i .acting) (gives p)
+
   sent : l1At (after (machineIn m memory 0) (callIn m memory 0)) 0 ≡ 12345
   unfolding rungBy
-  sent = ap (λ (r : Outcome). l1At (r .machine) 0) (let-through Of1978 m call runs-first) ∙ rw (ten p) (c .sends memory)
+  sent = let i = invokes-unit in word-sent m call (i .through) 0 (i .below) (i .invoked) (min-low p) ∙ rw given-0 (sends p)
 
 -- The unit in pass 0.
 unit-first : (p : ℕ) (memory : Memory) → delayOf (machineIn (echo p) memory 0) 0 ≡ record { x = 0; y = 0; z = 0; p = p % 2 ^ 4; first = 0; second = 0; third = 0 }

@@ -3,33 +3,39 @@
 use mathlib.Core.Path.{_≡_, refl, sym, ap, _∙_}
 use mathlib.Core.Logic.{_≢_}
 use mathlib.Core.Bool.{Bool, true, false, cond}
+use mathlib.Core.List.{List, []}
 use Prim.Native.Nat.{ℕ, zero, suc, _+_, _/_, _≤_, _<_}
 use native.Mathlib.Omega.{arith}
+use borrow.Author.Tests.{eqb-false}
+use lib.Dec.{eqb}
 use lib.ListN.{length, getD}
 use Rattle.lists.proofs.Below.{below-at}
-use Rattle.layout.specs.Layout.{modifierAt, delayAt, counterAt, L0, L1}
+use Rattle.layout.specs.Layout.{modifierAt, delayAt, counterAt, L0, L1, MIN}
 use Rattle.layout.specs.Machine.{Machine, Sums, ticksOf}
 use Rattle.texts.specs.declared.Text.the-variants.{Of1978}
 use Rattle.questions.specs.Questions.{asked}
 use Rattle.machine.proofs.SoundMachine.{reaches}
-use Rattle.sums.specs.Sums.{sumsOf}
+use Rattle.modifier.specs.Modifier.{loaded}
+use Rattle.modifier_delay.specs.Invoke.{temp0}
+use Rattle.sums.specs.Sums.{generatorLast, modifierLast, sumsOf}
 use Rattle.sums.proofs.Blocks.{Outside, outside-before, outside-after}
 use Rattle.sums.proofs.Memory.{sums-quadrants}
 use Rattle.delay.specs.Delay.{due, turnOf}
 use Rattle.delay_questions.specs.Questions.{invokes, namedBy, delayOf, goodLine, linesGood, namedOnce}
 use Rattle.delay_questions.proofs.Memory.{good-length, good-words}
 use Rattle.pass_model.specs.Generators.{generatorsOf, State, begun}
-use Rattle.pass_model.specs.Modifiers.{Held}
+use Rattle.pass_model.specs.Modifiers.{seen, modifierOf, Held}
 use Rattle.pass_model.specs.Pass.{unitQuestions, Call, Outcome, completed, passRefusal, passOf}
 use Rattle.pass_model.proofs.Asked.{Answered, passes}
-use Rattle.pass_laws.proofs.Frames.{steps-length, steps-middle, steps-beyond, steps-quadrants}
+use Rattle.pass_model.proofs.Puts.{at-width}
+use Rattle.pass_laws.proofs.Frames.{steps-length, steps-middle, steps-beyond, steps-quadrant, steps-quadrants}
 use Rattle.pass_laws.proofs.TextTurns.{sixteen}
 use Rattle.pass_laws.proofs.Passing.{Admitted, generatorsDone, heldThen, begun-words, begun-sums, admitted, let-through, pass-number, ran-machine, ran-memory}
 use Rattle.pass_laws.proofs.Completing.{completed-by}
-use Rattle.delay_passes.specs.InPasses.{l0At, l1At, after, acts, memoryAt}
+use Rattle.delay_passes.specs.InPasses.{l0At, l1At, minAt, after, acts, memoryAt}
 use Rattle.delay_passes.proofs.Units.{same-unit}
-use Rattle.delay_passes.proofs.Stages.{heldAt, none-taken}
-use Rattle.delay_passes.proofs.StagesOf.{Begins, unit-rests, l1-left, l0-given, unit-turned, memory-put}
+use Rattle.delay_passes.proofs.Stages.{heldAt, none-taken, viewed}
+use Rattle.delay_passes.proofs.StagesOf.{Begins, unit-rests, l1-left, l0-given, l1-given, unit-turned, memory-put}
 
 -- Questions 11 and 12 as they are answered.
 units-good : (m : Machine) → asked (unitQuestions Of1978 m) ≡ 0 → (linesGood m ≡ true) × (namedOnce m ≡ true)
@@ -40,6 +46,22 @@ units-good m e = go (linesGood m) (namedOnce m) refl refl e
     go true true ea eb q = (ea, eb)
     go true false ea eb q = absurd (omega arith)
     go false b ea eb q = absurd (omega arith)
+
+-- MIN as it is loaded.
+min-is : (m : Machine) (k : ℕ) → minAt m k < 128 → modifierOf m k .min ≡ minAt m k
+unfolding modifierOf loaded
+min-is m k l = at-width m (modifierAt k) MIN 8 (omega arith)
+
+-- What MIN names in generator-last or modifier-last is told by these quadrants.
+last-seen : (s t : Sums) (view other : List ℕ) (address : ℕ) → address < 128 → getD s generatorLast [] ≡ getD t generatorLast [] → getD s modifierLast [] ≡ getD t modifierLast []
+    → seen s view address ≡ seen t other address
+unfolding seen
+last-seen s t view other address l e f = rw (e, f) (go (eqb (address / 64) 0) (eqb (address / 64) 1) refl refl _ _ _ _)
+  where
+    go : (a b : Bool) → eqb (address / 64) 0 ≡ a → eqb (address / 64) 1 ≡ b → (x y v w : ℕ) → cond a x (cond b y v) ≡ cond a x (cond b y w)
+    go true b p q x y v w = refl
+    go false true p q x y v w = refl
+    go false false p q x y v w = absurd (omega (arith, eqb-false (address / 64) 0 p, eqb-false (address / 64) 1 q))
 
 module _ (m : Machine) (call : Call) (e : passOf Of1978 m call .number ≡ 0) where
   refusal : passRefusal Of1978 m call ≡ 0
@@ -132,3 +154,13 @@ module _ (m : Machine) (call : Call) (e : passOf Of1978 m call .number ≡ 0) wh
         same-unit (heldAt t h s (t / 2) .words) (after m call) (namedBy m k) (λ r c. unit-left (namedBy m k) r (omega arith) c)
         ∙ unit-turned m h s begins k l i a
         ∙ rw (memory-at k (omega arith), latch-left k L1 l (omega arith) ∙ l1-left m h s begins k l)
+
+    -- What the unit is sent.
+    pub word-sent : minAt m k < 128 → l1At (after m call) k ≡ temp0 (modifierOf m k) (seen (sumsOf m) [] (minAt m k)) (l0At (after m call) k)
+    word-sent low =
+        latch-left k L1 l (omega arith)
+        ∙ l1-given m h s begins k l i
+        ∙ rw (min-is m k low, last-seen s (sumsOf m) (viewed t h s k) [] (minAt m k) low (quadrant generatorLast (λ q. omega arith)) (quadrant modifierLast (λ q. omega arith)), ← (latch-left k L0 l (omega arith)))
+      where
+        quadrant : (q : ℕ) → q ≢ 0 → getD s q [] ≡ getD (sumsOf m) q []
+        quadrant q n = steps-quadrant (generatorsOf Of1978) (call .items) (call .order) start q n ∙ rw (begun-sums m (sumsOf m) (call .places))

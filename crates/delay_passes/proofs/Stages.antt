@@ -3,7 +3,7 @@
 use mathlib.Core.Path.{_≡_, refl, ap, _∙_}
 use mathlib.Core.Logic.{_≢_}
 use mathlib.Core.Bool.{Bool, true, false, cond, _&&_, and-false}
-use mathlib.Core.List.{[]}
+use mathlib.Core.List.{List, []}
 use Prim.Native.Nat.{ℕ, zero, suc, _+_, _*_, _≤_, _<_}
 use native.Mathlib.Omega.{arith}
 use borrow.Author.Tests.{eqb-true, leb-true, leb-false}
@@ -15,15 +15,15 @@ use Rattle.layout.specs.Machine.{Machine, Memory, Sums}
 use Rattle.texts.specs.declared.Text.the-variants.{Of1978}
 use Rattle.modifier.specs.declared.Modifier.{Modifier}
 use Rattle.modifier.specs.Modifier.{stored, functionOf}
-use Rattle.modifier_turn.specs.Turn.{turnOf as modifierTurn}
-use Rattle.modifier_delay.specs.Invoke.{invoking, unitOf, invokeDelay}
+use Rattle.modifier_turn.specs.Turn.{turnOf as modifierTurn, readsLate}
+use Rattle.modifier_delay.specs.Invoke.{invoking, unitOf, temp0, invokeDelay}
 use Rattle.built_codes.specs.BuiltCodes.{line}
 use Rattle.delay.specs.declared.Delay.{Delay}
 use Rattle.delay.specs.Delay.{runs, slot, After, lineTurn, tableTurn, stored as storedDelay, turnOf}
 use Rattle.delay_questions.specs.Questions.{delayOf}
 use Rattle.sums.specs.Sums.{modifierThis}
 use Rattle.sums.proofs.Blocks.{Outside, getD-outside}
-use Rattle.pass_model.specs.Modifiers.{earlyView, lateView, given, beside, turnSeen, modifierOf, Held, delayed, modify, modified, modifiedBy}
+use Rattle.pass_model.specs.Modifiers.{earlyView, lateView, seen, given, beside, turnSeen, modifierOf, Held, delayed, modify, modified, modifiedBy}
 use Rattle.pass_model.proofs.Delays.{off-below, delayed-kept}
 use Rattle.pass_model.proofs.Registers.{registers, four, put-is}
 
@@ -90,6 +90,16 @@ module _ (t : ℕ) (h : Held) (s : Sums) where
   pub turned-l0 : (n : ℕ) → invoking (taken n) ≡ true → turned n .l0 ≡ given t (heldAt n .words) (taken n)
   unfolding turned turnSeen beside modifiedBy invokeDelay
   turned-l0 n e = ap {B = ℕ} (λ x. x .unit .l0) (invoke-turn (taken n) _ _ e) ∙ rw e
+
+  -- In L1 it has A + DM*M1, and A sees the late view.
+  abbrev pub viewed : ℕ → List ℕ
+  viewed n = lateView (getD s modifierThis []) n (modified Of1978 t h s n .writes)
+
+  pub turned-l1 : (n : ℕ) → invoking (taken n) ≡ true → turned n .l1 ≡ temp0 (taken n) (seen s (viewed n) (taken n .min)) (turned n .l0)
+  unfolding turned turnSeen beside modifiedBy invokeDelay readsLate
+  turned-l1 n e =
+      rw (turned-l0 n e)
+      (ap {B = ℕ} (λ x. x .unit .l1) (invoke-turn (taken n) _ _ e) ∙ rw (e, eqb-true (functionOf (taken n)) 0b00111 e))
 
   pub put-length : (n : ℕ) → length (putBack n .words) ≡ length (heldAt n .words)
   unfolding stored

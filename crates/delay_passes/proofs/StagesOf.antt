@@ -17,20 +17,21 @@ use Rattle.layout.specs.Layout.{modifierAt, delayAt, L0, L1, MRM, MMODE, machin
 use Rattle.layout.specs.Machine.{Machine, Memory, Sums, ticksOf}
 use Rattle.texts.specs.declared.Text.the-variants.{Of1978}
 use Rattle.machine.proofs.SoundMachine.{sound-modifier}
+use Rattle.modifier.specs.declared.Modifier.{Modifier}
 use Rattle.modifier.specs.Modifier.{loaded}
-use Rattle.modifier_delay.specs.Invoke.{invoking, unitOf}
+use Rattle.modifier_delay.specs.Invoke.{invoking, unitOf, temp0}
 use Rattle.delay.specs.declared.Delay.{Delay}
 use Rattle.delay.specs.Delay.{stored, runs, due, turnOf}
 use Rattle.delay.proofs.Low.{WordsLow, loaded-ranged, turn-ranged}
 use Rattle.delay.proofs.Turn.{x-kept, z-kept, p-kept}
 use Rattle.delay_questions.specs.Questions.{invokes, namedBy, delayOf, apart, namedOnce}
-use Rattle.pass_model.specs.Modifiers.{given, modifierOf, Held}
-use Rattle.pass_model.proofs.Delays.{off-below, stored-other}
-use Rattle.pass_model.proofs.Modifiers.{words-length, memory-low, words-kept}
+use Rattle.pass_model.specs.Modifiers.{seen, given, modifierOf, Held}
+use Rattle.pass_model.proofs.Delays.{stored-other}
+use Rattle.pass_model.proofs.Modifiers.{words-length, memory-low}
 use Rattle.pass_laws.specs.Good.{Good}
 use Rattle.delay_passes.specs.InPasses.{acts, putsWord, slotOf}
-use Rattle.delay_passes.proofs.Units.{same-unit, stored-unit}
-use Rattle.delay_passes.proofs.Stages.{from-to, turn-puts, heldAt, taken, turned, putBack, none-taken, turned-l0, put-length, put-kept, modifier-kept, own-l0, own-l1, memory-next, words-next}
+use Rattle.delay_passes.proofs.Units.{same-unit, same-modifier, stored-unit}
+use Rattle.delay_passes.proofs.Stages.{from-to, turn-puts, heldAt, taken, turned, putBack, none-taken, viewed, turned-l0, turned-l1, put-length, put-kept, modifier-kept, own-l0, own-l1, memory-next, words-next}
 
 -- Of two modifiers that invoke a delay unit each names another one.
 pub other-unit : (m : Machine) → namedOnce m ≡ true → (j k : ℕ) → j < k → k < ticksOf m / 2 → invokes m j ≡ true → invokes m k ≡ true → namedBy m j ≢ namedBy m k
@@ -63,31 +64,32 @@ module _ (m : Machine) (h : Held) (s : Sums) (b : Begins m h) where
   wide : (n : ℕ) → length (wordsAt n) ≡ 4344
   wide n = words-length Of1978 t h s n ∙ b .long
 
-  -- MIN, MRM, MSUM and MMODE stay.
-  setting-stays : (n k r : ℕ) → n ≤ 128 → k < 128 → 4 ≤ r → r < 8 → getD (wordsAt n) (modifierAt k + r) 0 ≡ getD m (modifierAt k + r) 0
-  setting-stays n k r c l a e =
-      words-kept Of1978 t h s n (modifierAt k + r) (record { not-at = λ i j x y q. omega arith; units = off-below (modifierAt k + r) (omega arith) })
-      ∙ b .modifier k r l e
+  -- A modifier is as the pass began until its turn.
+  until-turn : (n k r : ℕ) → n ≤ k → k < 128 → r < 8 → getD (wordsAt n) (modifierAt k + r) 0 ≡ getD m (modifierAt k + r) 0
+  until-turn n k r c l e =
+      from-to (λ i. getD (wordsAt i) (modifierAt k + r) 0 ≡ getD m (modifierAt k + r) 0) 0 n (omega arith)
+      (ap (λ (x : Held). getD (x .words) (modifierAt k + r) 0) (none-taken t h s) ∙ b .modifier k r l e)
+      (λ i g a ih. modifier-kept t h s i k r (λ q. omega arith) l e ∙ ih)
 
-  -- A modifier as its turn finds it invokes a unit, and names it, as the machine says.
   module _ (n : ℕ) (l : n < t / 2) where
     below : n < 128
     below = omega (arith, b .few)
 
+    taken-is : taken t h s n ≡ modifierOf m n
+    taken-is = same-modifier m (wordsAt n) n (λ r c. until-turn n n r (omega arith) below c)
+
+    -- It invokes a unit, and names it, as the machine says.
     pub taken-invokes : invoking (taken t h s n) ≡ invokes m n
     unfolding modifierOf loaded
     taken-invokes =
         let x = getD m (modifierAt n + MMODE) 0 in
         let code : x % 2 ^ 9 / 2 ^ 4 % 2 ^ 5 ≡ x / 2 ^ 4 = omega (arith, sound-modifier Of1978 m (b .good .is-sound) n below .mmode) in
-        rw (getD-drop (modifierAt n) (wordsAt n) MMODE 0, setting-stays n n MMODE (omega (arith, below)) below (omega arith) (lit< tt))
-        (ap (λ (f : ℕ). eqb f 0b00111) code)
+        ap (λ (x : Modifier). invoking x) taken-is ∙ rw (getD-drop (modifierAt n) m MMODE 0) (ap (λ (f : ℕ). eqb f 0b00111) code)
 
     pub taken-names : unitOf (taken t h s n) ≡ namedBy m n
     unfolding modifierOf loaded
     taken-names =
-        let x = sound-modifier Of1978 m (b .good .is-sound) n below .mrm in
-        rw (getD-drop (modifierAt n) (wordsAt n) MRM 0, setting-stays n n MRM (omega (arith, below)) below (omega arith) (lit< tt))
-        (omega arith)
+        ap (λ (x : Modifier). unitOf x) taken-is ∙ rw (getD-drop (modifierAt n) m MRM 0) (omega (arith, sound-modifier Of1978 m (b .good .is-sound) n below .mrm))
 
     -- Writing it back leaves the units.
     put-unit : (v r : ℕ) → v < 32 → r < 7 → getD (putBack t h s n .words) (delayAt v + r) 0 ≡ getD (wordsAt n) (delayAt v + r) 0
@@ -173,6 +175,11 @@ module _ (m : Machine) (h : Held) (s : Sums) (b : Begins m h) where
       pub l0-given : getD (wordsAt (t / 2)) (modifierAt k + L0) 0 ≡ cond (acts m u) (due (delayOf m u)) 0
       unfolding given
       l0-given = l0-left ∙ turned-l0 t h s k (taken-invokes k l ∙ i) ∙ rw (taken-names k l, found)
+
+      -- What it is sent.
+      pub l1-given : getD (wordsAt (t / 2)) (modifierAt k + L1) 0
+          ≡ temp0 (modifierOf m k) (seen s (viewed t h s k) (modifierOf m k .min)) (getD (wordsAt (t / 2)) (modifierAt k + L0) 0)
+      l1-given = l1-left ∙ turned-l1 t h s k (taken-invokes k l ∙ i) ∙ rw (taken-is k l, l0-left)
 
       -- What its turn leaves of it, to the end of the pass.
       pub unit-turned : acts m u ≡ true → delayOf (wordsAt (t / 2)) u ≡ turnOf (delayOf m u) (memoryThen k) (turned t h s k .l1) .unit

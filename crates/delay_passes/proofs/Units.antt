@@ -1,4 +1,4 @@
--- A delay unit among a machine's words: it is told by its seven words, and one that is written back is read as it was written.
+-- A delay unit and a modifier among a machine's words: they are told by these words, and a unit that is written back is read as it was written.
 -- Assumes nothing.
 use mathlib.Core.Path.{_≡_, sym, _∙_}
 use mathlib.Core.Logic.{_≢_}
@@ -8,11 +8,13 @@ use native.Mathlib.Nat.{mod-eq-of-lt}
 use lib.Dec.{lit<}
 use lib.ListN.{length, getD, set, drop, length-set}
 use lib.Seq.{getD-drop, getD-set-same, getD-set-other}
-use Rattle.layout.specs.Layout.{delayAt, delayWords, delayX, delayY, delayZ, delayP, delayFirst, delaySecond, delayThird}
+use Rattle.layout.specs.Layout.{modifierAt, modifierWords, delayAt, delayWords, delayX, delayY, delayZ, delayP, delayFirst, delaySecond, delayThird}
 use Rattle.layout.specs.Machine.{Machine}
+use Rattle.modifier.specs.Modifier.{loaded as modifierLoaded}
 use Rattle.delay.specs.declared.Delay.{Delay}
 use Rattle.delay.specs.Delay.{loaded, stored, Ranged}
 use Rattle.delay_questions.specs.Questions.{delayOf}
+use Rattle.pass_model.specs.Modifiers.{modifierOf}
 use Rattle.pass_model.proofs.Delays.{stored-other, stored-y}
 
 -- Two units with the same seven words.
@@ -23,6 +25,15 @@ same-unit m n u same =
   where
     at : (r : ℕ) → r < delayWords → getD (drop (delayAt u) n) r 0 ≡ getD (drop (delayAt u) m) r 0
     at r h = getD-drop (delayAt u) n r 0 ∙ same r h ∙ sym (getD-drop (delayAt u) m r 0)
+
+-- Two modifiers with the same eight words.
+pub same-modifier : (m n : Machine) (k : ℕ) → ((r : ℕ) → r < modifierWords → getD n (modifierAt k + r) 0 ≡ getD m (modifierAt k + r) 0) → modifierOf n k ≡ modifierOf m k
+unfolding modifierOf modifierLoaded
+same-modifier m n k same =
+    rw (at 0 (lit< tt), at 1 (lit< tt), at 2 (lit< tt), at 3 (lit< tt), at 4 (lit< tt), at 5 (lit< tt), at 6 (lit< tt), at 7 (lit< tt))
+  where
+    at : (r : ℕ) → r < modifierWords → getD (drop (modifierAt k) n) r 0 ≡ getD (drop (modifierAt k) m) r 0
+    at r h = getD-drop (modifierAt k) n r 0 ∙ same r h ∙ sym (getD-drop (modifierAt k) m r 0)
 
 module _ (m : Machine) (u : ℕ) (d : Delay) (l : u < 32) (long : delayAt 32 ≤ length m) where
   abbrev at : ℕ

@@ -2,6 +2,7 @@
 -- Assumes nothing.
 use Prim.Native.Nat.{ℕ, _+_, _/_, _<_}
 use mathlib.Core.Bool.{true, false}
+use mathlib.Core.List.{[]}
 use mathlib.Core.Logic.{_≢_, _⊎_}
 use mathlib.Core.Path.{_≡_}
 use lib.ListN.{getD}
@@ -9,12 +10,15 @@ use Rattle.layout.specs.Layout.{delayAt, delayWords, delays}
 use Rattle.layout.specs.Machine.{Machine, Memory, ticksOf}
 use Rattle.texts.specs.declared.Text.the-variants.{Of1978}
 use Rattle.built_codes.specs.BuiltCodes.{line, table, roundedTable}
+use Rattle.modifier_delay.specs.Invoke.{temp0}
 use Rattle.delay.specs.Delay.{slot, address}
 use Rattle.delay_questions.specs.Questions.{memoryGood, invokes, namedBy, delayOf}
 use Rattle.order_lists.specs.Sequences.{byNumber}
+use Rattle.sums.specs.Sums.{sumsOf}
+use Rattle.pass_model.specs.Modifiers.{seen, modifierOf}
 use Rattle.pass_model.specs.Pass.{Call, passOf}
 use Rattle.pass_laws.specs.Passes.{callOf, noData}
-use Rattle.delay_passes.specs.InPasses.{l0At, l1At, after, acts, putsWord, memoryAt, InvokesUnit, RunsUnchanged, NothingElseWrites}
+use Rattle.delay_passes.specs.InPasses.{l0At, l1At, minAt, after, acts, putsWord, memoryAt, InvokesUnit, RunsUnchanged, NothingElseWrites}
 use Rattle.delay_passes.specs.NothingBetween.{machineIn, callIn, echo}
 
 pub record DelayClaims : Type 0 where
@@ -38,6 +42,9 @@ pub record DelayClaims : Type 0 where
   -- So a shown machine whose modifier sends 12,345 in pass 0 has it back in pass 3 from a line with Z 0, and from a table the word of delay memory at 12,345.
   pub echo-heard : (memory : Memory) → memoryGood memory ≡ true → l0At (after (machineIn (echo line) memory 3) (callIn (echo line) memory 3)) 0 ≡ 12345
   pub echo-looked-up : (memory : Memory) → memoryGood memory ≡ true → l0At (after (machineIn (echo table) memory 3) (callIn (echo table) memory 3)) 0 ≡ getD memory 12345 0
+  -- What goes to the unit, L1 afterwards, is A + DM*M1: DM is what the unit gave, L0 afterwards; A, where MIN names generator-last or modifier-last, is the word that the pass found there.
+  pub word-sent : (m : Machine) (call : Call) (k : ℕ) → passOf Of1978 m call .number ≡ 0 → k < ticksOf m / 2 → invokes m k ≡ true → minAt m k < 128
+      → l1At (after m call) k ≡ temp0 (modifierOf m k) (seen (sumsOf m) [] (minAt m k)) (l0At (after m call) k)
   -- An inactive unit gives 0: to the modifier that invokes it.
   pub inactive-gives-0 : (m : Machine) (call : Call) (k : ℕ) → passOf Of1978 m call .number ≡ 0 → k < ticksOf m / 2 → invokes m k ≡ true → acts m (namedBy m k) ≡ false
       → l0At (after m call) k ≡ 0

@@ -6,7 +6,7 @@ use mathlib.Core.Logic.{_≢_}
 use mathlib.Core.Path.{_≡_}
 use lib.Dec.{eqb}
 use lib.ListN.{getD, set}
-use Rattle.layout.specs.Layout.{modifierAt, L0, L1}
+use Rattle.layout.specs.Layout.{modifierAt, L0, L1, MIN}
 use Rattle.layout.specs.Machine.{Machine, Memory, ticksOf}
 use Rattle.texts.specs.declared.Text.the-variants.{Of1978}
 use Rattle.built_codes.specs.BuiltCodes.{line}
@@ -20,6 +20,10 @@ l0At m k = getD m (modifierAt k + L0) 0
 
 abbrev pub l1At : Machine → ℕ → ℕ
 l1At m k = getD m (modifierAt k + L1) 0
+
+-- MIN of modifier k.
+abbrev pub minAt : Machine → ℕ → ℕ
+minAt m k = getD m (modifierAt k + MIN) 0
 
 -- The machine after a pass.
 abbrev pub after : Machine → Call → Machine
