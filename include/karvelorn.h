@@ -94,10 +94,15 @@
  * (T-6) div 4 on, and if T is below 10: it gives 0. Neither such a unit nor one that no modifier below T div 2 invokes
  * changes. Any other gives the first of its three words, and the two behind it move up. Then, by its mode:
  *   1000         the word at X+Y of delay memory becomes the second word and the third is 0; the word from the modifier
- *                is put at X+Y, and Y steps by 1, from Z to 0. So a word comes back Z+3 passes later
+ *                is put at X+Y, and Y steps by 1, from Z to 0. So a word comes back Z+3 passes later, if the unit has
+ *                its turn in each of these passes, nothing else changes its words, and nothing else writes X+Y of delay
+ *                memory until the word leaves it, Z+1 passes later: lines may overlap, and then they write over each
+ *                other's words
  *   1010, 1011   the word from the modifier is shifted to the right by Z's low 4 bits, bringing in zeros; 1011 adds the
  *                highest bit shifted out, if there is one. The right 16 bits of this, plus X, modulo 65536, are an
- *                address: the word of delay memory there becomes the third word. So an answer comes three passes later
+ *                address: the word of delay memory there becomes the third word. So an answer comes three passes later,
+ *                if the unit has its turn in each of these passes and nothing else changes its words. The word is looked
+ *                up at the modifier's turn: what lines of lower modifiers put there in the same pass is seen
  *
  * Machines of the older text: karvelorn_old_pass, karvelorn_old_compare and karvelorn_old_parts. They are the same runs
  * of words, and karvelorn_fresh makes them too: a fresh machine is good by both texts. No word tells which text a machine

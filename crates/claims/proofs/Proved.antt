@@ -16,7 +16,6 @@ use Rattle.machine.proofs.FreshMachine.{fresh-length, fresh-sound}
 use Rattle.machine.proofs.SoundMachine.{reaches, sound-controls, sound-ticks}
 use Rattle.machine.proofs.Asked.{ticks-disagree}
 use Rattle.machine.proofs.NarrowCounter.{narrow-sound, any-counter}
-use Rattle.delay.proofs.Returns.{line-returns, table-returns}
 use Rattle.pass_model.specs.Pass.{Call, passOf, passRefusal}
 use Rattle.pass_model.proofs.Asked.{refusal-leaves}
 use Rattle.pass_laws.proofs.Passing.{pass-number}
@@ -26,6 +25,7 @@ use Rattle.pass_laws.proofs.PassSettings.{pass-settings}
 use Rattle.pass_laws.proofs.PassCounts.{pass-counts, pass-counter, pass-low-counter}
 use Rattle.pass_laws.proofs.OldPass.{old-pass-memory, old-pass-beyond}
 use Rattle.pass_laws.proofs.PassClipped.{pass-marks, pass-mark-bits, refused-unmarked, pass-mark-tells}
+use Rattle.delay_passes.proofs.Claimed.{delay-claims}
 use Rattle.update.proofs.Updating.{at-most}
 use Rattle.update_laws.proofs.SoundCommands.{command-sound}
 use Rattle.update_laws.proofs.UpdateSound.{update-sound}
@@ -126,8 +126,7 @@ claims =
       marks-equal = marks-equal;
       marks-forth = forth-sets;
       marks-back = back-sets;
-      line-returns = line-returns;
-      table-returns = table-returns;
+      delay-units = delay-claims;
       chain-numbers = chain-numbers;
       chain-least = chain-least;
       chain-none = chain-none;

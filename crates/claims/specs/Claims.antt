@@ -20,10 +20,6 @@ use Rattle.exponential.specs.OlderTable.{olderTable}
 use Rattle.modes.specs.Modes.{readData, writeData}
 use Rattle.machine.specs.Questions.{question1, question2, freshMachine}
 use Rattle.machine.specs.NarrowCounter.{narrowSound}
-use Rattle.delay.specs.declared.Delay.{Delay}
-use Rattle.built_codes.specs.BuiltCodes.{line}
-use Rattle.delay.specs.Delay.{due, slot, address}
-use Rattle.delay.specs.Turns.{Turns, OnlyTurnsWrite}
 use Rattle.delay_questions.specs.Questions.{memoryGood}
 use Rattle.order.specs.Order.{inMode}
 use Rattle.sums.specs.Sums.{sumsOf}
@@ -33,6 +29,7 @@ use Rattle.pass_model.specs.Pass.{unitQuestions, Call, plainCall, passOf}
 use Rattle.pass_laws.specs.Good.{Good}
 use Rattle.pass_laws.specs.Passes.{passesByNumber}
 use Rattle.pass_laws.specs.Settings.{SettingsKept}
+use Rattle.delay_passes.specs.DelayClaims.{DelayClaims}
 use Rattle.command_fields.specs.Fields.{dataOf}
 use Rattle.command_timer.specs.Timer.{behind, ttOf, timed}
 use Rattle.command.specs.Command.{afterCommand}
@@ -207,12 +204,8 @@ pub record Claims : Type 0 where
   pub marks-equal : Equal Of1978 upAndDown forth back
   pub marks-forth : (passOf Of1978 upAndDown (plainCall forth [] []) .number ≡ 0) × (passOf Of1978 upAndDown (plainCall forth [] []) .clipped ≡ set noMarks 0 1)
   pub marks-back : (passOf Of1978 upAndDown (plainCall back [] []) .number ≡ 0) × (passOf Of1978 upAndDown (plainCall back [] []) .clipped ≡ noMarks)
-  -- A word that a delay line takes goes out Z+3 turns later, if nothing but its turns changes the unit and nothing else writes its slot until it leaves;
-  -- a table's answer goes out three turns later, looked up in its word's own turn.
-  pub line-returns : (unit : ℕ → Delay) (memory : ℕ → Memory) (word : ℕ → ℕ) → unit 0 .p ≡ line → unit 0 .y ≤ unit 0 .z → slot (unit 0) < length (memory 0)
-      → Turns (unit 0 .z + 3) unit memory word → OnlyTurnsWrite (slot (unit 0)) (unit 0 .z + 1) unit memory word → due (unit (unit 0 .z + 3)) ≡ word 0
-  pub table-returns : (unit : ℕ → Delay) (memory : ℕ → Memory) (word : ℕ → ℕ) → unit 0 .p ≢ line → Turns 3 unit memory word
-      → due (unit 3) ≡ getD (memory 0) (address (unit 0) (word 0)) 0
+  -- Delay units (Q-1): when a line's word and a table's answer come back, passes in sequence; which units rest; what a pass leaves in delay memory.
+  pub delay-units : DelayClaims
   -- The numbers that a chain of modifiers is given rise along the list, each writer is at least 4 below an early reader and 1 below a late one, and none passes 127.
   pub chain-numbers : (c : Chain) (run : List ℕ) → length run ≡ modifiers → chainOf c run .number ≡ 0
       → Numbering c (λ i. getD (chainOf c run .numbers) i 0) × ((i : ℕ) → i < size c → getD (chainOf c run .numbers) i 0 < modifiers)

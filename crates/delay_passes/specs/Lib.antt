@@ -1,0 +1,3 @@
+pub mod InPasses
+pub mod NothingBetween
+pub mod DelayClaims

@@ -1,0 +1,1 @@
+// Delay units over passes in sequence: definitions and laws only.
