@@ -37,14 +37,14 @@ condition-fails false p e = absurd (true≢false e)
 
 -- Where a test isn't answered yes, it doesn't fail first at a higher number, and it fails somewhere.
 lowest-at : (t : ℕ → Bool) (n p : ℕ) → (t p ≡ true → ⊥) → firstFailing t n ≤ p
-lowest-at t n p no = go (ltb p (firstFailing t n)) refl
+lowest-at t n p not-yes = go (ltb p (firstFailing t n)) refl
   where
     go : (b : Bool) → ltb p (firstFailing t n) ≡ b → firstFailing t n ≤ p
-    go true e = absurd (no (failing-lowest t n .passes p (ltb-true p (firstFailing t n) e)))
+    go true e = absurd (not-yes (failing-lowest t n .passes p (ltb-true p (firstFailing t n) e)))
     go false e = ltb-false p (firstFailing t n) e
 
 somewhere : (t : ℕ → Bool) (n p : ℕ) → not (eqb (firstFailing t n) n) ≡ false → p < n → (t p ≡ true → ⊥) → ⊥
-somewhere t n p e l no = no (failing-nowhere t n (eqb-true (firstFailing t n) n (not-false _ e)) p l)
+somewhere t n p e l not-yes = not-yes (failing-nowhere t n (eqb-true (firstFailing t n) n (not-false _ e)) p l)
 
 -- The list of written data has a place for each generator below T that writes data.
 written-long : (s : Settings) (o : Order) → IsOrder (s .ticks) o → length (writtenSources s o) ≡ countBelow (s .writes) (s .ticks)
