@@ -15,18 +15,18 @@ use Rattle.order_agreement.specs.Agreement.{settingsOf, Agree}
 use Rattle.equal_endings.specs.Ends.{takenIn}
 use Rattle.equal_endings.proofs.Same.{agreed-taken}
 use Rattle.equal_orders.specs.Equal.{SameSettings, SameEnd, Equal}
-use Rattle.equal_orders.specs.Unmarked.{unmarked}
+use Rattle.equal_orders.specs.ButMarks.{SameButMarks}
 use Rattle.equal_orders.proofs.Finished.{OrderPasses, pass-let, refused-end, same-end}
 use Rattle.equal_orders.proofs.Settings.{follows}
 
 -- What is the same but for the marks ends the same.
-unmarked-end : (r s : Outcome) → unmarked r ≡ unmarked s → SameEnd r s
-unmarked-end r s e = record { machine = ap (λ (o : Outcome). o .machine) e; memory = ap (λ (o : Outcome). o .memory) e; written = ap (λ (o : Outcome). writtenData o) e }
+but-marks-end : (r s : Outcome) → SameButMarks r s → SameEnd r s
+but-marks-end r s e = record { machine = ap (λ (o : Outcome). o .machine) e; memory = ap (λ (o : Outcome). o .memory) e; written = ap (λ (o : Outcome). writtenData o) e }
 
 -- Passes by two orders that agree answer and leave the same but for the marks, whatever the call brings.
-pub agreed-unmarked : (text : Text) (m : Machine) → Good text m → (o₁ o₂ : Order) → OrderPasses (ticksOf m) o₁ → OrderPasses (ticksOf m) o₂ → Agree text m o₁ o₂
-    → (n : Machine) → Good text n → SameSettings text m n → (call : Call) → unmarked (passOf text n (by o₁ call)) ≡ unmarked (passOf text n (by o₂ call))
-agreed-unmarked text m good o₁ o₂ p₁ p₂ ag n goodn s call = go (eqb (passRefusal text n (by o₁ call)) 0) refl
+pub agreed-but-marks : (text : Text) (m : Machine) → Good text m → (o₁ o₂ : Order) → OrderPasses (ticksOf m) o₁ → OrderPasses (ticksOf m) o₂ → Agree text m o₁ o₂
+    → (n : Machine) → Good text n → SameSettings text m n → (call : Call) → SameButMarks (passOf text n (by o₁ call)) (passOf text n (by o₂ call))
+agreed-but-marks text m good o₁ o₂ p₁ p₂ ag n goodn s call = go (eqb (passRefusal text n (by o₁ call)) 0) refl
   where
     q₁ : OrderPasses (ticksOf n) o₁
     q₁ = rw (← (s .ticks)) p₁
@@ -37,7 +37,7 @@ agreed-unmarked text m good o₁ o₂ p₁ p₂ ag n goodn s call = go (eqb (pas
     alike : passRefusal text n (by o₂ call) ≡ passRefusal text n (by o₁ call)
     alike = same-refusal text n call o₂ o₁ q₂ q₁
 
-    go : (b : Bool) → eqb (passRefusal text n (by o₁ call)) 0 ≡ b → unmarked (passOf text n (by o₁ call)) ≡ unmarked (passOf text n (by o₂ call))
+    go : (b : Bool) → eqb (passRefusal text n (by o₁ call)) 0 ≡ b → SameButMarks (passOf text n (by o₁ call)) (passOf text n (by o₂ call))
     go true z =
         let none = eqb-true (passRefusal text n (by o₁ call)) 0 z in
         let same = agreed-taken (generatorsOf text) (settingsOf text m) n (follows text m n s good goodn) (call .items) (call .places) o₁ o₂ (order-passes (ticksOf m) o₁ p₁) (order-passes (ticksOf m) o₂ p₂) ag in
@@ -47,4 +47,4 @@ agreed-unmarked text m good o₁ o₂ p₁ p₂ ag n goodn s call = go (eqb (pas
 
 pub agreed-equal : (text : Text) (m : Machine) → Good text m → (o₁ o₂ : Order) → OrderPasses (ticksOf m) o₁ → OrderPasses (ticksOf m) o₂ → Agree text m o₁ o₂ → Equal text m o₁ o₂
 agreed-equal text m good o₁ o₂ p₁ p₂ ag n goodn s call e =
-    unmarked-end (passOf text n (by o₁ call)) (passOf text n (by o₂ call)) (agreed-unmarked text m good o₁ o₂ p₁ p₂ ag n goodn s call)
+    but-marks-end (passOf text n (by o₁ call)) (passOf text n (by o₂ call)) (agreed-but-marks text m good o₁ o₂ p₁ p₂ ag n goodn s call)

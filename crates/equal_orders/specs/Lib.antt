@@ -1,3 +1,3 @@
 pub mod Equal
-pub mod Unmarked
+pub mod ButMarks
 pub mod WorkedExamples

@@ -25,7 +25,7 @@ use Rattle.order_agreement.specs.Agreement.{Settings, settingsOf, awaits, repla
 use Rattle.order_agreement.specs.Points.{Failing, neighbourSame, feederSame, writerSame, wordSame, writersOf, neighbourPoint, feederPoint, writerPoint, wordPoint, failingWord, firstPoint}
 use Rattle.order_agreement.proofs.Agreed.{and-parts, neighbour-from, feeder-from, word-from, word-at}
 use Rattle.order_agreement.proofs.FirstPoint.{FailsAt, fails-at}
-use Rattle.compare.proofs.Answers.{ComparePassed, compare-passes}
+use Rattle.compare.proofs.Answers.{compare-passes}
 use Rattle.parts.specs.Parts.{Parting, partsOf}
 use Rattle.parts.proofs.Answers.{parts-passes, parts-number, parts-shown, parts-refused}
 use Rattle.equal_parts.specs.Fails.{writtenSources, NeighbourFails, FeederFails, WriterFails, WordFails, Fails, first, second, third, fourth}
