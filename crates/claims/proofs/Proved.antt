@@ -46,6 +46,9 @@ use Rattle.equal_ringings.proofs.WokenLater.{woken-agree, throughout-apart}
 use Rattle.order_pitch.proofs.Sorted.{by-pitch-sorted, by-pitch-passes, sorted-is-by-pitch}
 use Rattle.wave_format.proofs.Samples.{sample-exact}
 use Rattle.bell_passes.proofs.TwoBells.{two-bells}
+use Rattle.claims.proofs.OrderClaims.{order-claims}
+use Rattle.claims.proofs.PassClaims.{pass-claims}
+use Rattle.claims.proofs.TimerClaims.{timer-claims}
 use Rattle.bench_ringing.proofs.HeardPasses.{heard-passes, heard-all}
 use Rattle.bench_ringing.proofs.Printing.{printed-heard}
 use Rattle.bench_ringing.proofs.RungFile.{file-ticks, rung-file}
@@ -90,6 +93,9 @@ claims =
       order-printed-read = order-printed;
       sine-not-zero = magnitude-positive;
       two-bells = two-bells;
+      order-claims = order-claims;
+      pass-claims = pass-claims;
+      timer-claims = timer-claims;
       heard-passes = heard-passes;
       heard-all = heard-all;
       worked-examples = worked-examples;

@@ -31,7 +31,7 @@ use Rattle.pass_laws.specs.Passes.{passesByNumber}
 use Rattle.pass_laws.specs.Settings.{SettingsKept}
 use Rattle.delay_passes.specs.DelayClaims.{DelayClaims}
 use Rattle.command_fields.specs.Fields.{dataOf}
-use Rattle.command_timer.specs.Timer.{behind, ttOf, timed}
+use Rattle.command_timer.specs.Timer.{waitsFor, lingered, ttOf, timed}
 use Rattle.command.specs.Command.{afterCommand}
 use Rattle.update.specs.Update.{stillLingering, updateOf, takenCount}
 use Rattle.order_agreement.specs.Agreement.{settingsOf, Agree}
@@ -62,6 +62,9 @@ use Rattle.chain_views.specs.Sees.{Sees}
 use Rattle.equal_ringings.specs.Ringings.{NoneWaits, EqualThroughout}
 use Rattle.equal_ringings.specs.WokenLater.{wokenLater, wokenFirst, wokenLast}
 use Rattle.bell_passes.specs.TwoBells.{TwoBells}
+use Rattle.claims.specs.OrderClaims.{OrderClaims}
+use Rattle.claims.specs.PassClaims.{PassClaims}
+use Rattle.claims.specs.TimerClaims.{TimerClaims}
 use Rattle.bench_text.specs.Text.{lineBytes, decimal}
 use Rattle.bench_numbers.specs.Numbers.{decimalIn}
 use Rattle.bench_numbers.specs.declared.Number.the-variants.{Is}
@@ -141,6 +144,12 @@ pub record Claims : Type 0 where
   pub sine-not-zero : (k : ℕ) → 0 < magnitude k
   -- Two bells in one ring.
   pub two-bells : TwoBells
+  -- Two orders: what equal ones may differ in, what is named of two that are not, and the rule of every order.
+  pub order-claims : OrderClaims
+  -- The items and places of a pass.
+  pub pass-claims : PassClaims
+  -- Overrun and the Linger pass.
+  pub timer-claims : TimerClaims
   -- What is heard without commands, from a machine that isn't lingering, are the machines of passes by number in sequence, up to the first refusal: where nothing is refused, as many as were asked for.
   pub heard-passes : (text : Text) (n : ℕ) (m : Machine) (memory : Memory) → getD m lingeringAt 0 ≡ 0 → (k : ℕ) → k < length (heard text n m memory [] .machines)
       → getD (heard text n m memory [] .machines) k [] ≡ passesByNumber text (suc k) m memory .machine
@@ -181,10 +190,11 @@ pub record Claims : Type 0 where
   pub counter-any : (text : Text) (m : Machine) → Good text m → (n : ℕ) → n < 2 ^ counterBits → Good text (set m counterAt n)
   pub narrow-good : (text : Text) (m : Machine) → length m ≡ machineLength → narrowSound text m ≡ true → Good text m
   -- The low 20 bits of the counter, with which a Linger is compared, go on from pass to pass as a counter of 20 bits does. Nothing else of the counter decides
-  -- whether a Linger waits or sets overrun, and whether lingering goes on.
+  -- whether lingering goes on, whether a Linger waits, and what it leaves in any other word, overrun among them.
   pub low-counted : (text : Text) (m : Machine) (call : Call) → passOf text m call .number ≡ 0 → lowCounter (passOf text m call .machine) ≡ (lowCounter m + 1) % 2 ^ lingerBits
   pub linger-low : (m : Machine) → Good Of1978 m → (n k : ℕ) → n % 2 ^ lingerBits ≡ k % 2 ^ lingerBits → (stillLingering (set m counterAt n) ≡ stillLingering (set m counterAt k))
-      × ((number : ℕ) → (behind (set m counterAt n) number ≡ behind (set m counterAt k) number))
+      × ((number : ℕ) → (waitsFor (set m counterAt n) number ≡ waitsFor (set m counterAt k) number)
+      × ((i : ℕ) → i ≢ counterAt → getD (lingered (set m counterAt n) number) i 0 ≡ getD (lingered (set m counterAt k) number) i 0))
   -- TIMER 01 sets the counter to its 20 bits of data, and TIMER 11 to 0: the high bits are cleared.
   pub timer-sets : (m : Machine) → Good Of1978 m → (c : ℕ) → ttOf c ≡ 0b01 → (getD (timed m c) counterAt 0 ≡ dataOf c) × (dataOf c < 2 ^ lingerBits)
   pub timer-clears : (m : Machine) → Good Of1978 m → (c : ℕ) → ttOf c ≡ 0b11 → getD (timed m c) counterAt 0 ≡ 0

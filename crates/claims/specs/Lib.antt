@@ -1,1 +1,4 @@
+pub mod OrderClaims
+pub mod PassClaims
+pub mod TimerClaims
 pub mod Claims

@@ -21,10 +21,12 @@ use Rattle.machine.proofs.Asked.{machine-passes}
 use Rattle.machine.proofs.SoundMachine.{sound-generator, sound-controls}
 use Rattle.order_agreement.specs.Agreement.{settingsOf}
 use Rattle.order_alike.specs.Alike.{countsIn, alike}
+use Rattle.order_alike.specs.Clauses.{Clauses}
 use Rattle.order_alike.specs.Parting.{partingOrders}
 use Rattle.order_alike.proofs.Clauses.{Separate, clauses}
 use Rattle.order_alike.proofs.EveryOrder.{every-order}
 use Rattle.order_alike.proofs.Telling.{Part, orders-part}
+use Rattle.order_alike.proofs.Rule.{rule-clauses}
 use Rattle.any_order.specs.AnyOrder.{anyOrderOf}
 use Rattle.any_order.proofs.Answers.{any-number, any-rule, any-refused}
 use Rattle.equal_orders.specs.Equal.{Equal}
@@ -93,6 +95,12 @@ module _ (m : Machine) (n : anyOrderOf m .number ≡ 0) where
   -- It says yes just where every two orders are equal.
   pub any-order-says : (anyOrderOf m .alike ≡ true) ↔ EveryTwoEqual m
   any-order-says = (λ e. rule-is m good .0 (sym (any-rule m none) ∙ e), λ every. any-rule m none ∙ rule-is m good .1 every)
+
+  -- And just where the clauses of the rule hold.
+  pub any-order-rule : (anyOrderOf m .alike ≡ true) ↔ Clauses (settingsOf Of1978 m)
+  any-order-rule =
+      let rule = rule-clauses (settingsOf Of1978 m) (separate m good) in
+      (λ e. rule .0 (sym (any-rule m none) ∙ e), λ c. any-rule m none ∙ rule .1 c)
 
   -- Where it says no, the two orders that it names pass questions 5 and 6 and are not equal.
   pub orders-apart : anyOrderOf m .alike ≡ false → Apart m (partingOrders (settingsOf Of1978 m) .first) (partingOrders (settingsOf Of1978 m) .second)

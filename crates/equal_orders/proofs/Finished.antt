@@ -37,7 +37,7 @@ use Rattle.pass_laws.proofs.Frames.{steps-length, steps-quadrants}
 use Rattle.pass_laws.proofs.Passing.{good-passes, begun-words, begun-sums, let-through}
 use Rattle.equal_endings.specs.Ends.{takenIn, SameTaken}
 use Rattle.equal_witnesses.specs.Contents.{SameHeard}
-use Rattle.equal_orders.specs.Equal.{SameEnd}
+use Rattle.equal_orders.specs.ButMarks.{SameButMarks}
 
 -- An order passes questions 5 and 6.
 abbrev pub OrderPasses : ℕ → Order → Type 0
@@ -77,17 +77,17 @@ pub inactive-let : (text : Text) (n : Machine) → Good text n → ticksOf n ≤
 inactive-let text n good few inactive order call p reads writes memory =
     past-memory text n (by order call) (good-passes text n good) p reads writes memory ∙ units-pass text n few inactive
 
--- Two passes that are refused alike end the same.
+-- Two passes that are refused alike answer and leave the same.
 pub refused-end : (text : Text) (n : Machine) (call : Call) (o₁ o₂ : Order) (k : ℕ) → passRefusal text n (by o₁ call) ≡ k → passRefusal text n (by o₂ call) ≡ k → k ≢ 0
-    → SameEnd (passOf text n (by o₁ call)) (passOf text n (by o₂ call))
+    → SameButMarks (passOf text n (by o₁ call)) (passOf text n (by o₂ call))
 unfolding passOf refused
-refused-end text n call o₁ o₂ k e₁ e₂ h = rw (e₁, e₂, ne-eqb k 0 h) (record { machine = refl; memory = refl; written = refl })
+refused-end text n call o₁ o₂ k e₁ e₂ h = rw (e₁, e₂, ne-eqb k 0 h)
 
 module _ (text : Text) (n : Machine) (call : Call) (o₁ o₂ : Order) (t u : Taken) where
-  -- Passes whose generators leave the same end the same.
-  pub same-end : SameTaken t u → SameEnd (finished text n (by o₁ call) t) (finished text n (by o₂ call) u)
+  -- Passes whose generators leave the same answer and leave the same but for the marks.
+  pub same-end : SameTaken t u → SameButMarks (finished text n (by o₁ call) t) (finished text n (by o₂ call) u)
   unfolding finished
-  same-end s = record { machine = rw (s .words, s .sums); memory = rw (s .words, s .sums); written = rw (s .writes, s .places) }
+  same-end s = rw (s .words, s .sums, s .places, s .reads, s .writes)
 
 -- What the generators leave has a machine's words and four quadrants.
 record Whole (t : Taken) : Type 0 where

@@ -7,15 +7,17 @@ use mathlib.Core.List.{[], _∷_}
 use Rattle.questions.specs.Questions.{asked}
 use Rattle.order.specs.Order.{question5, question6}
 use Rattle.order.proofs.Entries.{order-passes}
+use Rattle.pass_model.specs.Pass.{Call, by, passOf}
 use Rattle.pass_model.proofs.Asked.{is-whole, is-sound}
 use Rattle.order_agreement.specs.Agreement.{settingsOf, Agree}
 use Rattle.order_agreement.specs.Points.{agrees}
 use Rattle.order_agreement.proofs.Agreed.{points-agree}
 use Rattle.compare.specs.Compare.{compareRefusal, compareOf}
 use Rattle.compare.proofs.Answers.{ComparePassed, compare-passes, compare-number, compare-agrees, compare-refused}
-use Rattle.equal_orders.specs.Equal.{Equal}
+use Rattle.equal_orders.specs.Equal.{SameSettings, Equal}
+use Rattle.equal_orders.specs.ButMarks.{SameButMarks}
 use Rattle.equal_orders.proofs.Necessity.{equal-agreed}
-use Rattle.equal_orders.proofs.Sufficiency.{agreed-equal}
+use Rattle.equal_orders.proofs.Sufficiency.{agreed-but-marks, agreed-equal}
 use Rattle.layout.specs.Machine.{Machine, Order, ticksOf}
 use Rattle.texts.specs.declared.Text.{Text}
 use Rattle.pass_laws.specs.Good.{Good}
@@ -25,6 +27,12 @@ pub demand-3 : (text : Text) (m : Machine) → Good text m → (o₁ o₂ : Orde
     → asked (question5 (ticksOf m) o₁ ∷ question6 (ticksOf m) o₁ ∷ []) ≡ 0 → asked (question5 (ticksOf m) o₂ ∷ question6 (ticksOf m) o₂ ∷ []) ≡ 0
     → Equal text m o₁ o₂ ↔ Agree text m o₁ o₂
 demand-3 text m good o₁ o₂ e₁ e₂ = (equal-agreed text m good o₁ o₂ e₁ e₂, agreed-equal text m good o₁ o₂ e₁ e₂)
+
+-- Passes by two equal orders answer and leave the same but for the marks, whatever the call brings.
+pub equal-but-marks : (text : Text) (m : Machine) → Good text m → (o₁ o₂ : Order)
+    → asked (question5 (ticksOf m) o₁ ∷ question6 (ticksOf m) o₁ ∷ []) ≡ 0 → asked (question5 (ticksOf m) o₂ ∷ question6 (ticksOf m) o₂ ∷ []) ≡ 0 → Equal text m o₁ o₂
+    → (n : Machine) → Good text n → SameSettings text m n → (call : Call) → SameButMarks (passOf text n (by o₁ call)) (passOf text n (by o₂ call))
+equal-but-marks text m good o₁ o₂ e₁ e₂ equal = agreed-but-marks text m good o₁ o₂ e₁ e₂ (equal-agreed text m good o₁ o₂ e₁ e₂ equal)
 
 -- A compare that is not refused says yes just where the orders are equal.
 pub compare-says : (text : Text) (m : Machine) (o₁ o₂ : Order) → compareOf text m o₁ o₂ .number ≡ 0 → (compareOf text m o₁ o₂ .equal ≡ true) ↔ Equal text m o₁ o₂

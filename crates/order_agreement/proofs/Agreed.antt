@@ -43,11 +43,10 @@ module _ (s : Settings) (o₁ o₂ : Order) (is₁ : IsOrder (s .ticks) o₁) (i
   sources-length o is = length-map (keep (s .writes) o) (s .source) ∙ length-keep (s .ticks) o (is .once) (is .below) (s .writes)
 
   -- The first point, at each generator that waits and at each lower neighbour.
-  neighbours-from : ((g : ℕ) → g < s .ticks → neighbourSame s o₁ o₂ g ≡ true)
-      → (g : ℕ) → s .distance + g < s .ticks → s .waits (s .distance + g) ≡ true → s .triggering g ≡ true
+  pub neighbour-from : (g : ℕ) → neighbourSame s o₁ o₂ (s .distance + g) ≡ true → s .waits (s .distance + g) ≡ true → s .triggering g ≡ true
       → before g (s .distance + g) o₁ ≡ before g (s .distance + g) o₂
-  neighbours-from f g h w t =
-      beq-true _ _ (condition-met _ _ (rw back at (f k h)) (and-both _ _ (and-both _ _ (le-leb (s .distance) k (omega arith)) w) t))
+  neighbour-from g f w t =
+      beq-true _ _ (condition-met _ _ (rw back at f) (and-both _ _ (and-both _ _ (le-leb (s .distance) k (omega arith)) w) t))
     where
       k : ℕ
       k = s .distance + g
@@ -69,11 +68,10 @@ module _ (s : Settings) (o₁ o₂ : Order) (is₁ : IsOrder (s .ticks) o₁) (i
           f k (omega (arith, leb-true (s .distance) g (r .0))) (r .1) (q .1)
 
   -- The second, at each DAC.
-  feeders-from : ((d : ℕ) → d < dacs → feederSame s o₁ o₂ d ≡ true)
-      → (d g : ℕ) → d < dacs → g < s .ticks → s .feeds d g ≡ true
+  pub feeder-from : (d g : ℕ) → feederSame s o₁ o₂ d ≡ true → g < s .ticks → s .feeds d g ≡ true
       → s .source (lastOf (s .feeds d) o₁) ≡ s .source (lastOf (s .feeds d) o₂)
-  feeders-from f d g l h e =
-      eqb-true _ _ (condition-met _ _ (f d l) (some-from (s .ticks) o₁ (is₁ .once) (is₁ .below) (s .feeds d) g h e))
+  feeder-from d g f h e =
+      eqb-true _ _ (condition-met _ _ f (some-from (s .ticks) o₁ (is₁ .once) (is₁ .below) (s .feeds d) g h e))
 
   pub feeder-at : (d : ℕ) → ((g : ℕ) → g < s .ticks → s .feeds d g ≡ true → s .source (lastOf (s .feeds d) o₁) ≡ s .source (lastOf (s .feeds d) o₂))
       → feederSame s o₁ o₂ d ≡ true
@@ -91,10 +89,9 @@ module _ (s : Settings) (o₁ o₂ : Order) (is₁ : IsOrder (s .ticks) o₁) (i
   writer-at i e = eq-eqb _ _ (ap (λ (l : List ℕ). getD l i 0) e)
 
   -- The fourth, at each sum word.
-  words-from : ((w : ℕ) → w < quadrantWords → wordSame s o₁ o₂ w ≡ true)
-      → (w g : ℕ) → w < quadrantWords → g < s .ticks → replacesWord s w g ≡ true → SameWord s w o₁ o₂
-  words-from f w g l h e =
-      let all = condition-met _ _ (f w l) (some-from (s .ticks) o₁ (is₁ .once) (is₁ .below) (replacesWord s w) g h e) in
+  pub word-from : (w g : ℕ) → wordSame s o₁ o₂ w ≡ true → g < s .ticks → replacesWord s w g ≡ true → SameWord s w o₁ o₂
+  word-from w g f h e =
+      let all = condition-met _ _ f (some-from (s .ticks) o₁ (is₁ .once) (is₁ .below) (replacesWord s w) g h e) in
       let q = and-parts _ _ all in
       let r = and-parts _ _ (q .0) in
       record {
@@ -144,10 +141,10 @@ module _ (s : Settings) (o₁ o₂ : Order) (is₁ : IsOrder (s .ticks) o₁) (i
   pub none-agree : NoneFails → Agreeing s o₁ o₂
   none-agree q =
       record {
-        neighbours = neighbours-from (q .neighbours);
-        feeders = feeders-from (q .feeders);
+        neighbours = λ g h. neighbour-from g (q .neighbours (s .distance + g) h);
+        feeders = λ d g l. feeder-from d g (q .feeders d l);
         writers = writers-from (q .writers);
-        words = words-from (q .words);
+        words = λ w g l. word-from w g (q .words w l);
       }
 
   pub from-points : agrees s o₁ o₂ ≡ true → Agreeing s o₁ o₂

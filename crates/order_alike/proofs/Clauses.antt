@@ -12,6 +12,7 @@ use Rattle.layout.specs.Layout.{dacs, quadrantWords}
 use Rattle.order_lists.proofs.Found.{Found, counts-one, at-most-one}
 use Rattle.order_agreement.specs.Agreement.{Settings, awaits, replacesWord, addsToWord}
 use Rattle.order_agreement.proofs.Agreed.{and-parts}
+use Rattle.order_alike.specs.Clauses.{Clauses}
 use Rattle.order_alike.specs.Alike.{Counts, countsIn, sources, shareOne, feedersShare, wordsApart, alike}
 
 -- The settings of generators of a text: a lower neighbour is another generator; none both replaces and adds; each source is a value of GFM; a 0111 has a sum word.
@@ -20,14 +21,6 @@ pub record Separate (s : Settings) : Type 0 where
   pub exclusive : (g : ℕ) → s .replacing g ≡ true → s .adding g ≡ false
   pub sourced : (g : ℕ) → g < s .ticks → s .source g < sources
   pub worded : (g : ℕ) → g < s .ticks → Found (λ w. s .onWord w g) quadrantWords
-
--- The clauses of the rule.
-pub record Clauses (s : Settings) : Type 0 where
-  pub awaiting : (g : ℕ) → g < s .ticks → awaits s g ≡ true → ⊥
-  pub feeders : (d g h : ℕ) → d < dacs → g < s .ticks → h < s .ticks → s .feeds d g ≡ true → s .feeds d h ≡ true → s .source g ≡ s .source h
-  pub writers : (g h : ℕ) → g < s .ticks → h < s .ticks → s .writes g ≡ true → s .writes h ≡ true → s .source g ≡ s .source h
-  pub readers : (g h : ℕ) → g < s .ticks → h < s .ticks → s .replacing g ≡ true → s .replacing h ≡ true → g ≡ h
-  pub adders : (w g h : ℕ) → w < quadrantWords → g < s .ticks → h < s .ticks → replacesWord s w g ≡ true → addsToWord s w h ≡ true → ⊥
 
 -- The parts of the rule.
 pub record Parts (c : Counts) : Type 0 where

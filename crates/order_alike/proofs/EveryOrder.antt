@@ -17,7 +17,7 @@ use Rattle.order_lists.specs.Sequences.{keep, some, lastOf, placeOf}
 use Rattle.order_lists.proofs.Entries.{last-passes, count-entry, keep-count}
 use Rattle.order_lists.proofs.Orders.{some-from, last-below, length-keep, keep-below}
 use Rattle.order_agreement.specs.Agreement.{Settings, awaits, replacesWord, lastReplacing, SameWord, Agreeing}
-use Rattle.order_alike.proofs.Clauses.{Clauses}
+use Rattle.order_alike.specs.Clauses.{Clauses}
 
 -- An entry that is kept passes.
 kept-passes : (p : ℕ → Bool) (xs : List ℕ) (i : ℕ) → i < length (keep p xs) → p (getD (keep p xs) i 0) ≡ true

@@ -3,3 +3,4 @@ pub mod EveryOrder
 pub mod Ending
 pub mod Parted
 pub mod Telling
+pub mod Rule

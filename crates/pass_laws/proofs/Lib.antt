@@ -14,3 +14,4 @@ pub mod PassClipped
 pub mod PassesInSequence
 pub mod Untaken
 pub mod OldPass
+pub mod PassPlaces
