@@ -1,12 +1,13 @@
-"""Compares the example host in C with the reference, tries the header from C and C++, and links the library alone.
+"""Compares the example host in C with what ring prints, tries the header from C and C++, and links the library alone.
 
     python3 tests/host.py [--dry] [COUNT] [SEED]
 
 Run from the repository root. Builds examples/ring_host.c with include/karvelorn.h and
 target/staticlib/libkarvelorn.a, with the address and undefined-behaviour sanitizers on and
 tests/host_guard.c before each call, and rings the files of tests/ring_files.py, COUNT of
-them at random: the host must print what the reference does, and the sanitizers nothing.
-Fails too where the files met something too seldom. With --dry nothing is built or run.
+them at random: the host must print what target/bin/ring does, which tests/ring.py compares
+with the reference on these very files, and the sanitizers nothing. Fails too where the files
+met something too seldom. With --dry nothing is built or run, and the reference answers.
 """
 
 import os
@@ -15,9 +16,9 @@ import subprocess
 import sys
 from itertools import chain
 
+import ring_files
 from library import LIBRARY, ROOT, library_is_new, read_arguments
-from ring_files import at_random, by_hand
-from ringing import compared
+from ringing import PROMISED, compared, printed_by
 
 COUNT, SEED = 300, 1978
 INCLUDE = os.path.join(ROOT, "include")
@@ -27,6 +28,9 @@ GUARD = os.path.join(ROOT, "tests", "host_guard.c")
 ALONE = os.path.join(ROOT, "tests", "alone.c")
 GUARDED = tuple("-Wl,--wrap=karvelorn_" + call for call in ("fresh", "pass", "update"))
 HOST = os.path.join(ROOT, "target", "ring_host")
+RING = os.path.join(ROOT, "target", "bin", "ring")
+# What is promised of the printed lines and the commands; what delay units met is seen in the reference's passes alone.
+TOLD = {kind: least for kind, least in PROMISED.items() if kind.startswith(("rung", "refused=", "DLY", "a number"))}
 WARNINGS = ("-Wall", "-Wextra", "-Werror", "-pedantic")
 # The host allocates nothing, and a search for leaks would take five times as long as all else.
 NO_LEAKS = {"ASAN_OPTIONS": "detect_leaks=0"}
@@ -68,8 +72,10 @@ def main(arguments):
     if not options.dry and not (header_compiles() and build()):
         print("host: a compiler refused")
         return 1
-    files = chain(by_hand(), at_random(options.count, options.seed))
-    return compared("host", HOST, files, options, NO_LEAKS)
+    if not options.dry:
+        ring_files.ring = lambda text, seen: printed_by(RING, text, {})[0]
+    files = chain(ring_files.by_hand(), ring_files.at_random(options.count, options.seed))
+    return compared("host", HOST, files, options, NO_LEAKS, TOLD)
 
 
 if __name__ == "__main__":

@@ -13,16 +13,20 @@ ROOT = Path(__file__).resolve().parent.parent
 LOGS = ROOT / "target" / "must-fail"
 
 # So many edits there are at least.
-FLOOR = 481
+FLOOR = 504
 
 # One need of a function where another was expected.
 NEEDS = r"expected type `[\w.]*Need-[\w-]+[^`]*`, but this has type `[\w.]*Need-"
 
-# First errors that only say that the text no longer fits.
-SHAPE = (
+# First errors that only say that the text no longer fits: by what they say anywhere, and by their first line.
+UNFIT = (
     r"that can be named from here",
     r"has no field",
     r"is not in scope",
+    r"a dimension .{,60} is expected here",
+    NEEDS,
+)
+SHAPE = (
     r"error\[",
     r"was not admitted",
     r"no proof: expected",
@@ -45,9 +49,9 @@ def first_error(log):
 
 
 def is_shape(error):
-    """Whether a message only says that the text no longer fits: by its first line, or by two needs that it names anywhere."""
-    first = error.split("\n", 1)[0]
-    return any(re.search(pattern, first) for pattern in SHAPE) or bool(re.search(NEEDS, " ".join(error.split())))
+    """Whether a message only says that the text no longer fits."""
+    whole, first = " ".join(error.split()), error.split("\n", 1)[0]
+    return any(re.search(pattern, whole) for pattern in UNFIT) or any(re.search(pattern, first) for pattern in SHAPE)
 
 
 def faults(crates):
