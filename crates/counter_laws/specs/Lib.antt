@@ -1,0 +1,2 @@
+pub mod SameButHigh
+pub mod Alike
