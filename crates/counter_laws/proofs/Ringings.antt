@@ -21,8 +21,9 @@ use Rattle.bench_ringing.specs.Ringing.{updateAfter, lineAfter}
 use Rattle.bench_ringing.specs.Heard.{Heard, heardAfter, heardRefused, heard, frameAfter, framesOf}
 use Rattle.bench_ringing.proofs.Updates.{update-after-sound, update-after-length}
 use Rattle.counter_laws.specs.SameButHigh.{SameButHigh}
+use Rattle.counter_laws.specs.NarrowRinging.{narrow, heardNarrow}
 use Rattle.counter_laws.specs.Alike.{PassedAlike, UpdatedAlike, HeardAlike}
-use Rattle.counter_laws.proofs.Words.{below, same-ticks}
+use Rattle.counter_laws.proofs.Words.{below, same-ticks, same-on, narrow-same, narrow-good}
 use Rattle.counter_laws.proofs.Passes.{passed-alike}
 use Rattle.counter_laws.proofs.Updates.{updated-alike, outcome-alike}
 
@@ -97,3 +98,22 @@ heard-alike text (suc k) m n s first second memory cs =
     let b = after-pass-alike text (p .machine) (q .machine) (a .machine) pg qg cs in
     one-more p q u v a b (heard text k (u .machine)) (heard text k (v .machine))
     (heard-alike text k (u .machine) (v .machine) (b .machine) (after-pass-good text (p .machine) cs pg) (after-pass-good text (q .machine) cs qg))
+
+-- And what was heard while the counter had 20 bits: its high bits are cut off after each pass.
+pub heard-narrow : (text : Text) (k : ℕ) (m n : Machine) → SameButHigh m n → Good text m → Good text n → (memory : Memory) (cs : Commands)
+    → HeardAlike (heard text k m memory cs) (heardNarrow text k n memory cs)
+unfolding heard heardNarrow
+heard-narrow text zero m n s first second memory cs = refused-alike 0
+heard-narrow text (suc k) m n s first second memory cs =
+    let p = passed text m memory in
+    let q = passed text n memory in
+    let a = by-number-alike text m n s first second memory in
+    let pg = pass-sound text m (benchCall m memory) first in
+    let qg = pass-sound text n (benchCall n memory) second in
+    let ng = narrow-good text (q .machine) qg in
+    let u = updateAfter text (p .machine) cs in
+    let v = updateAfter text (narrow (q .machine)) cs in
+    let cut = same-on (a .machine) (narrow-same (q .machine) (omega (arith, qg .whole))) in
+    let b = after-pass-alike text (p .machine) (narrow (q .machine)) cut pg ng cs in
+    one-more p q u v a b (heard text k (u .machine)) (heardNarrow text k (v .machine))
+    (heard-narrow text k (u .machine) (v .machine) (b .machine) (after-pass-good text (p .machine) cs pg) (after-pass-good text (narrow (q .machine)) cs ng))

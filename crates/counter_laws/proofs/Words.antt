@@ -14,6 +14,8 @@ use Rattle.words.proofs.Residues.{wrapped}
 use Rattle.layout.specs.Layout.{quadrantAt, counterAt, modifierAt, delayAt, generatorAt, tAt}
 use Rattle.layout.specs.Machine.{Machine, lowCounter, ticksOf}
 use Rattle.layout.specs.Widths.{counterBits, lingerBits}
+use Rattle.texts.specs.declared.Text.{Text}
+use Rattle.machine.proofs.NarrowCounter.{any-counter}
 use Rattle.sums.specs.Sums.{quadrantOf, sumsOf}
 use Rattle.sums.proofs.Memory.{quadrant-word, quadrant-length}
 use Rattle.delay.specs.Delay.{loaded as loadedDelay}
@@ -22,8 +24,10 @@ use Rattle.modifier.specs.Modifier.{loaded as loadedModifier}
 use Rattle.pass_model.specs.Generators.{generatorOf}
 use Rattle.pass_model.specs.Modifiers.{modifierOf}
 use Rattle.pass_model.specs.Pass.{counted}
+use Rattle.pass_laws.specs.Good.{Good}
 use Rattle.pass_laws.proofs.TextTurns.{same-generator}
-use Rattle.counter_laws.specs.SameButHigh.{SameButHigh, cut}
+use Rattle.counter_laws.specs.SameButHigh.{SameButHigh}
+use Rattle.counter_laws.specs.NarrowRinging.{narrow}
 
 -- What a word is told by, after the same is put at the same place of two runs that are as long.
 put-both : (f : ℕ → ℕ) (m n : List ℕ) (i v j : ℕ) → length m ≡ length n → f (getD m j 0) ≡ f (getD n j 0) → f (getD (set m i v) j 0) ≡ f (getD (set n i v) j 0)
@@ -120,12 +124,22 @@ module _ {m n : Machine} (s : SameButHigh m n) where
           (λ i l. let i64 : i < 64 = omega (arith, l, all m h q b) in
           quadrant-word m q i i64 ∙ below (quadrantAt q + i) (omega arith) ∙ sym (quadrant-word n q i i64))
 
--- A machine and the same with the counter's high bits cut off.
-pub cut-same : (m : Machine) → counterAt < length m → SameButHigh m (cut m)
-unfolding cut
-cut-same m h =
+-- From one machine to another, and on to a third.
+pub same-own : (m : Machine) → SameButHigh m m
+same-own m = record { as-long = refl; low = refl; others = λ i d. refl }
+
+pub same-on : {l m n : Machine} → SameButHigh l m → SameButHigh m n → SameButHigh l n
+same-on s r = record { as-long = s .as-long ∙ r .as-long; low = s .low ∙ r .low; others = λ i d. s .others i d ∙ r .others i d }
+
+-- A machine and the same with its counter cut to 20 bits.
+pub narrow-same : (m : Machine) → counterAt < length m → SameButHigh m (narrow m)
+narrow-same m h =
     record {
       as-long = sym (length-set m counterAt (lowCounter m));
       low = sym (ap (λ (x : ℕ). x % 2 ^ lingerBits) (getD-set-same m counterAt (lowCounter m) 0 h) ∙ omega arith);
       others = λ i d. sym (getD-set-other m counterAt i (lowCounter m) 0 d);
     }
+
+pub narrow-good : (text : Text) (m : Machine) → Good text m → Good text (narrow m)
+narrow-good text m good =
+    record { whole = length-set m counterAt (lowCounter m) ∙ good .whole; is-sound = any-counter text m (good .is-sound) (lowCounter m) (omega arith) }

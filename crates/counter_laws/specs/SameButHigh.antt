@@ -3,7 +3,7 @@
 use Prim.Native.Nat.{ℕ}
 use mathlib.Core.Logic.{_≢_}
 use mathlib.Core.Path.{_≡_}
-use lib.ListN.{length, getD, set}
+use lib.ListN.{length, getD}
 use Rattle.layout.specs.Layout.{counterAt}
 use Rattle.layout.specs.Machine.{Machine, lowCounter}
 
@@ -12,7 +12,3 @@ pub record SameButHigh (m n : Machine) : Type 0 where
   pub as-long : length m ≡ length n
   pub low : lowCounter m ≡ lowCounter n
   pub others : (i : ℕ) → i ≢ counterAt → getD m i 0 ≡ getD n i 0
-
--- A machine with the counter that it had while that had 20 bits: the high bits are cut off.
-unfoldable pub cut : Machine → Machine
-cut m = set m counterAt (lowCounter m)

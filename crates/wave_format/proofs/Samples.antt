@@ -2,7 +2,7 @@
 -- Assumes nothing.
 use mathlib.Core.Path.{_≡_, refl, sym, ap, _∙_}
 use mathlib.Core.Bool.{Bool, true, false, cond}
-use mathlib.Core.List.{_++_}
+use mathlib.Core.List.{[], _∷_, _++_}
 use Prim.Native.Nat.{ℕ, suc, _*_, _-_, _/_, _%_, _^_, _<_}
 use native.Mathlib.Omega.{arith}
 use borrow.Author.Tests.{lt-ltb, le-ltb, ltb-true, ltb-false}
@@ -10,7 +10,7 @@ use lib.Dec.{ltb}
 use lib.IntN.{pos, negsuc, negℤ, _*ℤ_}
 use Rattle.words.specs.Words.{lowBits, signed}
 use Rattle.words.proofs.Residues.{low-signed}
-use Rattle.wave_format.specs.WaveFormat.{littleEndian, sample, threeBytes, frame}
+use Rattle.wave_format.specs.WaveFormat.{littleEndian, sample, frame}
 
 pub sample-exact : (w : ℕ) → w < 2 ^ 20 → signed 24 (16 * w) ≡ pos 16 *ℤ signed 20 w
 unfolding signed
@@ -30,18 +30,17 @@ sample-exact w h = go (ltb w (2 ^ 19)) refl
 low-24 : (w : ℕ) → w < 2 ^ 20 → lowBits 24 (pos 16 *ℤ signed 20 w) ≡ 16 * w
 low-24 w h = ap (lowBits 24) (sym (sample-exact w h)) ∙ low-signed 24 (16 * w) (omega arith)
 
-three-bytes : (x : ℕ) → x < 2 ^ 24 → littleEndian 3 x ≡ threeBytes x
+three-bytes : (x : ℕ) → x < 2 ^ 24 → littleEndian 3 x ≡ x % 2 ^ 8 ∷ x / 2 ^ 8 % 2 ^ 8 ∷ x / 2 ^ 16 ∷ []
 unfolding littleEndian
 three-bytes x h =
     let third : x / 2 ^ 8 / 2 ^ 8 % 2 ^ 8 ≡ x / 2 ^ 16 = omega arith in
     rw third refl
 
-pub sample-bytes : (w : ℕ) → w < 2 ^ 20 → sample w ≡ threeBytes (lowBits 24 (pos 16 *ℤ signed 20 w))
+pub sample-bytes : (w z : ℕ) → w < 2 ^ 20 → z ≡ lowBits 24 (pos 16 *ℤ signed 20 w) → sample w ≡ z % 2 ^ 8 ∷ z / 2 ^ 8 % 2 ^ 8 ∷ z / 2 ^ 16 ∷ []
 unfolding sample
-sample-bytes w h = rw (low-24 w h) (three-bytes (16 * w) (omega arith))
+sample-bytes w z h e = rw (e, low-24 w h) (three-bytes (16 * w) (omega arith))
 
--- So are those of a frame, left and right.
-pub frame-bytes : (left right : ℕ) → left < 2 ^ 20 → right < 2 ^ 20
-    → frame left right ≡ threeBytes (lowBits 24 (pos 16 *ℤ signed 20 left)) ++ threeBytes (lowBits 24 (pos 16 *ℤ signed 20 right))
+-- A frame is the sample of the left and that of the right.
+pub frame-samples : (left right : ℕ) → frame left right ≡ sample left ++ sample right
 unfolding frame
-frame-bytes left right h k = rw (sample-bytes left h, sample-bytes right k) refl
+frame-samples left right = refl

@@ -13,10 +13,6 @@ littleEndian (suc k) x = x % 2 ^ 8 ∷ littleEndian k (x / 2 ^ 8)
 unfoldable pub sample : ℕ → List ℕ
 sample w = littleEndian 3 (16 * w)
 
--- The three bytes of a word of 24 bits, the lowest first.
-abbrev pub threeBytes : ℕ → List ℕ
-threeBytes x = x % 2 ^ 8 ∷ x / 2 ^ 8 % 2 ^ 8 ∷ x / 2 ^ 16 ∷ []
-
 -- A frame: the samples of the left and the right channel. It has six bytes.
 unfoldable pub frame : ℕ → ℕ → List ℕ
 frame left right = sample left ++ sample right
