@@ -135,11 +135,11 @@ same-on s r = record { as-long = s .as-long ∙ r .as-long; low = s .low ∙ r .
 pub narrow-same : (m : Machine) → counterAt < length m → SameButHigh m (narrow m)
 narrow-same m h =
     record {
-      as-long = sym (length-set m counterAt (lowCounter m));
-      low = sym (ap (λ (x : ℕ). x % 2 ^ lingerBits) (getD-set-same m counterAt (lowCounter m) 0 h) ∙ omega arith);
-      others = λ i d. sym (getD-set-other m counterAt i (lowCounter m) 0 d);
+      as-long = sym (length-set m counterAt _);
+      low = sym (ap (λ (x : ℕ). x % 2 ^ lingerBits) (getD-set-same m counterAt _ 0 h) ∙ omega arith);
+      others = λ i d. sym (getD-set-other m counterAt i _ 0 d);
     }
 
 pub narrow-good : (text : Text) (m : Machine) → Good text m → Good text (narrow m)
 narrow-good text m good =
-    record { whole = length-set m counterAt (lowCounter m) ∙ good .whole; is-sound = any-counter text m (good .is-sound) (lowCounter m) (omega arith) }
+    record { whole = length-set m counterAt _ ∙ good .whole; is-sound = any-counter text m (good .is-sound) _ (omega arith) }
