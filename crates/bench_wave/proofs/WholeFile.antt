@@ -53,7 +53,7 @@ module _ (file m room : List ℕ) where
   unfolding readOf
   bad e = rw (ne-eqb (fileRefusal file) 0 e)
 
-  output-is : waveOf file .output ≡ waveFile (getD (fileOf file .machine) nAt 0) (heardFile file)
+  output-is : waveOf file ≡ waveFile (getD (fileOf file .machine) nAt 0) (heardFile file)
   unfolding waveOf
   output-is = refl
 
@@ -67,12 +67,12 @@ module _ (file m room : List ℕ) where
 
   -- What is told of a file: the number, the file's length, and the file as the first part of a buffer.
   abbrev pub Told : ℕ → ℕ → List ℕ → Type 0
-  Told number size out = (number ≡ heardFile file .number) × ((size ≡ length (waveOf file .output)) × (take size out ≡ waveOf file .output))
+  Told number size out = (number ≡ heardFile file .number) × ((size ≡ length (waveOf file)) × (take size out ≡ waveOf file))
 
   refused : {number : ℕ} (out : List ℕ) → number ≢ 0 → heardFile file ≡ heardRefused number → Told number 0 out
   refused {number} out h e =
       let n = getD (fileOf file .machine) nAt 0 in
-      let w : waveOf file .output ≡ [] = output-is ∙ ap (waveFile n) e ∙ silent n (heardRefused number) h in
+      let w : waveOf file ≡ [] = output-is ∙ ap (waveFile n) e ∙ silent n (heardRefused number) h in
       (sym (ap (λ (x : Heard). x .number) e), (ap length (sym w), sym w))
 
   module _ {number : ℕ} {text : Text} {passes count : ℕ} {m' room' : List ℕ}
@@ -132,7 +132,7 @@ module _ (file m room : List ℕ) where
           (result ≡ h .number) × ((size ≡ length (waveFile (getD m' nAt 0) h)) × (take size out ≡ waveFile (getD m' nAt 0) h)) → Told result size out
       told-rung out l q (en, (es, et)) =
           let e = rung-heard l q in
-          let w : waveOf file .output ≡ waveFile (getD m' nAt 0) (heard text passes m' memoryAtFirst (take (count - 0) room')) =
+          let w : waveOf file ≡ waveFile (getD m' nAt 0) (heard text passes m' memoryAtFirst (take (count - 0) room')) =
           output-is ∙ ap (waveFile (getD (fileOf file .machine) nAt 0)) e
           ∙ ap (λ (l' : List ℕ). waveFile (getD l' nAt 0) (heard text passes m' memoryAtFirst (take (count - 0) room'))) (sym machine-is) in
           (en ∙ ap (λ (x : Heard). x .number) (sym e), (es ∙ ap length (sym w), et ∙ sym w))

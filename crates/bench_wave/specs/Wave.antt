@@ -1,4 +1,4 @@
--- What program wav writes for every file: a RIFF/WAVE file of what is heard, or a refusal.
+-- What program wav writes for every file: a RIFF/WAVE file of what is heard. A refused one has none.
 -- Assumes nothing.
 use Prim.Native.Nat.{ℕ, _+_, _*_}
 use mathlib.Core.Bool.{cond}
@@ -9,7 +9,7 @@ use Rattle.layout.specs.Layout.{nAt}
 use Rattle.questions.specs.Questions.{asked}
 use Rattle.machine.specs.Questions.{question1, question2}
 use Rattle.wave_format.specs.WaveFormat.{frameBytes, rateOf, header, headerBytes}
-use Rattle.bench_text.specs.Text.{lineBytes, refusalLine}
+use Rattle.bench_text.specs.Text.{lineBytes}
 use Rattle.bench_lines.specs.Lines.{mostPasses}
 use Rattle.bench_file.specs.BenchFile.{Reading, fileOf, textOf, fileRefusal}
 use Rattle.bench_ringing.specs.Ringing.{memoryAtFirst}
@@ -32,15 +32,9 @@ waveFile n h =
     let frames = framesOf (h .machines) in
     cond (eqb (h .number) 0) (header (rateOf n) (length frames) ++ frames) []
 
--- What is written to standard output and to standard error.
-pub record Written : Type 0 where
-  pub output : List ℕ
-  pub error : List ℕ
-
-unfoldable pub waveOf : List ℕ → Written
-waveOf file =
-    let h = heardFile file in
-    record { output = waveFile (getD (fileOf file .machine) nAt 0) h; error = cond (eqb (h .number) 0) [] (refusalLine (h .number)) }
+-- The file of a bench file.
+unfoldable pub waveOf : List ℕ → List ℕ
+waveOf file = waveFile (getD (fileOf file .machine) nAt 0) (heardFile file)
 
 -- The room for the longest file: its header, a frame of each pass, and what a step asks to be free.
 abbrev pub waveRoom : ℕ

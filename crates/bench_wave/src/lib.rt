@@ -94,8 +94,8 @@ fn sound(
 // The sound of a bench file, rung over a delay memory of zeros: the first bytes of the buffer. A refused file has none.
 pub fn wave(file: &[u8], out: &mut [u8; WAVE_ROOM]) -> Made
     ensures { λ r. ⌜ r .number ≡ heardFile (now (file .entry)) .number ⌝ }
-    ensures { λ r. ⌜ r .length ≡ length (waveOf (now (file .entry)) .output) ⌝ }
-    ensures { λ r. ⌜ take (r .length) (now (out .exit)) ≡ waveOf (now (file .entry)) .output ⌝ }
+    ensures { λ r. ⌜ r .length ≡ length (waveOf (now (file .entry))) ⌝ }
+    ensures { λ r. ⌜ take (r .length) (now (out .exit)) ≡ waveOf (now (file .entry)) ⌝ }
 {
     let mut m = [0u32; layout::MACHINE_LENGTH];
     let mut room = [0u32; bench_file::COMMAND_PLACES];

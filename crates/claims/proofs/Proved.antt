@@ -56,6 +56,11 @@ use Rattle.bench_gathering.proofs.Gatherings.{gathered-file}
 use Rattle.claims.specs.Claims.{Claims}
 use Rattle.claims.proofs.PrintedNumbers.{number-printed}
 use Rattle.claims.proofs.PrintedOrders.{order-printed}
+use Rattle.claims.proofs.TableClaims.{table-claims}
+use Rattle.claims.proofs.LowBitClaims.{low-bit-claims}
+use Rattle.claims.proofs.CounterClaims.{counter-claims}
+use Rattle.claims.proofs.FileClaims.{file-claims}
+use Rattle.claims.proofs.SoundClaims.{sound-claims}
 
 -- A pass that answers 0 is refused by no question.
 not-refused : (text : Text) (m : Machine) (call : Call) → passOf text m call .number ≡ 0 → passRefusal text m call ≡ 0
@@ -147,4 +152,9 @@ claims =
       old-no-update = λ m commands. refl;
       printed-heard = printed-heard;
       sample-exact = sample-exact;
+      tables = table-claims;
+      low-bits = low-bit-claims;
+      counter = counter-claims;
+      files = file-claims;
+      sounds = sound-claims;
     }

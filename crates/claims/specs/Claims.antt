@@ -73,6 +73,11 @@ use Rattle.bench_ringing.specs.Ringing.{updateAfter, printed, outputOf}
 use Rattle.bench_ringing.specs.Heard.{heard, linesHeard}
 use Rattle.bench_ringing.specs.Steps.{rungFrom}
 use Rattle.bench_gathering.specs.Gathering.{printedFrom}
+use Rattle.claims.specs.TableClaims.{TableClaims}
+use Rattle.claims.specs.LowBitClaims.{LowBitClaims}
+use Rattle.claims.specs.CounterClaims.{CounterClaims}
+use Rattle.claims.specs.FileClaims.{FileClaims}
+use Rattle.claims.specs.SoundClaims.{SoundClaims}
 
 pub record Claims : Type 0 where
   -- Demand 3: on a machine that passes questions 1 and 2, two orders that pass 5 and 6 are equal exactly when they agree on the four points.
@@ -243,3 +248,9 @@ pub record Claims : Type 0 where
   -- What is printed are the lines of the machines that are heard, and that of the refusal that ended them. A sample is its signed word times 16, exactly.
   pub printed-heard : (text : Text) (passes : ℕ) (m : Machine) (memory : Memory) (commands : Commands) → printed text passes m memory commands ≡ linesHeard (heard text passes m memory commands)
   pub sample-exact : (w : ℕ) → w < 2 ^ 20 → signed 24 (16 * w) ≡ pos 16 *ℤ signed 20 w
+  -- The tables of the sine and of the exponential; low bits at any width; the counter of 32 bits; the machines of files; the sound of files.
+  pub tables : TableClaims
+  pub low-bits : LowBitClaims
+  pub counter : CounterClaims
+  pub files : FileClaims
+  pub sounds : SoundClaims

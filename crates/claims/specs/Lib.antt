@@ -1,4 +1,9 @@
 pub mod OrderClaims
 pub mod PassClaims
 pub mod TimerClaims
+pub mod TableClaims
+pub mod LowBitClaims
+pub mod CounterClaims
+pub mod FileClaims
+pub mod SoundClaims
 pub mod Claims

@@ -1,4 +1,4 @@
--- TIMER and TICKS (the 1978 text, "Commands"; document 01, "Commands, update, host").
+-- TIMER and TICKS (the 1978 text, "Commands"; document 01, "Commands, update, host"; document 02, Q-7 and Q-9).
 -- Assumes nothing.
 use Prim.Native.Nat.{ℕ, _+_}
 use mathlib.Core.Bool.{Bool, false, cond, not}

@@ -20,7 +20,7 @@ use Rattle.envelope.specs.Envelope.{overflows, decayed, rounded, enveloped}
 use Rattle.product.specs.Product.{scaled, product}
 use Rattle.layout.specs.Layout.{tAt}
 use Rattle.layout.proofs.UpdateTicks.{counted-length}
-use Rattle.modes.specs.Modes.{runningA, runningB, wait, readData, writeDAC, free, adds, replaces, builtRun, builtOscillator}
+use Rattle.modes.specs.Modes.{runningA, runningB, wait, readData, writeDAC, envelopeOn, free, adds, replaces, builtRun, builtOscillator}
 use Rattle.modes.proofs.RunModes.{replaces-alone}
 use Rattle.machine.specs.Questions.{regions, testAt, goodGmode, freshMachine}
 use Rattle.machine.proofs.SoundMachine.{reaches, single-below, sound-set, sound-with-ticks, sound-generator}
@@ -32,7 +32,7 @@ use Rattle.order_lists.proofs.Orders.{some-from, last-below}
 use Rattle.order_agreement.specs.Agreement.{settingsOf, replacesWord, addsToWord, lastReplacing, afterReplacing, SameWord, Agree}
 use Rattle.pass_laws.specs.Good.{Good}
 use Rattle.equal_orders.specs.Equal.{Equal}
-use Rattle.equal_orders.specs.WorkedExamples.{word, AtTop, forth, back, TwoTicks, BothFeed, ofTwo, WorkedExamples}
+use Rattle.equal_orders.specs.WorkedExamples.{word, AtTop, atTop, forth, back, TwoTicks, BothFeed, ofTwo, WorkedExamples}
 use Rattle.equal_orders.proofs.Theorem.{demand-3}
 use Rattle.generator.specs.declared.Generator.{Generator}
 use Rattle.generator.specs.Generator.{runMode, gqAfter, triggers}
@@ -86,6 +86,15 @@ module _ (u : Generator) (t : AtTop u) where
   free-9 : free (runMode u) ≡ true → (gqAfter u ≡ 0) × (triggers u ≡ true)
   unfolding gqAfter triggers decayed overflows outside exactSum signed lowBits
   free-9 e = (rw (t .on, e, t .gq, t .gp), rw (e, t .gq, t .gp))
+
+-- Generators of example 9: 1111 is sticky, 1110 free.
+sticky-top : AtTop (atTop 960) × (free (runMode (atTop 960)) ≡ false)
+unfolding envelopeOn free isOneOf
+sticky-top = (record { on = refl; gq = refl; gp = refl }, refl)
+
+free-top : AtTop (atTop 896) × (free (runMode (atTop 896)) ≡ true)
+unfolding envelopeOn free isOneOf
+free-top = (record { on = refl; gq = refl; gp = refl }, refl)
 
 -- The two orders of two generators pass their questions.
 pub forth-passes : (t : ℕ) → t ≡ 2 → asked (question5 t forth ∷ question6 t forth ∷ []) ≡ 0
@@ -370,6 +379,8 @@ worked-examples =
       example-8 = product-8;
       example-9-sticky = sticky-9;
       example-9-free = free-9;
+      shown-9-sticky = (sticky-top .0, sticky-top .1, sticky-9 (atTop 960) (sticky-top .0) (sticky-top .1));
+      shown-9-free = (free-top .0, free-top .1, free-9 (atTop 896) (free-top .0) (free-top .1) .0, free-9 (atTop 896) (free-top .0) (free-top .1) .1);
       example-10 = unequal-10;
       example-11 = equal-11;
       example-12 = equal-12;

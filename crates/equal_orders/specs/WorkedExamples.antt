@@ -33,6 +33,23 @@ pub record AtTop (u : Generator) : Type 0 where
   pub gq : u .gq ≡ 16777215
   pub gp : u .gp ≡ 1
 
+-- One with this GMODE, its other registers 0.
+abbrev pub atTop : ℕ → Generator
+atTop mode =
+    record {
+      go = 0;
+      gj = 0;
+      gk = 0;
+      gn = 0;
+      gm = 0;
+      gp = 1;
+      gq = 16777215;
+      gl = 0;
+      gsum = 0;
+      gfm = 0;
+      gmode = mode;
+    }
+
 -- The two orders of two generators.
 abbrev pub forth : Order
 forth = 0 ∷ 1 ∷ []
@@ -58,7 +75,7 @@ unfoldable pub ofTwo : ℕ → ℕ → ℕ → ℕ → ℕ → ℕ → Machine
 ofTwo mode₀ mode₁ sum₀ sum₁ fm₀ fm₁ =
     set (set (set (set (set (set (withUpdateTicks (set freshMachine tAt 2)) 8 sum₀) 9 fm₀) 10 mode₀) 19 sum₁) 20 fm₁) 21 mode₁
 
--- The twelve examples. Examples 10 to 12 speak of every good machine of their kind, and machines of each kind are shown.
+-- The twelve examples. Example 9 speaks of every generator of its kind, examples 10 to 12 of every good machine of theirs; generators and machines of each kind are shown.
 pub record WorkedExamples : Type 0 where
   -- 1. Sine entries 0, 1, 1,023, 2,047: 1, 4, 2,895, 4,095.
   pub example-1 : (entry 0 ≡ 1) × (entry 1 ≡ 4) × (entry 1023 ≡ 2895) × (entry 2047 ≡ 4095)
@@ -79,6 +96,9 @@ pub record WorkedExamples : Type 0 where
   -- 9. GQ 16,777,215, GP 1: sticky keeps it, free gives 0 and triggers.
   pub example-9-sticky : (u : Generator) → AtTop u → free (runMode u) ≡ false → gqAfter u ≡ 16777215
   pub example-9-free : (u : Generator) → AtTop u → free (runMode u) ≡ true → (gqAfter u ≡ 0) × (triggers u ≡ true)
+  -- Generators of these kinds: 1111, and 1110.
+  pub shown-9-sticky : AtTop (atTop 960) × (free (runMode (atTop 960)) ≡ false) × (gqAfter (atTop 960) ≡ 16777215)
+  pub shown-9-free : AtTop (atTop 896) × (free (runMode (atTop 896)) ≡ true) × (gqAfter (atTop 896) ≡ 0) × (triggers (atTop 896) ≡ true)
   -- 10. Modes 1110, 1001: unequal.
   pub example-10 : (m : Machine) → TwoTicks m runningB wait → Equal Of1978 m forth back → ⊥
   -- 11. Both 0010 to DAC 0: equal only with one GFM.

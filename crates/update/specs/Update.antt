@@ -1,4 +1,4 @@
--- An update (document 01, "Commands, update, host" and "Questions at the door").
+-- An update (document 01, "Commands, update, host" and "Questions at the door"; document 02, Q-7 and Q-9).
 -- Assumes nothing.
 use Prim.Native.Nat.{ℕ, zero, suc, _+_, _-_, _*_}
 use mathlib.Core.Bool.{Bool, cond, not, _&&_}

@@ -1,0 +1,119 @@
+-- What is heard of two good machines that differ in the counter's high bits alone, by passes and updates in turn.
+-- Assumes nothing.
+use mathlib.Core.Path.{_≡_, refl, ap, _∙_}
+use mathlib.Core.Bool.{Bool, true, false, cond}
+use mathlib.Core.List.{List, [], _∷_}
+use Prim.Native.Nat.{ℕ, zero, suc, _<_}
+use native.Mathlib.Omega.{arith}
+use native.Mathlib.Nat.{not-suc-le-zero}
+use lib.Dec.{eqb, lit<}
+use lib.ListN.{length, getD}
+use Rattle.layout.specs.Layout.{dacAt}
+use Rattle.layout.specs.Machine.{Machine, Memory, Commands}
+use Rattle.texts.specs.declared.Text.{Text}
+use Rattle.texts.specs.declared.Text.the-variants.{Of1978, Old}
+use Rattle.pass_model.specs.Pass.{Outcome}
+use Rattle.pass_laws.specs.Good.{Good}
+use Rattle.pass_laws.proofs.PassSound.{pass-sound}
+use Rattle.update.specs.Update.{Outcome as Updated}
+use Rattle.bench_pass.specs.ByNumber.{benchCall, passed}
+use Rattle.bench_ringing.specs.Ringing.{updateAfter, lineAfter}
+use Rattle.bench_ringing.specs.Heard.{Heard, heardAfter, heardRefused, heard, frameAfter, framesOf}
+use Rattle.bench_ringing.proofs.Updates.{update-after-sound, update-after-length}
+use Rattle.counter_laws.specs.SameButHigh.{SameButHigh}
+use Rattle.counter_laws.specs.NarrowRinging.{narrow, heardNarrow}
+use Rattle.counter_laws.specs.Alike.{PassedAlike, UpdatedAlike, HeardAlike}
+use Rattle.counter_laws.proofs.Words.{below, same-ticks, same-on, narrow-same, narrow-good}
+use Rattle.counter_laws.proofs.Passes.{passed-alike}
+use Rattle.counter_laws.proofs.Updates.{updated-alike, outcome-alike}
+
+-- Frames and lines by the machines.
+frames-same : (ms ns : List Machine) → length ms ≡ length ns → ((i : ℕ) → i < length ms → SameButHigh (getD ms i []) (getD ns i [])) → framesOf ms ≡ framesOf ns
+unfolding framesOf frameAfter
+frames-same [] [] l f = refl
+frames-same [] (n ∷ ns) l f = absurd (omega arith)
+frames-same (m ∷ ms) [] l f = absurd (omega arith)
+frames-same (m ∷ ms) (n ∷ ns) l f =
+    let s : SameButHigh m n = f 0 (omega arith) in
+    rw (below s (dacAt 0) (lit< tt), below s (dacAt 1) (lit< tt), frames-same ms ns (omega arith) (λ i h. f (suc i) (omega arith)))
+
+by-machines : (h k : Heard) → h .number ≡ k .number → length (h .machines) ≡ length (k .machines)
+    → ((i : ℕ) → i < length (h .machines) → SameButHigh (getD (h .machines) i []) (getD (k .machines) i [])) → HeardAlike h k
+unfolding lineAfter
+by-machines h k e l f =
+    record {
+      number = e;
+      as-many = l;
+      machine = f;
+      frames = frames-same (h .machines) (k .machines) l f;
+      line = λ i b. rw (below (f i b) (dacAt 0) (lit< tt), below (f i b) (dacAt 1) (lit< tt));
+    }
+
+refused-alike : (n : ℕ) → HeardAlike (heardRefused n) (heardRefused n)
+refused-alike n = by-machines (heardRefused n) (heardRefused n) refl refl (λ i h. absurd (not-suc-le-zero h))
+
+after-alike : {m n : Machine} → SameButHigh m n → (h k : Heard) → HeardAlike h k → HeardAlike (heardAfter m h) (heardAfter n k)
+after-alike {m} {n} s h k a = by-machines (heardAfter m h) (heardAfter n k) (a .number) (ap suc (a .as-many)) at
+  where
+    at : (i : ℕ) → i < suc (length (h .machines)) → SameButHigh (getD (m ∷ h .machines) i []) (getD (n ∷ k .machines) i [])
+    at zero b = s
+    at (suc i) b = a .machine i (omega arith)
+
+either-heard : (b : Bool) {h k l o : Heard} → HeardAlike h k → HeardAlike l o → HeardAlike (cond b h l) (cond b k o)
+either-heard true a b = a
+either-heard false a b = b
+
+-- A pass and its update, and what is heard after them.
+one-more : (p q : Outcome) (u v : Updated) → PassedAlike p q → UpdatedAlike u v → (h k : Memory → Commands → Heard) → ((memory : Memory) (cs : Commands) → HeardAlike (h memory cs) (k memory cs))
+    → HeardAlike (cond (eqb (p .number) 0) (cond (eqb (u .number) 0) (heardAfter (u .machine) (h (p .memory) (u .rest))) (heardRefused (u .number))) (heardRefused (p .number)))
+    (cond (eqb (q .number) 0) (cond (eqb (v .number) 0) (heardAfter (v .machine) (k (q .memory) (v .rest))) (heardRefused (v .number))) (heardRefused (q .number)))
+one-more p q u v a b h k f =
+    rw (a .number, a .memory, b .number, b .rest)
+    (either-heard (eqb (q .number) 0)
+    (either-heard (eqb (v .number) 0) (after-alike (b .machine) (h (q .memory) (v .rest)) (k (q .memory) (v .rest)) (f (q .memory) (v .rest))) (refused-alike (v .number)))
+    (refused-alike (q .number)))
+
+after-pass-alike : (text : Text) (m n : Machine) → SameButHigh m n → Good text m → Good text n → (cs : Commands) → UpdatedAlike (updateAfter text m cs) (updateAfter text n cs)
+after-pass-alike Of1978 m n s first second cs = updated-alike m n s first second cs
+after-pass-alike Old m n s first second cs = outcome-alike s 0 cs
+
+after-pass-good : (text : Text) (m : Machine) (cs : Commands) → Good text m → Good text (updateAfter text m cs .machine)
+after-pass-good text m cs good = record { whole = update-after-length text m cs ∙ good .whole; is-sound = update-after-sound text m cs (good .is-sound) }
+
+by-number-alike : (text : Text) (m n : Machine) → SameButHigh m n → Good text m → Good text n → (memory : Memory) → PassedAlike (passed text m memory) (passed text n memory)
+by-number-alike text m n s first second memory = rw (← (same-ticks s)) (passed-alike text m n s first second (benchCall m memory))
+
+pub heard-alike : (text : Text) (k : ℕ) (m n : Machine) → SameButHigh m n → Good text m → Good text n → (memory : Memory) (cs : Commands)
+    → HeardAlike (heard text k m memory cs) (heard text k n memory cs)
+unfolding heard
+heard-alike text zero m n s first second memory cs = refused-alike 0
+heard-alike text (suc k) m n s first second memory cs =
+    let p = passed text m memory in
+    let q = passed text n memory in
+    let a = by-number-alike text m n s first second memory in
+    let pg = pass-sound text m (benchCall m memory) first in
+    let qg = pass-sound text n (benchCall n memory) second in
+    let u = updateAfter text (p .machine) cs in
+    let v = updateAfter text (q .machine) cs in
+    let b = after-pass-alike text (p .machine) (q .machine) (a .machine) pg qg cs in
+    one-more p q u v a b (heard text k (u .machine)) (heard text k (v .machine))
+    (heard-alike text k (u .machine) (v .machine) (b .machine) (after-pass-good text (p .machine) cs pg) (after-pass-good text (q .machine) cs qg))
+
+-- And what was heard while the counter had 20 bits: its high bits are cut off after each pass.
+pub heard-narrow : (text : Text) (k : ℕ) (m n : Machine) → SameButHigh m n → Good text m → Good text n → (memory : Memory) (cs : Commands)
+    → HeardAlike (heard text k m memory cs) (heardNarrow text k n memory cs)
+unfolding heard heardNarrow
+heard-narrow text zero m n s first second memory cs = refused-alike 0
+heard-narrow text (suc k) m n s first second memory cs =
+    let p = passed text m memory in
+    let q = passed text n memory in
+    let a = by-number-alike text m n s first second memory in
+    let pg = pass-sound text m (benchCall m memory) first in
+    let qg = pass-sound text n (benchCall n memory) second in
+    let ng = narrow-good text (q .machine) qg in
+    let u = updateAfter text (p .machine) cs in
+    let v = updateAfter text (narrow (q .machine)) cs in
+    let cut = same-on (a .machine) (narrow-same (q .machine) (omega (arith, qg .whole))) in
+    let b = after-pass-alike text (p .machine) (narrow (q .machine)) cut pg ng cs in
+    one-more p q u v a b (heard text k (u .machine)) (heardNarrow text k (v .machine))
+    (heard-narrow text k (u .machine) (v .machine) (b .machine) (after-pass-good text (p .machine) cs pg) (after-pass-good text (narrow (q .machine)) cs ng))

@@ -1,0 +1,3 @@
+pub mod SameButHigh
+pub mod Alike
+pub mod NarrowRinging

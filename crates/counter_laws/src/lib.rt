@@ -1,0 +1,1 @@
+// Machines that differ in the counter's high bits alone, and that they pass, update and ring alike.
