@@ -5,7 +5,8 @@
 Run from the repository root. Builds examples/ring_host.c with include/karvelorn.h and
 target/staticlib/libkarvelorn.a, with the address and undefined-behaviour sanitizers on and
 tests/host_guard.c before each call, and rings the files of tests/ring_files.py, COUNT of
-them at random: the host must print what the reference does, and the sanitizers nothing.
+them at random, and those of tests/text_files.py that are made by hand: the host must print
+what the reference does, and the sanitizers nothing.
 Fails too where the files met something too seldom. With --dry nothing is built or run.
 """
 
@@ -16,6 +17,8 @@ import sys
 from itertools import chain
 
 from library import LIBRARY, ROOT, library_is_new, read_arguments
+
+import text_files
 from ring_files import at_random, by_hand
 from ringing import compared
 
@@ -25,7 +28,7 @@ HEADER = os.path.join(INCLUDE, "karvelorn.h")
 SOURCE = os.path.join(ROOT, "examples", "ring_host.c")
 GUARD = os.path.join(ROOT, "tests", "host_guard.c")
 ALONE = os.path.join(ROOT, "tests", "alone.c")
-GUARDED = tuple("-Wl,--wrap=karvelorn_" + call for call in ("fresh", "pass", "update"))
+GUARDED = tuple("-Wl,--wrap=karvelorn_" + call for call in ("fresh", "pass", "old_pass", "update", "read"))
 HOST = os.path.join(ROOT, "target", "ring_host")
 WARNINGS = ("-Wall", "-Wextra", "-Werror", "-pedantic")
 # The host allocates nothing, and a search for leaks would take five times as long as all else.
@@ -68,7 +71,7 @@ def main(arguments):
     if not options.dry and not (header_compiles() and build()):
         print("host: a compiler refused")
         return 1
-    files = chain(by_hand(), at_random(options.count, options.seed))
+    files = chain(by_hand(), text_files.by_hand(), at_random(options.count, options.seed))
     return compared("host", HOST, files, options, NO_LEAKS)
 
 
