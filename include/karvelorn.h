@@ -99,7 +99,9 @@
  *     floor(GJ / 256) / 2^20 * rate Hz,    so    GJ = 256 * round(Hz / rate * 2^20)
  * for Hz below rate / 2, in steps of rate / 2^20 (0.0185 Hz with N = 265). GJ's low 8 bits are for the sweep alone: where
  * the oscillator is on, each pass then adds GO to GJ, and the pitch moves by GO / 2^28 * rate Hz a pass. F modulates the
- * frequency, by F / 2^20 * rate Hz. A phase is set by GK itself: 2^18 is a quarter turn.
+ * frequency, by F / 2^20 * rate Hz. Every generator has an F: a GFM of 0 is generator-last word 0, not none. So a partial
+ * that is not to be modulated needs a GFM whose word stays 0, one that nothing is added to: with all GSUMs other than 63,
+ * 63 is such a one, and 127 with no modifier there. A phase is set by GK itself: 2^18 is a quarter turn.
  *
  * Wave. K = floor(GK / 128), or floor(J / 128) in oscillator mode 1000, is the angle in 13 bits, -4096 to 4095 for half a
  * turn on either side. The wave W by the oscillator mode:

@@ -11,14 +11,14 @@ use lib.Dec.{eqb}
 use lib.ListN.{length}
 use lib.Seq.{sets}
 use Rattle.layout.specs.Layout.{machineLength}
-use Rattle.questions.specs.Questions.{Question, asked}
+use Rattle.questions.specs.Questions.{asked}
 use Rattle.questions.proofs.Asked.{asked-first, asked-later}
 use Rattle.machine.specs.Questions.{question1}
-use Rattle.bench_file.specs.BenchFile.{fileOf, textOf, question9, question13, fileRefusal}
+use Rattle.bench_file.specs.BenchFile.{fileOf, question9, question13, fileRefusal}
 use Rattle.bench_file.specs.Sweeps.{contentsOf}
 use Rattle.bench_file.specs.declared.Contents.{Contents}
 use Rattle.bench_file.proofs.WholeFile.{said-number, said-good}
-use Rattle.bench_read.specs.Read.{textNumber, question8, readRefusal, Read, readInto}
+use Rattle.bench_read.specs.Read.{textNumber, question8, readRefusal, readInto}
 
 module _ (file m places : List ℕ) where
   -- What a refusal leaves.
