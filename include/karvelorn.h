@@ -2,7 +2,8 @@
  *
  * The library is target/staticlib/libkarvelorn.a (made by `rt staticlib karvelorn`), for x86-64. It needs only memcpy, memset and
  * memcmp of the C library, keeps nothing between calls, allocates nothing and prints nothing. Calls on different
- * machines may run at the same time. examples/ring_host.c is a whole host to start from.
+ * machines may run at the same time. examples/ring_host.c is a whole host to start from. Below: what a host must see to,
+ * the questions, the words of a machine, how to write a bell, delay units, the older text; then names and the calls.
  *
  * A run of words is a pointer to its first uint32_t and then how many words it has. A machine is a run that the host
  * owns, and so is the delay memory beside it, which a pass is handed; between calls the host may read and write any of
@@ -14,10 +15,11 @@
  * - each pointer is aligned for its type;
  * - a run has valid memory for its whole length, for reading, and for writing too where it is not const; with length 0
  *   the pointer may be NULL;
- * - a pointer that a call answers through (read, written, clipped, taken, equal, alike, point, place) is not NULL and
- *   has valid memory for one, clipped for KARVELORN_MARKS. What was there before is not looked at, and the call always
- *   sets it, in a refusal too; numbers is not NULL and has valid memory for KARVELORN_MODIFIERS, and of these words a
- *   call sets those that it has numbers for; an array of KARVELORN_KEPT words has valid memory for all of them;
+ * - a pointer that a call answers through (read, written, clipped, taken, equal, alike, point, place, text, passes,
+ *   count) is not NULL and has valid memory for one, clipped for KARVELORN_MARKS. What was there before is not looked
+ *   at, and the call always sets it, in a refusal too; numbers is not NULL and has valid memory for
+ *   KARVELORN_MODIFIERS, and of these words a call sets those that it has numbers for; an array of KARVELORN_KEPT words
+ *   has valid memory for all of them;
  * - what a call writes (the runs that are not const, delay memory too, and what it answers through) overlaps nothing
  *   else that is handed to the same call, and nothing else reads or writes it during the call. Runs that are const may
  *   overlap each other.
@@ -33,11 +35,13 @@
  *   5  Has the order T entries?
  *   6  Is each number below T in the order once?
  *   7  Are there read items for all generators below T in run mode 0111?
- *   8  Are there written places for all generators below T in run mode 0011?
+ *   8  Are there written places for all generators below T in run mode 0011? (karvelorn_read: places for all commands?)
+ *   9  Is the text a bench file, at most 65536 bytes?
  *   10 Has delay memory KARVELORN_MEMORY_WORDS words, none above 20 bits?
  *   11 Of the delay units in mode 1000 that modifiers below T div 2 invoke and that don't act as inactive: has each X+Z
  *      at most 65535 and Y at most Z?
  *   12 Do the modifiers below T div 2 that invoke delay units name different ones, whatever the units' modes?
+ *   13 Is the text that the file names, if it names one, 1978 or old?
  *   14 Has each entry of a chain its two words, with names that stand in their run and are entries before it, and are
  *      all names an entry's?
  *   15 Are the earliest numbers for a chain at most 127?
@@ -49,7 +53,8 @@
  * has its turn; a compare asks 1 and 2, then 5 and 6 of each order, karvelorn_parts the same, then 1 of the run for the
  * contents and 7 of the read list, and karvelorn_any_order and karvelorn_keep 1 and 2; karvelorn_change asks 1 and 2,
  * then of the change; karvelorn_join asks 1 and 2 of the first machine, 1 and 2 of the second, then 16, 17 and 18. These
- * seven ask none of 10 to 12. karvelorn_chain, which is handed no machine, asks 14 and then 15. No call answers 9.
+ * seven ask none of 10 to 12. karvelorn_chain, which is handed no machine, asks 14 and then 15, karvelorn_read 9 and 13 of
+ * the file, then 1 and 8 of the runs.
  * A refused call leaves every run as it was, but for an update that refuses a command (3 or 4): what it did before that
  * command stays done.
  *
@@ -71,28 +76,112 @@
  *                  (20 each), next due first
  *   4343           the update ticks, N-T-8, or 0 if that is negative: how many commands an update takes at most
  *
- * Modes and addresses, from the left bit on:
- *   GMODE   run mode (4 bits): 0000 inactive, 0001 pause, 0010 to a DAC (the one that GO's low 4 bits name), 0011 write
- *           data, 0111 read data, 1001 wait, 1101, 1110 and 1111 running; envelope mode (2): 00 and 10 take Q from GL,
- *           01 and 11 add it, where Q is the high 12 bits of GQ or, in 10 and 11, the exponential of its high 14;
- *           oscillator mode (4): 0000 sine of GK, 0001 sawtooth, 0010 square, 0011 pulse train, 0100 sum of cosines,
- *           1000 sine of J, the high 20 bits of GJ plus the word at GFM. Other run and oscillator modes are not built
+ * Modes and addresses, from the left bit on (names for all of these stand below, before the calls):
+ *   GMODE   run mode (4 bits), envelope mode (2), oscillator mode (4)
  *   GFM     0 generator-last or 1 modifier-last, then the word (6)
- *   MMODE   function (5): 00000 inactive, 00010 noise, 00011 triggered noise, 00100 latch, 00110 threshold, 00111
- *           invoke delay unit, 01000 two poles, 01001 with M0 variable, 01011 with M1 variable, 01100 two zeros, 01101
- *           with M0 variable, 01111 with M1 variable, 10000 integer mixing, 10001 one pole, 10100 mixing, 10110 one
- *           zero, 11000 four-quadrant product, 11001 amplitude modulation, 11010 maximum, 11011 minimum, 11100 signum,
- *           11101 pulser; others are not built. Then AA, the scale of the second multiplication (2), and BB, of the
- *           first (2)
+ *   MMODE   function (5), AA, the scale of the second multiplication (2), BB, of the first (2)
  *   MIN     and MRM: 00 generator-last, 01 modifier-last or 10 modifier-this, then the word (6). In 00111 MRM's low 5
  *           bits name the delay unit
  *   MSUM    0 adds or 1 replaces, then the word of modifier-this (6)
  *   P       0000 inactive, 1000 delay line, 1010 table, 1011 table with its argument rounded; others are not built
  *
- * Delay units. In 00111 a modifier gets the word DM from its unit: S := L0 + L1*M0; L0 := DM; L1 := A + DM*M1, and this
- * L1 goes to the unit. A sees the writes of modifiers up to m-1. A unit acts as inactive in mode 0000, from unit
- * (T-6) div 4 on, and if T is below 10: it gives 0. Neither such a unit nor one that no modifier below T div 2 invokes
- * changes. Any other gives the first of its three words, and the two behind it move up. Then, by its mode:
+ * To write a bell. Of each register the value before the turn is meant, / is exact division, floor(x) the largest whole
+ * number not above x. Every sum is reduced to the low bits of its register.
+ *
+ * Time. A tick takes 195 ns. A pass is one sample and takes N ticks, so that there are rate = 1 / (N * 195 ns) passes a
+ * second, 19351.7 with the N of a fresh machine, 265. Of the N ticks the first T are processing ticks (generator g has a
+ * turn where g < T, modifier m where m < T div 2), 8 are overhead and the others, N-T-8, update ticks, each for one
+ * command. So T is at least the number of generators, twice that of modifiers and 4u + 10 for delay unit u; N follows from
+ * the rate, and is at least T + 8 and the commands that one update is to take.
+ *
+ * Pitch. GK is the angle, 2^20 a whole turn. Where the oscillator is on, each pass adds J to it: J = floor(GJ / 256) + F,
+ * with F the word that GFM names. With F = 0 the pitch is
+ *     floor(GJ / 256) / 2^20 * rate Hz,    so    GJ = 256 * round(Hz / rate * 2^20)
+ * for Hz below rate / 2, in steps of rate / 2^20 (0.0185 Hz with N = 265). GJ's low 8 bits are for the sweep alone: where
+ * the oscillator is on, each pass then adds GO to GJ, and the pitch moves by GO / 2^28 * rate Hz a pass. F modulates the
+ * frequency, by F / 2^20 * rate Hz. Every generator has an F: a GFM of 0 is generator-last word 0, not none. So a partial
+ * that is not to be modulated needs a GFM whose word stays 0, one that nothing is added to: with all GSUMs other than 63,
+ * 63 is such a one, and 127 with no modifier there. A phase is set by GK itself: 2^18 is a quarter turn.
+ *
+ * Wave. K = floor(GK / 128), or floor(J / 128) in oscillator mode 1000, is the angle in 13 bits, -4096 to 4095 for half a
+ * turn on either side. The wave W by the oscillator mode:
+ *   0000    sine of GK: of 4096 * sin(2 pi (K + 1/2) / 8192) the whole part, at most 4095 (to the magnitude 0.0002 is
+ *           added, which counts at K = 883 alone, and where that is mirrored); then its magnitude is shifted right by GM
+ *           places, each of them -6.02 dB
+ *   1000    the same of J: a sine whose angle is GJ and a sum word (phase modulation); it doesn't depend on GK
+ *   0001    sawtooth: K, but 0 at -4096
+ *   0010    square: -2048 where K is negative, else 2048
+ *   0011    pulse train: 2048 in a pass in which floor(GJ / 256) + F, or GK + J where the oscillator is on, left -2^19 to
+ *           2^19-1 as a signed sum; else 0. So one pulse a turn
+ *   0100    sum of cosines, band-limited pulses: floor(4095 * |s| / (|d| * 2^GM)), at most 4095, with the sign of s * d,
+ *           where s is the sine above at the index 2 * GN * K (its low 13 bits) and d that at K, both before any shift.
+ *           With the angle x = 2 pi K / 8192 this is 4095 / 2^GM * 2 * (cos x + cos 3x + .. + cos (2 GN - 1)x): GN
+ *           cosines of equal level. So that no peak is cut off, 2^GM is at least 2 * GN
+ * GN counts in 0100 alone, GM in 0000, 1000 and 0100.
+ *
+ * Level. V, 0 to 4095, is GL - Q in the envelope modes 00 and 10, GL + Q in 01 and 11, its low 12 bits. Q comes from GQ,
+ * 0 to 2^24 - 1:
+ *   00, 01  linear: Q = floor(GQ / 4096)
+ *   10, 11  exponential: with h = floor(GQ / 1024), Q is entry h mod 1024 shifted right by h div 1024 places, and entry f
+ *           is floor(4093 * 2^(-f / 1024)): about 4093 * 2^(-GQ / 2^20), 1024 steps a halving, 16 halvings to the end
+ * P has the sign of W and the magnitude floor((|W| * V + 32) / 64), at most 262016: half of what a sum word holds, so one
+ * sine at V = 4095 is -6.02 dB. A sine with GM 0 has a peak of about 64 * V. P is added into the word GSUM of
+ * generator-this-pass (in 0111 P plus the next read item replaces it); the next pass finds the sum in generator-last.
+ *
+ * Envelope. Where the envelope is on, each pass then adds GP, signed, to GQ. A partial that dies away has envelope mode
+ * 11, GL 0 and
+ *     GQ = 2^20 * log2(4093 / V at the beginning),    GP = 2^20 * 9.966 / (T60 * rate)
+ * where T60 is the time in seconds to fall by 60 dB (9.966 halvings). A linear fall from V = L to 0 in n passes: mode 01,
+ * GL 0, GQ = 4096 * L, GP = -4096 * L / n. A steady level: mode 01, GP 0. A GQ that would leave 0 to 2^24 - 1 overflows.
+ * The run modes differ in that, and in what is on:
+ *   0000, 0001  inactive, pause: nothing is on. A MISC command makes every pause a 1111
+ *   1111        oscillator, envelope, adding. Sticky: GQ stays at its last value. A bell's partial
+ *   1110        the same, but free: GQ wraps, so that the envelope begins again and again, and each overflow triggers
+ *   1101        the same, free, once: an overflow wraps and triggers, and the generator goes to 1001 for the next pass
+ *   1001        wait: the oscillator turns, nothing is heard. It goes to 1101 for the next pass if generator g-1 was taken
+ *               earlier in this pass and triggered (was in 1110 or 1101 and overflowed). A MISC command makes it a 1111
+ *   0111        read data: envelope, sticky; P plus the next read item replaces the sum word
+ *   0011        write data: F is the next written item
+ *   0010        DAC: F goes to the DAC that GO's low 4 bits name. What a bell needs to be heard, one for each DAC, with GFM
+ *               the word that its partials have as GSUM; it is heard one pass later
+ * Other run and oscillator modes are not built.
+ *
+ * Modifiers. A is the word that MIN names, B that of MRM; S goes to the word of MSUM. A product of two words of 20 bits
+ * takes both as fractions of 2^19: a * b with scale s, 0 to 3, is floor((ab * 2^s + 2^18) / 2^19), so that 2^s is 1, 2, 4
+ * or 8. An integer product, a ** b here, is floor(ab * 2^s / 4): 1/4, 1/2, 1 or 2. Each is reduced to 20 bits. Of M0 and
+ * M1 the high 20 bits count, floor(M / 1024), so that M = 2^29 - 1 is nearly 1. The scale of a product with M1, the first
+ * multiplication, is BB; that of a product with M0, the second, is AA, and so is that of A*B, A*((B+1)/2) and B*L0, where
+ * (B+1)/2 is floor((B + 2^19) / 2).
+ *   00000 inactive                S := 0
+ *   00010 noise                   S := L0 + L1**M0;  L1 := S
+ *   00011 triggered noise         S := L0 + L1**M0;  if B**M1 is not 0, L1 := S
+ *   00100 latch                   S := L1;  if B*M1 is not 0, L1 := A
+ *   00110 threshold               S := B*M1 if A*M0 + L0 is not negative, else 0
+ *   00111 invoke delay unit       S := L0 + L1*M0;  L0 := DM;  L1 := A + DM*M1, which goes to the unit (below)
+ *   01000 two poles               S := L1*M1 + L0*M0 + A;  L0 := L1;  L1 := S
+ *   01001 .. with M0 variable     the same, then M0 := M0 + B (B's sign extended to 30 bits)
+ *   01011 .. with M1 variable     the same, then M1 := M1 + B
+ *   01100 two zeros               S := L1*M1 + L0*M0 + A;  L0 := L1;  L1 := A
+ *   01101 .. with M0 variable     the same, then M0 := M0 + B
+ *   01111 .. with M1 variable     the same, then M1 := M1 + B
+ *   10000 integer mixing          S := A**M0 + B**M1
+ *   10001 one pole                S := L1*M1 + B*L0;  L1 := S
+ *   10100 mixing                  S := A*M0 + B*M1
+ *   10110 one zero                S := L1*M1 + L0*M0;  L0 := L1;  L1 := A
+ *   11000 four-quadrant product   S := L1*M1;  L1 := A*B
+ *   11001 amplitude modulation    S := L1*M1;  L1 := A*((B+1)/2)
+ *   11010 maximum, 11011 minimum  S := the larger, the smaller of A*M0 and B*M1
+ *   11100 signum                  S := -1, 0 or 1 where A*M0 is less than, equal to or more than B*M1
+ *   11101 pulser                  with t = B*M0 and u = L1*M1:  S := -1 (all bits 1) if u is not 0 and either t is 0 or t
+ *                                 and u have different signs, else 0;  L1 := t
+ * Other functions are not built. Modifiers are taken by number after the generators. In modifier-this a modifier m sees
+ * the writes of modifiers up to m-4, but its A in latch, invoke delay unit, one zero, the two-pole and the two-zero
+ * functions those up to m-1 (karvelorn_chain finds numbers for that).
+ *
+ * Delay units. In 00111 a modifier gets the word DM from its unit, and its new L1 goes to the unit. A unit acts as
+ * inactive in mode 0000, from unit (T-6) div 4 on, and if T is below 10: it gives 0. Neither such a unit nor one that no
+ * modifier below T div 2 invokes changes. Any other gives the first of its three words, and the two behind it move up.
+ * Then, by its mode:
  *   1000         the word at X+Y of delay memory becomes the second word and the third is 0; the word from the modifier
  *                is put at X+Y, and Y steps by 1, from Z to 0. So a word comes back Z+3 passes later, if the unit has
  *                its turn in each of these passes, nothing else changes its words, and nothing else writes X+Y of delay
@@ -138,11 +227,27 @@
 #include <stddef.h>
 #include <stdint.h>
 
+/* The version of this header and its library, as text. */
+#define KARVELORN_VERSION "0.3.0"
+
+/* Lengths of runs: a machine, delay memory, the marks of a pass, and places enough for the commands of any bench file. */
 #define KARVELORN_WORDS 4344
-#define KARVELORN_UPDATE_TICKS 4343
 #define KARVELORN_MEMORY_WORDS 65536
 #define KARVELORN_MARKS 64
+#define KARVELORN_COMMANDS 3855
+
+/* How many there are. */
+#define KARVELORN_GENERATORS 256
 #define KARVELORN_MODIFIERS 128
+#define KARVELORN_DELAYS 32
+#define KARVELORN_DACS 16
+
+/* The nanoseconds of a tick: there are 1e9 / (KARVELORN_TICK_NS * N) passes a second. */
+#define KARVELORN_TICK_NS 195
+
+/* The texts that a machine or a file can follow, as karvelorn_read answers them. */
+#define KARVELORN_TEXT_1978 0
+#define KARVELORN_TEXT_OLD 1
 
 /* What karvelorn_keep makes: an array of so many words, and where the answer stands in it. */
 #define KARVELORN_KEPT 2327
@@ -155,6 +260,364 @@
 #define KARVELORN_CHANGE_DAC 3
 #define KARVELORN_TICK_MORE 4
 #define KARVELORN_TICK_FEWER 5
+
+/* Words of a machine that stand alone. */
+#define KARVELORN_DX 4112
+#define KARVELORN_T 4113
+#define KARVELORN_N 4114
+#define KARVELORN_COUNTER 4115
+#define KARVELORN_LINGERING 4116
+#define KARVELORN_LINGER_PASS 4117
+#define KARVELORN_OVERRUN 4118
+#define KARVELORN_UPDATE_TICKS 4343
+
+/* The registers of a generator, of a modifier and of a delay unit: which word of it each is. */
+#define KARVELORN_GO 0
+#define KARVELORN_GJ 1
+#define KARVELORN_GK 2
+#define KARVELORN_GN 3
+#define KARVELORN_GM 4
+#define KARVELORN_GP 5
+#define KARVELORN_GQ 6
+#define KARVELORN_GL 7
+#define KARVELORN_GSUM 8
+#define KARVELORN_GFM 9
+#define KARVELORN_GMODE 10
+
+#define KARVELORN_M0 0
+#define KARVELORN_M1 1
+#define KARVELORN_L0 2
+#define KARVELORN_L1 3
+#define KARVELORN_MIN 4
+#define KARVELORN_MRM 5
+#define KARVELORN_MSUM 6
+#define KARVELORN_MMODE 7
+
+#define KARVELORN_X 0
+#define KARVELORN_Y 1
+#define KARVELORN_Z 2
+#define KARVELORN_P 3
+#define KARVELORN_DUE_1 4
+#define KARVELORN_DUE_2 5
+#define KARVELORN_DUE_3 6
+
+/* The quadrants of sum memory, as karvelorn_sum has them. */
+#define KARVELORN_GENERATOR_THIS 0
+#define KARVELORN_GENERATOR_LAST 1
+#define KARVELORN_MODIFIER_THIS 2
+#define KARVELORN_MODIFIER_LAST 3
+
+/* Run modes, envelope modes and oscillator modes: the fields of GMODE. */
+#define KARVELORN_RUN_INACTIVE 0x0
+#define KARVELORN_RUN_PAUSE 0x1
+#define KARVELORN_RUN_DAC 0x2
+#define KARVELORN_RUN_WRITE 0x3
+#define KARVELORN_RUN_READ 0x7
+#define KARVELORN_RUN_WAIT 0x9
+#define KARVELORN_RUN_ONCE 0xD
+#define KARVELORN_RUN_FREE 0xE
+#define KARVELORN_RUN_STICKY 0xF
+
+#define KARVELORN_LINEAR_MINUS 0
+#define KARVELORN_LINEAR_PLUS 1
+#define KARVELORN_EXPONENTIAL_MINUS 2
+#define KARVELORN_EXPONENTIAL_PLUS 3
+
+#define KARVELORN_SINE 0x0
+#define KARVELORN_SAWTOOTH 0x1
+#define KARVELORN_SQUARE 0x2
+#define KARVELORN_PULSE_TRAIN 0x3
+#define KARVELORN_SUM_OF_COSINES 0x4
+#define KARVELORN_SINE_OF_J 0x8
+
+/* The functions of a modifier: the first field of MMODE. */
+#define KARVELORN_INACTIVE 0x00
+#define KARVELORN_NOISE 0x02
+#define KARVELORN_TRIGGERED_NOISE 0x03
+#define KARVELORN_LATCH 0x04
+#define KARVELORN_THRESHOLD 0x06
+#define KARVELORN_INVOKE_DELAY 0x07
+#define KARVELORN_TWO_POLES 0x08
+#define KARVELORN_TWO_POLES_M0_VARIABLE 0x09
+#define KARVELORN_TWO_POLES_M1_VARIABLE 0x0B
+#define KARVELORN_TWO_ZEROS 0x0C
+#define KARVELORN_TWO_ZEROS_M0_VARIABLE 0x0D
+#define KARVELORN_TWO_ZEROS_M1_VARIABLE 0x0F
+#define KARVELORN_INTEGER_MIXING 0x10
+#define KARVELORN_ONE_POLE 0x11
+#define KARVELORN_MIXING 0x14
+#define KARVELORN_ONE_ZERO 0x16
+#define KARVELORN_FOUR_QUADRANT 0x18
+#define KARVELORN_AMPLITUDE_MODULATION 0x19
+#define KARVELORN_MAXIMUM 0x1A
+#define KARVELORN_MINIMUM 0x1B
+#define KARVELORN_SIGNUM 0x1C
+#define KARVELORN_PULSER 0x1D
+
+/* What MIN and MRM read from: the first field of them. GFM has the first two of these. */
+#define KARVELORN_FROM_GENERATOR_LAST 0
+#define KARVELORN_FROM_MODIFIER_LAST 1
+#define KARVELORN_FROM_MODIFIER_THIS 2
+
+/* Whether MSUM adds or replaces: the first field of it. */
+#define KARVELORN_ADDS 0
+#define KARVELORN_REPLACES 1
+
+/* The modes of a delay unit: P. */
+#define KARVELORN_DELAY_INACTIVE 0x0
+#define KARVELORN_DELAY_LINE 0x8
+#define KARVELORN_TABLE 0xA
+#define KARVELORN_TABLE_ROUNDED 0xB
+
+/* Places of a machine. The number of a generator, modifier, delay unit, word or DAC is one that there is. */
+static inline uint32_t karvelorn_generator(uint32_t generator, uint32_t reg) { return 11 * generator + reg; }
+
+static inline uint32_t karvelorn_modifier(uint32_t modifier, uint32_t reg) { return 2816 + 8 * modifier + reg; }
+
+static inline uint32_t karvelorn_sum(uint32_t quadrant, uint32_t word) { return 3840 + 64 * quadrant + word; }
+
+static inline uint32_t karvelorn_dac(uint32_t dac) { return 4096 + dac; }
+
+static inline uint32_t karvelorn_delay(uint32_t unit, uint32_t reg) { return 4119 + 7 * unit + reg; }
+
+/* The low bits of a number, as a word of that width keeps it, and the signed number of such a word; 1 to 31 bits. */
+static inline uint32_t karvelorn_word(int32_t value, uint32_t bits) {
+    return (uint32_t)value & ((UINT32_C(1) << bits) - 1);
+}
+
+static inline int32_t karvelorn_signed(uint32_t word, uint32_t bits) {
+    const uint32_t sign = UINT32_C(1) << (bits - 1);
+    return (int32_t)((word & (2 * sign - 1)) ^ sign) - (int32_t)sign;
+}
+
+/* What a DAC word plays: -524288 to 524287. */
+static inline int32_t karvelorn_sample(uint32_t word) { return karvelorn_signed(word, 20); }
+
+/* The update ticks of T and N: N-T-8, or 0 if that is negative. T and N may be any words. */
+static inline uint32_t karvelorn_update_ticks(uint32_t t, uint32_t n) { return n < t || n - t < 8 ? 0 : n - t - 8; }
+
+/* Words made of their fields. */
+static inline uint32_t karvelorn_gmode(uint32_t run, uint32_t envelope, uint32_t oscillator) {
+    return (run & 15) << 6 | (envelope & 3) << 4 | (oscillator & 15);
+}
+
+static inline uint32_t karvelorn_gfm(uint32_t from, uint32_t word) { return (from & 1) << 6 | (word & 63); }
+
+static inline uint32_t karvelorn_mmode(uint32_t function, uint32_t aa, uint32_t bb) {
+    return (function & 31) << 4 | (aa & 3) << 2 | (bb & 3);
+}
+
+static inline uint32_t karvelorn_address(uint32_t from, uint32_t word) { return (from & 3) << 6 | (word & 63); }
+
+static inline uint32_t karvelorn_msum(uint32_t replaces, uint32_t word) { return (replaces & 1) << 6 | (word & 63); }
+
+/* Commands, for karvelorn_update and for bench files, by their fields (karvelorn_update lists these). Of each value the
+ * bits of its field count. A load without more in its name is right-adjusted: the register gets a signed value of 20
+ * bits. One that ends in _left gives the register's high 20 bits; its low bits come from DX's left, and DX is cleared. */
+static inline uint32_t karvelorn_command(uint32_t data, uint32_t code) { return data << 12 | code; }
+
+static inline uint32_t karvelorn_load_dx(uint32_t value) { return karvelorn_command(value, 0x020); }
+
+static inline uint32_t karvelorn_clear_waits(void) { return 0x004; }
+
+static inline uint32_t karvelorn_clear_pauses(void) { return 0x002; }
+
+static inline uint32_t karvelorn_load_x(uint32_t unit, uint32_t x) { return x << 16 | 0x080 | (unit & 31); }
+
+static inline uint32_t karvelorn_load_y(uint32_t unit, uint32_t y) { return ~y << 16 | 0x0A0 | (unit & 31); }
+
+static inline uint32_t karvelorn_load_zp(uint32_t unit, uint32_t z, uint32_t p) {
+    return z << 16 | (p & 15) << 12 | 0x0C0 | (unit & 31);
+}
+
+static inline uint32_t karvelorn_set_counter(uint32_t pass) { return karvelorn_command(pass, 0x108); }
+
+static inline uint32_t karvelorn_linger(uint32_t pass) { return karvelorn_command(pass, 0x110); }
+
+static inline uint32_t karvelorn_clear_and_linger(uint32_t pass) { return karvelorn_command(pass, 0x118); }
+
+static inline uint32_t karvelorn_set_t(uint32_t t) { return karvelorn_command((t - 1) & 1023, 0x180); }
+
+static inline uint32_t karvelorn_set_n(uint32_t n) { return karvelorn_command((n - 2) & 1023, 0x188); }
+
+static inline uint32_t karvelorn_load_gq(uint32_t generator, int32_t value) {
+    return karvelorn_command((uint32_t)value, 0x200 | (generator & 255));
+}
+
+static inline uint32_t karvelorn_load_gq_left(uint32_t generator, uint32_t high) {
+    return karvelorn_command(high, 0x300 | (generator & 255));
+}
+
+static inline uint32_t karvelorn_load_gj(uint32_t generator, int32_t value) {
+    return karvelorn_command((uint32_t)value, 0x400 | (generator & 255));
+}
+
+static inline uint32_t karvelorn_load_gj_left(uint32_t generator, int32_t high) {
+    return karvelorn_command((uint32_t)high, 0x500 | (generator & 255));
+}
+
+static inline uint32_t karvelorn_load_gp(uint32_t generator, int32_t value) {
+    return karvelorn_command((uint32_t)value, 0x600 | (generator & 255));
+}
+
+static inline uint32_t karvelorn_load_gn_gm(uint32_t generator, uint32_t gn, uint32_t gm) {
+    return (gn & 2047) << 16 | (gm & 15) << 12 | 0x700 | (generator & 255);
+}
+
+static inline uint32_t karvelorn_load_gn(uint32_t generator, uint32_t gn) {
+    return UINT32_C(1) << 30 | karvelorn_load_gn_gm(generator, gn, 0);
+}
+
+static inline uint32_t karvelorn_load_gm(uint32_t generator, uint32_t gm) {
+    return UINT32_C(2) << 30 | karvelorn_load_gn_gm(generator, 0, gm);
+}
+
+static inline uint32_t karvelorn_load_gl_gsum(uint32_t generator, uint32_t gl, uint32_t gsum) {
+    return (gl & 4095) << 18 | (gsum & 63) << 12 | 0x800 | (generator & 255);
+}
+
+static inline uint32_t karvelorn_load_gl(uint32_t generator, uint32_t gl) {
+    return UINT32_C(1) << 30 | karvelorn_load_gl_gsum(generator, gl, 0);
+}
+
+static inline uint32_t karvelorn_load_gsum(uint32_t generator, uint32_t gsum) {
+    return UINT32_C(2) << 30 | karvelorn_load_gl_gsum(generator, 0, gsum);
+}
+
+static inline uint32_t karvelorn_load_gk(uint32_t generator, int32_t value) {
+    return karvelorn_command((uint32_t)value, 0x900 | (generator & 255));
+}
+
+static inline uint32_t karvelorn_load_gmode_gfm(uint32_t generator, uint32_t gmode, uint32_t gfm) {
+    return (gmode & 1023) << 19 | (gfm & 127) << 12 | 0xA00 | (generator & 255);
+}
+
+static inline uint32_t karvelorn_load_gmode(uint32_t generator, uint32_t gmode) {
+    return UINT32_C(2) << 29 | karvelorn_load_gmode_gfm(generator, gmode, 0);
+}
+
+static inline uint32_t karvelorn_load_gfm(uint32_t generator, uint32_t gfm) {
+    return UINT32_C(4) << 29 | karvelorn_load_gmode_gfm(generator, 0, gfm);
+}
+
+static inline uint32_t karvelorn_clear_gk(uint32_t generator) {
+    return UINT32_C(7) << 29 | karvelorn_load_gmode_gfm(generator, 0, 0);
+}
+
+static inline uint32_t karvelorn_load_go(uint32_t generator, int32_t value) {
+    return karvelorn_command((uint32_t)value, 0xB00 | (generator & 255));
+}
+
+static inline uint32_t karvelorn_load_m0(uint32_t modifier, int32_t value) {
+    return karvelorn_command((uint32_t)value, 0xC00 | (modifier & 127));
+}
+
+static inline uint32_t karvelorn_load_m1(uint32_t modifier, int32_t value) {
+    return karvelorn_command((uint32_t)value, 0xC80 | (modifier & 127));
+}
+
+static inline uint32_t karvelorn_load_m0_left(uint32_t modifier, int32_t high) {
+    return karvelorn_command((uint32_t)high, 0xD00 | (modifier & 127));
+}
+
+static inline uint32_t karvelorn_load_m1_left(uint32_t modifier, int32_t high) {
+    return karvelorn_command((uint32_t)high, 0xD80 | (modifier & 127));
+}
+
+static inline uint32_t karvelorn_load_l0(uint32_t modifier, int32_t value) {
+    return karvelorn_command((uint32_t)value, 0xE00 | (modifier & 127));
+}
+
+static inline uint32_t karvelorn_load_l1(uint32_t modifier, int32_t value) {
+    return karvelorn_command((uint32_t)value, 0xE80 | (modifier & 127));
+}
+
+static inline uint32_t karvelorn_load_mmode_msum(uint32_t modifier, uint32_t mmode, uint32_t msum) {
+    return (mmode & 511) << 19 | (msum & 127) << 12 | 0xF00 | (modifier & 127);
+}
+
+static inline uint32_t karvelorn_load_mmode(uint32_t modifier, uint32_t mmode) {
+    return UINT32_C(4) << 28 | karvelorn_load_mmode_msum(modifier, mmode, 0);
+}
+
+static inline uint32_t karvelorn_load_function(uint32_t modifier, uint32_t function) {
+    return UINT32_C(5) << 28 | karvelorn_load_mmode_msum(modifier, karvelorn_mmode(function, 0, 0), 0);
+}
+
+static inline uint32_t karvelorn_load_scales(uint32_t modifier, uint32_t aa, uint32_t bb) {
+    return UINT32_C(12) << 28 | karvelorn_load_mmode_msum(modifier, karvelorn_mmode(0, aa, bb), 0);
+}
+
+static inline uint32_t karvelorn_load_msum(uint32_t modifier, uint32_t msum) {
+    return UINT32_C(9) << 28 | karvelorn_load_mmode_msum(modifier, 0, msum);
+}
+
+static inline uint32_t karvelorn_clear_l0(uint32_t modifier) {
+    return UINT32_C(15) << 28 | karvelorn_load_mmode_msum(modifier, 0, 0);
+}
+
+static inline uint32_t karvelorn_load_mrm_min(uint32_t modifier, uint32_t mrm, uint32_t min) {
+    return (mrm & 255) << 20 | (min & 255) << 12 | 0xF80 | (modifier & 127);
+}
+
+static inline uint32_t karvelorn_load_mrm(uint32_t modifier, uint32_t mrm) {
+    return UINT32_C(1) << 30 | karvelorn_load_mrm_min(modifier, mrm, 0);
+}
+
+static inline uint32_t karvelorn_load_min(uint32_t modifier, uint32_t min) {
+    return UINT32_C(2) << 30 | karvelorn_load_mrm_min(modifier, 0, min);
+}
+
+static inline uint32_t karvelorn_clear_l1(uint32_t modifier) {
+    return UINT32_C(7) << 29 | karvelorn_load_mrm_min(modifier, 0, 0);
+}
+
+/* The two commands that load all bits of a register of more than 20: the low ones go to DX first. */
+static inline void karvelorn_load_whole_gj(uint32_t commands[2], uint32_t generator, int32_t gj) {
+    commands[0] = karvelorn_load_dx((uint32_t)gj << 12);
+    commands[1] = karvelorn_load_gj_left(generator, (int32_t)((uint32_t)gj >> 8));
+}
+
+static inline void karvelorn_load_whole_gq(uint32_t commands[2], uint32_t generator, uint32_t gq) {
+    commands[0] = karvelorn_load_dx(gq << 16);
+    commands[1] = karvelorn_load_gq_left(generator, gq >> 4);
+}
+
+static inline void karvelorn_load_whole_m0(uint32_t commands[2], uint32_t modifier, int32_t m0) {
+    commands[0] = karvelorn_load_dx((uint32_t)m0 << 10);
+    commands[1] = karvelorn_load_m0_left(modifier, (int32_t)((uint32_t)m0 >> 10));
+}
+
+static inline void karvelorn_load_whole_m1(uint32_t commands[2], uint32_t modifier, int32_t m1) {
+    commands[0] = karvelorn_load_dx((uint32_t)m1 << 10);
+    commands[1] = karvelorn_load_m1_left(modifier, (int32_t)((uint32_t)m1 >> 10));
+}
+
+/* A question as text, by the number that a call answers. */
+static inline const char *karvelorn_question(uint32_t number) {
+    switch (number) {
+    case 0: return "No question refused.";
+    case 1: return "Has the machine 4344 words?";
+    case 2: return "Are all words within their width and range, with built modes, and the update ticks those of T and N?";
+    case 3: return "Is the command built, its modes and addresses too?";
+    case 4: return "Is the number of a TICKS with Q 0 at most 255?";
+    case 5: return "Has the order T entries?";
+    case 6: return "Is each number below T in the order once?";
+    case 7: return "Are there read items for all generators below T that read data?";
+    case 8: return "Are there places for all that is written?";
+    case 9: return "Is the text a bench file?";
+    case 10: return "Has delay memory 65536 words, none above 20 bits?";
+    case 11: return "Has each delay line that runs X+Z at most 65535 and Y at most Z?";
+    case 12: return "Do the modifiers that invoke delay units name different ones?";
+    case 13: return "Is the text that the file names known?";
+    case 14: return "Do the entries of the chain have their form, and name only entries before them?";
+    case 15: return "Are the earliest numbers for the chain at most 127?";
+    case 16: return "Is the sum of both machines' T at most 256?";
+    case 17: return "Do both machines sound by generators alone, and can the second follow the first?";
+    case 18: return "Is there no sum word and no DAC that both machines use?";
+    default: return "No question has this number.";
+    }
+}
 
 #ifdef __cplusplus
 extern "C" {
@@ -404,6 +867,27 @@ uint32_t karvelorn_old_parts(const uint32_t *machine, size_t words, const uint32
  */
 uint32_t karvelorn_chain(const uint32_t *entries, size_t entries_len, const uint32_t *names, size_t names_len,
                          uint32_t numbers[KARVELORN_MODIFIERS]);
+
+/* Reads a bench file: the machine that it begins with, its commands, how many passes it is to be rung, and which text it
+ * follows. README has the form of a bench file. A host then rings it as the program ring does: so many passes by number
+ * (karvelorn_pass, or karvelorn_old_pass for KARVELORN_TEXT_OLD) over a delay memory that is zero at first, each followed
+ * by karvelorn_update with the commands still left, but by none for KARVELORN_TEXT_OLD.
+ *
+ *   file, bytes             the file's bytes, and how many they are
+ *   machine, words          a run for a machine, and its length: KARVELORN_WORDS. It gets a fresh machine with the words of
+ *                           the file and the update ticks of its T and N; what it held is not looked at. Its words are
+ *                           not judged here: question 2 of the first pass does that
+ *   commands, commands_len  places for the file's commands, which it gets from the first on; places past them stay.
+ *                           KARVELORN_COMMANDS are enough for every file
+ *   text                    gets KARVELORN_TEXT_1978 or KARVELORN_TEXT_OLD
+ *   passes                  gets the file's passes, 0 to 65535
+ *   count                   gets how many commands it has
+ *
+ * Answers 0, 9, 13, 1 or 8, asked in this sequence: is it a bench file, is its text known, has the run for the machine its
+ * length, are there places for all its commands? In a refusal both runs stay as they were and text, passes and count are 0.
+ */
+uint32_t karvelorn_read(const uint8_t *file, size_t bytes, uint32_t *machine, size_t words, uint32_t *commands,
+                        size_t commands_len, uint32_t *text, uint32_t *passes, size_t *count);
 
 #ifdef __cplusplus
 }

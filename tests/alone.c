@@ -13,7 +13,7 @@ void _start(void)
     static uint32_t contents[KARVELORN_WORDS], point, place;
     static size_t count;
     static uint8_t clipped[64];
-    static uint32_t numbers[KARVELORN_MODIFIERS];
+    static uint32_t numbers[KARVELORN_MODIFIERS], kept[KARVELORN_KEPT];
     karvelorn_fresh(machine, KARVELORN_WORDS);
     karvelorn_pass(machine, KARVELORN_WORDS, &word, 1, 0, 0, 0, 0, memory, KARVELORN_MEMORY_WORDS, &count, &count,
                    clipped);
@@ -22,4 +22,12 @@ void _start(void)
     karvelorn_any_order(machine, KARVELORN_WORDS, &word);
     karvelorn_parts(machine, KARVELORN_WORDS, &word, 1, &word, 1, contents, KARVELORN_WORDS, 0, 0, &point, &place);
     karvelorn_chain(0, 0, 0, 0, numbers);
+    karvelorn_join(machine, KARVELORN_WORDS, contents, KARVELORN_WORDS);
+    karvelorn_keep(machine, KARVELORN_WORDS, kept);
+    karvelorn_change(machine, KARVELORN_WORDS, kept, KARVELORN_TICK_MORE, 0, 0);
+    karvelorn_old_pass(machine, KARVELORN_WORDS, &word, 1, 0, 0, 0, 0, memory, KARVELORN_MEMORY_WORDS, &count, &count,
+                       clipped);
+    karvelorn_old_compare(machine, KARVELORN_WORDS, &word, 1, &word, 1, &word);
+    karvelorn_old_parts(machine, KARVELORN_WORDS, &word, 1, &word, 1, contents, KARVELORN_WORDS, 0, 0, &point, &place);
+    karvelorn_read(clipped, 64, machine, KARVELORN_WORDS, 0, 0, &point, &place, &count);
 }

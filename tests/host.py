@@ -5,8 +5,9 @@
 Run from the repository root. Builds examples/ring_host.c with include/karvelorn.h and
 target/staticlib/libkarvelorn.a, with the address and undefined-behaviour sanitizers on and
 tests/host_guard.c before each call, and rings the files of tests/ring_files.py, COUNT of
-them at random: the host must print what target/bin/ring does, which tests/ring.py compares
-with the reference on these very files, and the sanitizers nothing. Fails too where the files
+them at random, and those of tests/text_files.py that are made by hand: the host must print
+what target/bin/ring does, which tests/ring.py compares with the reference on these very
+files, and the sanitizers nothing. Fails too where the files
 met something too seldom. With --dry nothing is built or run, and the reference answers.
 """
 
@@ -17,6 +18,7 @@ import sys
 from itertools import chain
 
 import ring_files
+import text_files
 from library import LIBRARY, ROOT, library_is_new, read_arguments
 from ringing import PROMISED, compared, printed_by
 
@@ -26,7 +28,7 @@ HEADER = os.path.join(INCLUDE, "karvelorn.h")
 SOURCE = os.path.join(ROOT, "examples", "ring_host.c")
 GUARD = os.path.join(ROOT, "tests", "host_guard.c")
 ALONE = os.path.join(ROOT, "tests", "alone.c")
-GUARDED = tuple("-Wl,--wrap=karvelorn_" + call for call in ("fresh", "pass", "update"))
+GUARDED = tuple("-Wl,--wrap=karvelorn_" + call for call in ("fresh", "pass", "old_pass", "update", "read"))
 HOST = os.path.join(ROOT, "target", "ring_host")
 RING = os.path.join(ROOT, "target", "bin", "ring")
 # What is promised of the printed lines and the commands; what delay units met is seen in the reference's passes alone.
@@ -74,7 +76,7 @@ def main(arguments):
         return 1
     if not options.dry:
         ring_files.ring = lambda text, seen: printed_by(RING, text, {})[0]
-    files = chain(ring_files.by_hand(), ring_files.at_random(options.count, options.seed))
+    files = chain(ring_files.by_hand(), text_files.by_hand(), ring_files.at_random(options.count, options.seed))
     return compared("host", HOST, files, options, NO_LEAKS, TOLD)
 
 

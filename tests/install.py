@@ -1,5 +1,5 @@
 """`./install PREFIX` puts everything in place, also under a prefix with a space and behind DESTDIR, and takes it away again: the
-example host, built with what pkg-config says, rings as the program does; the installed command works without the repository; bad
+example host, built with what pkg-config says, and built with the static library, rings as the program does; the installed command works without the repository; bad
 calls end with a sentence and a status, and leave nothing.
 
     /usr/bin/python3 tests/install.py      (what isn't built is built)
@@ -30,10 +30,22 @@ def host(folder, prefix):
     flags = shlex.split(run("pkg-config", "--cflags", "--libs", "karvelorn", env=here).out)
     assert f"-I{prefix}/include" in flags and f"-L{prefix}/lib" in flags and "-lkarvelorn" in flags, flags
     assert run("pkg-config", "--modversion", "karvelorn", env=here).out.strip() == VERSION and re.fullmatch(r"\d+\.\d+\.\d+", VERSION)
-    program = Path(folder, "ring_host")
-    made = run("gcc", "-std=c99", "-O2", "-Wall", "-Werror", "examples/ring_host.c", *flags, "-o", program)
-    assert made.status == 0, made.err
-    return run(program, input=BELL.read_bytes()).out
+    rung = []
+    for name, more in (("shared_host", ()), ("static_host", ("-static",))):
+        program = Path(folder, name)
+        made = run("gcc", "-std=c99", "-O2", "-Wall", "-Werror", *more, "examples/ring_host.c", *flags, "-o", program)
+        assert made.status == 0, made.err
+        assert (f"libkarvelorn.so.{VERSION.rpartition('.')[0]}" in run("readelf", "-d", program).out) == (not more)
+        rung.append(run(program, input=BELL.read_bytes()).out)
+    assert rung[0] == rung[1]
+    return rung[0]
+
+
+def links(prefix):
+    """The shared library by its three names."""
+    lib = prefix / "lib"
+    whole = lib / f"libkarvelorn.so.{VERSION}"
+    assert not whole.is_symlink() and (lib / "libkarvelorn.so").resolve() == (lib / f"libkarvelorn.so.{VERSION.rpartition('.')[0]}").resolve() == whole.resolve()
 
 
 def commands(folder, prefix):
@@ -75,6 +87,7 @@ def in_place(folder):
     for name in ("ring", "wav", "sorted"):
         assert (prefix / "libexec" / "karvelorn" / "programs" / name).read_bytes() == (ROOT / "target" / "bin" / name).read_bytes()
     before = files_below(prefix)
+    links(prefix)
     assert commands(folder, prefix) == host(folder, prefix)
     assert files_below(prefix) == before, "a command has left something under the prefix"
     completion = prefix / "share" / "bash-completion" / "completions" / "karvelorn"

@@ -27,6 +27,7 @@ REACHABLE = {
     ("chain", "chain"): "chainOf",
     ("join", "join"): "joinOf",
     ("bench_file", "read"): "readOf",
+    ("bench_read", "read"): "readInto",
     ("bench_gathering", "gather"): "gathered",
     ("bench_wave", "wave"): "waveOf",
     ("sorted_findings", "findings"): "findingsOf",
@@ -46,6 +47,7 @@ REACHABLE = {
     ("karvelorn", "karvelorn_old_compare"): "compareOf",
     ("karvelorn", "karvelorn_old_parts"): "partsOf",
     ("karvelorn", "karvelorn_chain"): "chainOf",
+    ("karvelorn", "karvelorn_read"): "readInto",
 }
 
 # Calls that read and write: what a program reads or writes has no contract in the language.

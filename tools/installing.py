@@ -1,5 +1,5 @@
 #!/usr/bin/env python3
-"""Puts the commands, the library for C, its header and its pkg-config file under a prefix, and takes them away again.
+"""Puts the commands, the library for C, static and shared, its header and its pkg-config file under a prefix, and takes them away again.
 
     ./install PREFIX                     ./install --uninstall PREFIX
 
@@ -16,11 +16,12 @@ from building import LIBRARY, LIBRARY_CRATE, PROGRAMS, built, made
 from command_line import HOME, Ending, Parser, Status, start, tell, version
 from outputs import temporary_beside
 import longer
+import sharing
 import versions
 
 OWN = "libexec/karvelorn"
 LIST = f"{OWN}/LIST"
-NOT_INSTALLED = ("installing.py", "selftest.py")
+NOT_INSTALLED = ("installing.py", "sharing.py", "selftest.py")
 PKG_CONFIG = """prefix={prefix}
 libdir=${{prefix}}/lib
 includedir=${{prefix}}/include
@@ -29,7 +30,7 @@ Name: karvelorn
 Description: The Systems Concepts Digital Synthesizer of 1978 in whole numbers, proved
 Version: {version}
 Cflags: -I${{includedir}}
-Libs: -L${{libdir}} -lkarvelorn
+Libs: -L${{libdir}} -Wl,-rpath,${{libdir}} -lkarvelorn
 """
 
 
@@ -39,7 +40,7 @@ def escaped(path):
 
 
 def contents(prefix):
-    """What is installed: path below the prefix, bytes, and whether it is executed."""
+    """What is installed: path below the prefix, bytes (of a symbolic link the name that it stands for), and whether it is executed."""
     yield "bin/karvelorn", (HOME / "karvelorn").read_bytes(), True
     for program in PROGRAMS:
         yield f"{OWN}/programs/{program}", made(program).read_bytes(), True
@@ -52,6 +53,11 @@ def contents(prefix):
             if path.name not in NOT_INSTALLED:
                 yield f"{OWN}/{folder}/{path.name}", path.read_bytes(), False
     yield "lib/libkarvelorn.a", LIBRARY.read_bytes(), False
+    shared = sharing.shared()
+    if shared.exists():
+        yield f"lib/{shared.name}", shared.read_bytes(), True
+        yield f"lib/{sharing.soname()}", shared.name, False
+        yield "lib/libkarvelorn.so", sharing.soname(), False
     yield "lib/pkgconfig/karvelorn.pc", PKG_CONFIG.format(prefix=escaped(prefix), version=version()).encode(), False
     yield "include/karvelorn.h", (HOME / "include" / "karvelorn.h").read_bytes(), False
     yield "share/bash-completion/completions/karvelorn", (HOME / "tools" / "completion.bash").read_bytes(), False
@@ -69,7 +75,12 @@ def make_folders(root, path):
 
 
 def put(path, data, executed):
-    """A file, whole."""
+    """A file, whole, or a symbolic link."""
+    if isinstance(data, str):
+        name = f"{path}.{os.getpid()}"
+        os.symlink(data, name)
+        os.replace(name, path)
+        return
     name = temporary_beside(path, data)
     os.chmod(name, 0o755 if executed else 0o644)
     os.replace(name, path)
@@ -122,8 +133,8 @@ def uninstall(root):
 
 def parser():
     """What may be asked."""
-    asked = Parser("install", "Puts the command karvelorn with its programs and tools, the library for C, its header, its pkg-config file and bash completion under a\n"
-                   "prefix, or takes them away again. Builds what is missing. DESTDIR, where it is set, is put before the prefix.",
+    asked = Parser("install", "Puts the command karvelorn with its programs and tools, the library for C, static and shared, its header, its pkg-config file and bash\n"
+                   "completion under a prefix, or takes them away again. Builds what is missing. DESTDIR, where it is set, is put before the prefix.",
                    "./install \"$HOME/.local\"\nDESTDIR=/tmp/package ./install /usr\n./install --uninstall \"$HOME/.local\"\n"
                    "gcc host.c $(PKG_CONFIG_PATH=PREFIX/lib/pkgconfig pkg-config --cflags --libs karvelorn)")
     asked.prog = "./install"
@@ -144,8 +155,9 @@ def main(arguments):
         built("install", *PROGRAMS, LIBRARY_CRATE)
         try:
             longer.host("install")
+            sharing.built_shared()
         except Ending as ending:
-            tell("install", f"without what rings on after a bench file's passes: {ending}")
+            tell("install", f"without what rings on after a bench file's passes and without the shared library: {ending}")
         tell("install", f"putting programs, tools, library and header under {root}")
     try:
         count = uninstall(root) if away else install(root, prefix)

@@ -24,8 +24,9 @@ use Rattle.machine.proofs.FreshMachine.{fresh-length}
 use Rattle.bench_lines.specs.Lines.{lineOf, linesOf, ended}
 use Rattle.bench_phases.specs.Phases.{isFit}
 use Rattle.bench_file.specs.BenchFile.{commandsOf, Reading, unread, withLine, withLines, fileOf, isBenchFile, isKnown, textOf, question9, question13, fileRefusal, Answer, readOf}
-use Rattle.bench_file.specs.Sweeps.{outline, withWords, allCommands}
+use Rattle.bench_file.specs.Sweeps.{outline, withWords, allCommands, contentsOf}
 use Rattle.bench_file.specs.declared.File.{File}
+use Rattle.bench_file.specs.declared.Contents.{Contents}
 
 -- The lines of a file set their words and their commands.
 lines-hold : (r : Reading) (ls : List (List ℕ)) → (withLines r ls .machine ≡ withWords (r .machine) ls) × (withLines r ls .commands ≡ r .commands ++ allCommands ls)
@@ -59,11 +60,11 @@ module _ (file : List ℕ) where
   unfolding fileRefusal
   unrefused e = both-yes (question9 file) (question13 file) [] (λ q. omega (arith, q)) (λ q. omega (arith, q)) e .0
 
--- Reading, by its tests.
-module _ (file m room : List ℕ) {e : Bool} (p : e ≡ ended file) where
-  pub read-unended : e ≡ false → record { number = 9; text = Of1978; passes = 0; count = 0; machine = m; room = room } ≡ readOf file m room
-  unfolding readOf fileRefusal asked isBenchFile
-  read-unended h = rw (sym p ∙ h)
+-- What a file says, by its tests.
+module _ (file : List ℕ) {e : Bool} (p : e ≡ ended file) where
+  pub unended : e ≡ false → record { number = 9; text = Of1978; passes = 0; count = 0 } ≡ contentsOf file
+  unfolding contentsOf fileRefusal asked isBenchFile
+  unended h = rw (sym p ∙ h)
 
   module _ (h : e ≡ true) {f : File} (q : f ≡ outline (fileOf file)) {n : ℕ}
       (s : n ≡ asked (record { number = 9; yes = isFit (f .phase) } ∷ record { number = 13; yes = isKnown (f .title) } ∷ [])) where
@@ -71,15 +72,44 @@ module _ (file m room : List ℕ) {e : Bool} (p : e ≡ ended file) where
     unfolding fileRefusal isBenchFile
     number-is = rw (s, q, sym p ∙ h)
 
-    pub read-refused : n ≢ 0 → record { number = n; text = Of1978; passes = 0; count = 0; machine = m; room = room } ≡ readOf file m room
-    unfolding readOf
-    read-refused g = rw (number-is, ne-eqb n 0 g)
+    pub refused : n ≢ 0 → record { number = n; text = Of1978; passes = 0; count = 0 } ≡ contentsOf file
+    unfolding contentsOf
+    refused g = rw (number-is, ne-eqb n 0 g)
 
-    module _ (g : n ≡ 0) where
-      pub read-fit : {text : Text} {m₁ m₂ m₃ room₁ : List ℕ} → m₁ ≡ freshMachine → m₂ ≡ withWords m₁ (linesOf file) → room₁ ≡ sets room 0 (allCommands (linesOf file))
-          → m₃ ≡ withUpdateTicks m₂ → text ≡ textOf (f .title) → record { number = 0; text = text; passes = f .passes; count = f .count; machine = m₃; room = room₁ } ≡ readOf file m room
-      unfolding readOf
-      read-fit a b d t x = rw (number-is, eq-eqb n 0 g, x, q, t, b, a, d, file-words file, file-commands file)
+    pub fit : n ≡ 0 → {text : Text} → text ≡ textOf (f .title) → record { number = 0; text = text; passes = f .passes; count = f .count } ≡ contentsOf file
+    unfolding contentsOf
+    fit g x = rw (number-is, eq-eqb n 0 g, x, q)
+
+-- Reading, by what the file says.
+module _ (file : List ℕ) {said : Contents} (p : said ≡ contentsOf file) where
+  pub said-number : said .number ≡ fileRefusal file
+  unfolding contentsOf
+  said-number = rw p (of-test (λ (c : Contents). c .number ≡ fileRefusal file) (eqb (fileRefusal file) 0) (λ e. sym (eqb-true (fileRefusal file) 0 e)) (λ e. refl))
+
+  -- What is said of a file that no question refuses.
+  pub said-good : said .number ≡ 0
+      → said ≡ record { number = 0; text = textOf (fileOf file .title); passes = fileOf file .passes; count = length (fileOf file .commands) }
+  unfolding contentsOf
+  said-good g = rw (p, eq-eqb (fileRefusal file) 0 (sym said-number ∙ g))
+
+  module _ (m room : List ℕ) where
+    pub read-refused : said .number ≢ 0
+        → record { number = said .number; text = said .text; passes = said .passes; count = said .count; machine = m; room = room } ≡ readOf file m room
+    unfolding contentsOf readOf
+    read-refused g = rw (p, ne-eqb (fileRefusal file) 0 (λ e. g (said-number ∙ e)))
+
+    pub read-loaded : said .number ≡ 0 → {m′ room′ : List ℕ} → m′ ≡ fileOf file .machine → room′ ≡ sets room 0 (fileOf file .commands)
+        → record { number = said .number; text = said .text; passes = said .passes; count = said .count; machine = m′; room = room′ } ≡ readOf file m room
+    unfolding readOf
+    read-loaded g a b = rw (said-good g, a, b, eq-eqb (fileRefusal file) 0 (sym said-number ∙ g))
+
+-- A file that no question refuses, loaded.
+module _ (file : List ℕ) where
+  pub loads : {m₁ m₂ m₃ : List ℕ} → m₁ ≡ freshMachine → m₂ ≡ withWords m₁ (linesOf file) → m₃ ≡ withUpdateTicks m₂ → m₃ ≡ fileOf file .machine
+  loads a b d = rw (d, b, a, file-words file)
+
+  pub loads-commands : (room : List ℕ) {room₁ : List ℕ} → room₁ ≡ sets room 0 (allCommands (linesOf file)) → room₁ ≡ sets room 0 (fileOf file .commands)
+  loads-commands room e = rw (e, file-commands file)
 
 -- A run of the machine's length is made a fresh machine.
 pub fresh-run : (m : List ℕ) → length m ≡ machineLength → freshRun m ≡ freshMachine

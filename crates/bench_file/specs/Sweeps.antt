@@ -1,14 +1,18 @@
 -- The bench file as the code sweeps it: once to judge its lines, and once to set what they say. Readers need only `readOf`, to which laws join these.
 -- Assumes nothing.
 use Prim.Native.Nat.{ℕ, _+_}
+use mathlib.Core.Bool.{cond}
 use mathlib.Core.List.{List, [], _∷_, _++_}
+use lib.Dec.{eqb}
 use lib.ListN.{length}
 use Rattle.layout.specs.Machine.{Machine, Commands}
+use Rattle.texts.specs.declared.Text.the-variants.{Of1978}
 use Rattle.bench_lines.specs.Lines.{lineOf}
 use Rattle.bench_lines.specs.declared.Line.{Line}
 use Rattle.bench_phases.specs.Phases.{phaseAfter}
-use Rattle.bench_file.specs.BenchFile.{withTitle, withPasses, withWord, commandsOf, Reading}
+use Rattle.bench_file.specs.BenchFile.{withTitle, withPasses, withWord, commandsOf, Reading, fileOf, textOf, fileRefusal}
 use Rattle.bench_file.specs.declared.File.{File}
+use Rattle.bench_file.specs.declared.Contents.{Contents}
 
 -- A file under way without what it sets: its title, its phase, its passes, and how many commands it has.
 abbrev pub outline : Reading → File
@@ -38,3 +42,12 @@ withWords m (l ∷ ls) = withWords (withWord m (lineOf l)) ls
 unfoldable pub allCommands : List (List ℕ) → Commands
 allCommands [] = []
 allCommands (l ∷ ls) = commandsOf (lineOf l) ++ allCommands ls
+
+-- What a file says, with nothing set.
+unfoldable pub contentsOf : List ℕ → Contents
+contentsOf file =
+    let reading = fileOf file in
+    let number = fileRefusal file in
+    cond (eqb number 0)
+    (record { number = 0; text = textOf (reading .title); passes = reading .passes; count = length (reading .commands) })
+    (record { number = number; text = Of1978; passes = 0; count = 0 })

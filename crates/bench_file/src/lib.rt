@@ -5,13 +5,14 @@ ghost use mathlib.Core.List.{[], _∷_};
 ghost use Prim.Native.Nat.{_+_, _<_};
 ghost use lib.ListN.{length, set};
 ghost use lib.Seq.{sets};
+ghost use Rattle.layout.specs.Layout.{machineLength};
 ghost use Rattle.layout.specs.Machine.{Reaches, withUpdateTicks};
 ghost use Rattle.texts.specs.declared.Text.the-variants.{Of1978};
 ghost use Rattle.questions.specs.Questions.{asked};
 ghost use Rattle.bench_lines.specs.Lines.{fileBytes, linesOf, ended};
 ghost use Rattle.bench_phases.specs.Phases.{isFit};
-ghost use Rattle.bench_file.specs.BenchFile.{withWord, commandsOf, fileOf, isKnown, textOf, readOf};
-ghost use Rattle.bench_file.specs.Sweeps.{outline, judgedLine, withWords, allCommands};
+ghost use Rattle.bench_file.specs.BenchFile.{withWord, commandsOf, fileOf, isKnown, textOf, fileRefusal, readOf};
+ghost use Rattle.bench_file.specs.Sweeps.{outline, judgedLine, withWords, allCommands, contentsOf};
 use bench_lines::Line;
 use bench_lines::Title;
 use bench_phases::Phase;
@@ -199,13 +200,9 @@ fn refused(number: u32) -> Contents
     }
 }
 
-// Reads a bench file: its words on a fresh machine with the update ticks that follow, its commands from the room's first place on. A refused file changes nothing.
-pub fn read(
-    file: &[u8],
-    m: &mut [u32; layout::MACHINE_LENGTH],
-    room: &mut [u32; COMMAND_PLACES],
-) -> Contents
-    ensures { λ r. ⌜ record { number = r .number; text = r .text; passes = r .passes; count = r .count; machine = now (m .exit); room = now (room .exit) } ≡ readOf (now (file .entry)) (now (m .entry)) (now (room .entry)) ⌝ }
+// What a file says; nothing is set.
+pub fn judge_file(file: &[u8]) -> Contents
+    ensures { λ r. ⌜ r ≡ contentsOf (now (file .entry)) ⌝ }
 {
     if !bench_lines::ended(file) {
         return refused(9);
@@ -217,9 +214,6 @@ pub fn read(
     if number != 0 {
         return refused(number);
     }
-    machine::fresh(m);
-    load(file, m, room);
-    count_update_ticks(m);
     let text = text_of(title);
     Contents {
         number: 0,
@@ -227,4 +221,32 @@ pub fn read(
         passes: reading.passes,
         count: reading.count,
     }
+}
+
+// Sets what a file says that no question refuses: its words on a fresh machine with the update ticks that follow, its commands from the room's first place on.
+pub fn load_file(file: &[u8], m: &mut [u32], room: &mut [u32])
+    requires { ⌜ fileRefusal (now file) ≡ 0 ⌝ }
+    requires { ⌜ length (now m) ≡ machineLength ⌝ }
+    ensures { λ _. ⌜ now (m .exit) ≡ fileOf (now (file .entry)) .machine ⌝ }
+    ensures { λ _. ⌜ now (room .exit) ≡ sets (now (room .entry)) 0 (fileOf (now (file .entry)) .commands) ⌝ }
+{
+    machine::fresh(m);
+    load(file, m, room);
+    count_update_ticks(m);
+}
+
+// Reads a bench file. A refused file changes nothing.
+pub fn read(
+    file: &[u8],
+    m: &mut [u32; layout::MACHINE_LENGTH],
+    room: &mut [u32; COMMAND_PLACES],
+) -> Contents
+    ensures { λ r. ⌜ record { number = r .number; text = r .text; passes = r .passes; count = r .count; machine = now (m .exit); room = now (room .exit) } ≡ readOf (now (file .entry)) (now (m .entry)) (now (room .entry)) ⌝ }
+{
+    let said = judge_file(file);
+    if said.number != 0 {
+        return said;
+    }
+    load_file(file, m, room);
+    said
 }

@@ -12,6 +12,7 @@ ghost use Rattle.parts.specs.Parts.{partsOf};
 ghost use Rattle.join_model.specs.Join.{joinOf};
 ghost use Rattle.texts.specs.declared.Text.the-variants.{Of1978, Old};
 ghost use Rattle.chain.specs.Chain.{chainOf};
+ghost use Rattle.bench_read.specs.Read.{readInto};
 use chain_numbers::Numbers;
 use order_sums::Kept;
 use sums::Clipped;
@@ -260,4 +261,23 @@ pub extern "C" fn karvelorn_join(m: &mut [u32], second: &[u32]) -> u32
     ensures { λ r. ⌜ record { number = r; machine = now (m .exit) } ≡ joinOf (now (m .entry)) (now (second .entry)) ⌝ }
 {
     join::join(m, second)
+}
+
+// Reads a bench file. The answer is the number of the refusing question or 0; text gets the number of the file's text, passes how many passes it has, count how many commands.
+#[no_mangle]
+pub extern "C" fn karvelorn_read(
+    file: &[u8],
+    m: &mut [u32],
+    commands: &mut [u32],
+    text: &mut u32,
+    passes: &mut u32,
+    count: &mut usize,
+) -> u32
+    ensures { λ r. ⌜ record { number = r; text = now (text .exit); passes = now (passes .exit); count = now (count .exit); machine = now (m .exit); commands = now (commands .exit) } ≡ readInto (now (file .entry)) (now (m .entry)) (now (commands .entry)) ⌝ }
+{
+    let answer = bench_read::read(file, m, commands);
+    *text = answer.text;
+    *passes = answer.passes;
+    *count = answer.count;
+    answer.number
 }
