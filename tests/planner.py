@@ -78,9 +78,8 @@ def chains(folder, sizes):
     for number in range(sizes["chains"]):
         chain = chain_requests.drawn_chain(draw, *chain_requests.sizes(draw, number)) or [("late", [])]
         if number % 6 == 1:
-            chain = [("early", [i - 1] if i else []) for i in range(draw.randint(31, 35))]
-            chain.insert(draw.randrange(1, 30), ("late", [0]))
-            chain = [(read, [place for place in places if place < i]) for i, (read, places) in enumerate(chain)]
+            late = draw.randrange(40)
+            chain = [("late" if i == late else "early", [i - 1] if i else []) for i in range(draw.randint(31, 37))]
         wrong = None
         if number % 3 == 2:
             at = draw.randrange(len(chain))
