@@ -24,6 +24,7 @@ import chain_requests
 import hosts
 import join_requests
 import joining
+import longer
 import numbered
 import partials
 import ring_files
@@ -46,16 +47,21 @@ BELL, REPORT, TABLE = (ROOT / "examples" / f"bell.{ending}" for ending in ("txt"
 
 
 @contextlib.contextmanager
-def built_already():
+def built_already(*others):
     """The programs as they are, without a look at each crate's files for every call."""
     asked = {name: hosts.host("planner", name) for name in hosts.HOSTS}
-    kept = as_rung.built, numbered.built, joining.built, hosts.host, hosts.at_hand
-    as_rung.built = numbered.built = joining.built = lambda command, *programs: [str(PROGRAMS / program) for program in programs]
+    asking = (as_rung, numbered, joining, *others)
+    kept, kept_host, kept_at_hand = [module.built for module in asking], hosts.host, hosts.at_hand
+    for module in asking:
+        module.built = lambda command, *programs: [str(PROGRAMS / program) for program in programs]
     hosts.host, hosts.at_hand = (lambda command, name: asked[name]), lambda name: True
+    longer.host = hosts.host
     try:
         yield
     finally:
-        as_rung.built, numbered.built, joining.built, hosts.host, hosts.at_hand = kept
+        for module, was in zip(asking, kept):
+            module.built = was
+        hosts.host, hosts.at_hand, longer.host = kept_host, kept_at_hand, kept_host
 
 
 # number
@@ -439,20 +445,24 @@ def worked():
 GROUPS = (chains, chain_texts, into, into_bell, pairs, examples, own_words, calls)
 
 
+def tried(groups, asked, sizes):
+    """Runs the groups that are asked for, all where none is; answers how many cases that were."""
+    tried_ = 0
+    for group in groups:
+        if asked and group.__name__ not in asked:
+            continue
+        start = worked()
+        with tempfile.TemporaryDirectory() as folder:
+            count = group(folder, sizes)
+        tried_ += count
+        print(f"{group.__name__}: {count} cases, {worked() - start:.1f} s")
+    return tried_
+
+
 def main(arguments):
-    sizes = FULL if "--full" in arguments else GATE
-    asked = [name for name in arguments if name != "--full"]
-    tried, began = 0, worked()
     with built_already():
-        for group in GROUPS:
-            if asked and group.__name__ not in asked:
-                continue
-            start = worked()
-            with tempfile.TemporaryDirectory() as folder:
-                count = group(folder, sizes)
-            tried += count
-            print(f"{group.__name__}: {count} cases, {worked() - start:.1f} s")
-    print(f"planner: {tried} cases of number, join and partials on words of its own, {worked() - began:.1f} s")
+        count = tried(GROUPS, [name for name in arguments if name != "--full"], FULL if "--full" in arguments else GATE)
+    print(f"planner: {count} cases of number, join and partials on words of its own, {worked():.1f} s")
 
 
 if __name__ == "__main__":
