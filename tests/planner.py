@@ -272,7 +272,7 @@ def pairs(folder, sizes):
         else:
             written = bench_files.read("both", (at / "both.txt").read_bytes())
             assert done.status in (0, Status.UNLIKE) and written.machine == joined and written.passes == max(passes), (name, done)
-            met["heard otherwise"] += done.status
+            met["heard otherwise"] += bool(done.status)
         if question in (0, 18):
             apart(at, done, first, second, question, met)
     assert all(met[question] for question in (0, 17, 18)) and met["apart"] and met["causes"] >= met[17] + met[18], met
@@ -357,7 +357,28 @@ def examples(folder, sizes):
     (at / "fast.txt").write_text((at / "short.txt").read_text().replace("word=4114:1025", "word=4114:18"))
     done = call("join", joining, at / "fast.txt", at / "high.txt", "-o", at / "both.txt")
     assert "! N = 18 is less than T + 8 = 19: the machine of 1978 needs so many ticks for a pass" in done.out, done
-    return 5
+    return 5 + refused_pairs(at)
+
+
+def refused_pairs(at):
+    """Pairs that are refused by 16 and 17: each cause in words."""
+    low, high = (at / "low.txt").read_text(), (at / "high.txt").read_text()
+    t, u = (int(re.search(r"^word=4113:(\d+)$", text, flags=re.M)[1]) for text in (low, high))
+    cases = ((low.replace(f"word=4113:{t}", "word=4113:254"), high, 16, f"has T = 254 and {at / 'b.txt'} T = {u}: {254 + u} together"),
+             (low.replace("word=10:1008", "word=10:496"), high, 17, f"{at / 'a.txt'}: generator 0 reads data (0111)"),
+             (low, high.replace("word=21:1008", "word=21:240"), 17, f"{at / 'b.txt'}: generator 1 writes data (0011)"),
+             (low, high.replace("word=9:62", "word=9:126"), 17, f"{at / 'b.txt'}: GFM of generator 0 names modifier-last sum word 62"),
+             (low, high.replace("word=4113:", f"word={2816 + 8 * 100 + 7}:320\nword=4113:"), 17, f"{at / 'b.txt'}: modifier 100 is active (mixing)"),
+             (low, high.replace("word=10:1008", "word=10:624"), 17, f"{at / 'b.txt'}: generator 0 waits (1001): the first bell's last generator would stand below it and could set it off"),
+             (low, high.replace("word=10:1008", "word=10:880"), 17, f"{at / 'b.txt'}: generator 0 runs to its envelope's end, triggers there and waits (1101)"))
+    for first, second, number, sentence in cases:
+        (at / "a.txt").write_text(first)
+        (at / "b.txt").write_text(second)
+        refused(call("join", joining, at / "a.txt", at / "b.txt", "-o", at / "x.txt"), Status.REFUSED, f"question {number}: ", sentence)
+    (at / "a.txt").write_text(low.replace("word=10:1008", "word=10:624"))  # of the first bell a waiting generator 0 is no matter
+    (at / "b.txt").write_text(high)
+    ends(call("join", joining, at / "a.txt", at / "b.txt", "-o", at / "x.txt"), 0)
+    return len(cases) + 1
 
 
 def own_words(folder, sizes):
