@@ -30,6 +30,7 @@ import partials
 import ring_files
 import sameness
 import shown
+from command_line import Ending
 from command_words import names_modifier
 from reference import layout
 from reference.cases.chains import runs_of
@@ -37,7 +38,7 @@ from reference.chain import chain_refusal, earliest, listed
 from reference.join import dacs_used, join, words_used
 from reference.machine import fresh_machine, run_pass, zero_memory
 from reference.ring import ring
-from texts import Chance
+from texts import OLD_TEXT, Chance
 
 SEED = 1978
 GATE, FULL = {"chains": 90, "into": 45, "pairs": 30, "bells": 6}, {"chains": 1000, "into": 300, "pairs": 300, "bells": 30}
@@ -186,6 +187,38 @@ def into(folder, sizes):
     assert met["reads seen"] > 10 * sizes["into"], met
     print(f"  number --into: {sizes['into']} files: {dict(met)}")
     return sizes["into"]
+
+
+def anything(folder, sizes):
+    """Random good machines of both texts with any chain of their modifiers: refused, or the modifiers moved and nothing else; and what is said of the ringing is so."""
+    at, met, draw = Path(folder), Counter(), random.Random(SEED)
+    sources = (Chance(SEED), b""), (Chance(SEED, OLD_TEXT), b"text=old\n")
+    for number in range(sizes["into"]):
+        chance, line = sources[number % 3 == 2]
+        data = line + ring_files.drawn_bench(chance, not line)
+        try:
+            file = bench_files.read("bell", data)
+        except Ending:
+            continue
+        (at / "bell.txt").write_bytes(data)
+        most = draw.choice((max(file.t // 2, 1), max(file.t // 2, 1), 128))
+        present = draw.sample(range(most), draw.randint(1, min(most, 12)))
+        present = sorted(present) if draw.randrange(2) else present
+        chain = chain_requests.drawn_chain(draw, len(present), draw.randrange(3), draw.randrange(3))
+        (at / "chain").write_text(chain_text(draw, chain, lambda i: f"m{i}", present))
+        (at / "new.txt").unlink(missing_ok=True)
+        done = call("number", numbered, at / "chain", "--into", at / "bell.txt", "-o", at / "new.txt")
+        assert done.status in (0, Status.REFUSED, Status.UNLIKE) and ((at / "new.txt").exists() == (done.status != Status.REFUSED)), done
+        met[int(done.status)] += 1
+        if done.status != Status.REFUSED:
+            new = bench_files.read("new", (at / "new.txt").read_bytes())
+            new_of = dict(zip(present, earliest(listed(*runs_of(chain)))))
+            assert new.machine == expected_moved(file.machine, new_of) and new.text is file.text, done
+            assert [command for _, command in new.commands] == [command & ~127 | new_of.get(command & 127, command & 127) if command >> 8 & 15 > 11 else command for _, command in file.commands]
+            assert ("rings as" in done.out) == (ring(data) == ring((at / "new.txt").read_bytes())), done
+    assert met[0] and met[Status.REFUSED], met
+    print(f"  number --into random machines: {dict(met)}")
+    return sum(met.values())
 
 
 CLAPPER = "noise={}\nshaped={} early noise\nleft={} early shaped\nright={} early shaped\n"
@@ -463,7 +496,7 @@ def worked():
     return time.process_time() + sum(resource.getrusage(resource.RUSAGE_CHILDREN)[:2])
 
 
-GROUPS = (chains, chain_texts, into, into_bell, pairs, examples, own_words, calls)
+GROUPS = (chains, chain_texts, into, anything, into_bell, pairs, examples, own_words, calls)
 
 
 def tried(groups, asked, sizes):
