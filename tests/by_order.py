@@ -6,8 +6,9 @@ target/bin/ring and target/bin/wav must be built. COUNT bench files at random, o
 them damaged, each with an order: good ones, nearly by number, by number, by pitch, too short, too long, doubled, beyond T, and texts
 that are no order file. Some files have a command that sets another T: then the pass after it is refused by 5. What ring prints must be
 the reference's, byte for byte; where wav isn't refused it gives these lines as a sound, else the refusal on standard error. By number
-both programs answer as without an argument. Fails too where something was met too seldom. With --dry no program is run; with --fault
-none is either: it is said for how many inputs a fault of reference/faults.py shows.
+both programs answer as without an argument. The gate asks few; 1500, and 700 with --text old, make the 2,000 files. Fails too where
+something was met too seldom. With --dry no program is run; with --fault none is either: it is said for how many inputs a fault of
+reference/faults.py shows.
 """
 
 import os
@@ -34,19 +35,19 @@ from text_files import OLD_LINE
 from texts import NEW_TEXT, OLD_TEXT, Chance
 from wav import NO_PASSES, expected as sound_of
 
-COUNT, COUNT_OLD, SEED = 1500, 700, 39
+COUNT, COUNT_OLD, SEED = 400, 400, 39
 RING, WAV = (os.path.join(ROOT, "target", "bin", name) for name in ("ring", "wav"))
 TIME_MOST, SHOWN = 60, 5
 TICKS_T = 0b00011 << 7
 
 # How often each kind is met at least, in COUNT inputs; and with --text old in COUNT_OLD.
 PROMISED = {
-    "inputs": 1500, "rung": 300, "by pitch": 150, "by number": 80, "other lines than by number": 15, "by pitch, not by number": 40,
-    "order-refused=9": 100, "refused=2": 20, "refused=5": 40, "refused=5 later": 20, "refused=6": 60, "refused=9": 60,
+    "inputs": 400, "rung": 80, "by pitch": 40, "by number": 20, "other lines than by number": 4, "by pitch, not by number": 12,
+    "order-refused=9": 40, "refused=2": 5, "refused=5": 10, "refused=5 later": 8, "refused=6": 15, "refused=9": 15,
 }
 PROMISED_OLD = {
-    "inputs": 700, "rung": 150, "by pitch": 60, "by number": 30, "other lines than by number": 6, "by pitch, not by number": 15,
-    "order-refused=9": 40, "refused=2": 8, "refused=5": 15, "refused=6": 25, "refused=9": 25,
+    "inputs": 400, "rung": 80, "by pitch": 30, "by number": 15, "other lines than by number": 4, "by pitch, not by number": 8,
+    "order-refused=9": 25, "refused=2": 5, "refused=5": 8, "refused=6": 12, "refused=9": 12,
 }
 
 
@@ -110,7 +111,7 @@ def by_hand(text):
     """The short examples by pitch, backwards and by number; texts that are no order files; files that a question refuses before the order."""
     line = OLD_LINE if text is OLD_TEXT else b""
     for name, file in examples(text).items():
-        if bench_file(file).passes <= 500:
+        if bench_file(file).passes <= 100:
             t = first_machine(bench_file(file).words)[layout.T]
             for order, by_number in ((BY_PITCH, False), (order_lines(range(t)), True), (order_lines(range(t - 1, -1, -1)), False)):
                 yield Input(file, order, f"examples/{name}", by_number)
