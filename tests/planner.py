@@ -267,7 +267,8 @@ def into_bell(folder, sizes):
     assert done.status == 0 and "modifier 40 had no turn, since T = 20; numbered so it has one" in done.out, done
     (at / "bell.report").unlink()
     ends(numbered_into(CLAPPER.format(0, 4, 8, 9), BELL.read_text()), 0, "new.report is not of this file: it is now new.older.report")
-    ends(numbered_into("unit=0\nother=1\n", (ROOT / "examples" / "belfry.txt").read_text()), 0)  # delay units go with their modifiers
+    done = numbered_into("near=0\nfar=1 late near\nmix=6 early near\necho=8 early far\n", (ROOT / "examples" / "belfry.txt").read_text())  # delay units go with their modifiers
+    assert done.status == 0 and done.out == f"near   0\nfar    1\nmix    4  (now 6)\necho   5  (now 8)\n{new} rings as {bell}: the same lines in 420 passes\n", done
     old = (ROOT / "examples" / "old_bell.txt").read_text()
     assert numbered_into("a=0\n", old).status == 0 and new.read_text() == old, "the older text"
     return len(cases) + 9 + (after == BELL.read_bytes())
