@@ -99,9 +99,8 @@ def chains(folder, sizes):
         question = chain_refusal(*runs_of(chain))
         done = call("number", numbered, path)
         if question == 14:
-            name, other = called[wrong[0]], called[wrong[1]]
-            cause = "names itself" if wrong[0] == wrong[1] else f"names {other}, and no line begins with that" if wrong[1] == len(chain) else f"names {other}, which stands later, in line {line[other]}: put it before"
-            refused(done, Status.REFUSED, "question 14: Do a chain's entries have their form", f"  line {line[name]}: {name} {cause}\n")
+            cause = misnaming(chain, called, line, *wrong)
+            refused(done, Status.REFUSED, "question 14: Do a chain's entries have their form", f"  line {line[called[wrong[0]]]}: {called[wrong[0]]} {cause}\n")
         elif question == 15:
             first = next(i for i, most in enumerate(earliest(listed(*runs_of(chain)))) if most > 127)
             refused(done, Status.REFUSED, "question 15: Are a chain's earliest numbers at most 127?", f"  line {line[called[first]]}: for {called[first]} no number up to 127 is left: it comes after {called[first - 1]}, which has ")
@@ -112,6 +111,13 @@ def chains(folder, sizes):
     assert min(met[question] for question in (0, 14, 15)) >= sizes["chains"] / 20, met
     print(f"  number: {sizes['chains']} chains: {dict(met)}")
     return sizes["chains"]
+
+
+def misnaming(chain, called, line, at, named):
+    """Why an entry may not name another place of the list."""
+    if at == named:
+        return "names itself"
+    return f"names {called[named]}, " + ("and no line begins with that" if named == len(chain) else f"which stands later, in line {line[called[named]]}: put it before")
 
 
 TEXTS = (("early x\n", "line 1: begins with 'early', and not with a name"), ("a\n=3 late\n", "line 2: begins with '=3'"), ("a=128\n", "line 1: 'a=128': a present number goes from 0 to 127"), ("a= late\n", "a present number goes from"),
@@ -445,6 +451,11 @@ def own_words(folder, sizes):
             assert call("same", sameness, at / "one.csv", left).status == Status.NO  # what is heard on one side alone isn't on both
         ends(call("partials", partials, at / "one.csv", "-o", at / "moved.txt", "--passes", "50", "--words", "9,8,7,6"), 0)
         ends(call("same", sameness, at / "one.csv", at / "moved.txt"), 0)
+    return 7 * sizes["bells"] + other_places(at, program)
+
+
+def other_places(at, program):
+    """Words and DACs that can't be; a bell with noise on other words sounds as it did."""
     for options, sentence in ((["--words", "1,2,3"], "four sum words, different ones from 0 to 63"), (["--words", "1,2,3,64"], "from 0 to 63"), (["--words", "1,2,2,3"], "different ones"), (["--dacs", "16"], "one or two DACs, different ones from 0 to 15"),
                               (["--dacs", "1,1"], "different ones"), (["--dacs", ""], "from 0 to 15"), (["--words", "a,b,c,d"], "four sum words")):
         refused(call("partials", partials, at / "one.csv", "-o", at / "x.txt", *options), Status.MISUSED, sentence)
@@ -454,7 +465,7 @@ def own_words(folder, sizes):
     ends(call("partials", partials, TABLE, "-o", at / "plain.txt", "--passes", "300"), 0)
     one, two = (as_rung.rung_lines(program, (at / f"{name}.txt").read_bytes())[0] for name in ("noise", "plain"))
     assert one == two and len(one) == 300, "the noise is another on other words"
-    return 7 * sizes["bells"] + 9
+    return 9
 
 
 # Habits of the command line
