@@ -162,6 +162,11 @@ class Faults:
         self.order_entry_256 = False
         self.order_of_257_lines = False
         self.order_line_open = False
+        # Rung by an order.
+        self.order_not_rung_by = False
+        self.order_cut_to_t = False
+        self.pitch_order_made_anew = False
+        self.rung_order_asked_first = False
         self.order_asked_first = False
         self.order_asked_after_2 = False
 

@@ -134,13 +134,16 @@ def updated(machine, commands, text):
     return run_update(machine, commands)
 
 
-def pass_lines(machine, passes, commands, seen, text):
-    """The lines of the passes, each by number and with an update after it."""
+def by_number(machine):
+    """The order by number. It is a range and not a list: T may be beyond its range here."""
+    return range(machine[layout.T])
+
+
+def pass_lines(machine, passes, commands, seen, text, order_of=by_number):
+    """The lines of the passes, each by an order of its machine and with an update after it."""
     memory = zero_memory()
     for _ in range(passes):
-        # The order is a range and not a list: T may be beyond its range here.
-        order = range(machine[layout.T])
-        done = run_pass(machine, order, [], [], memory, text)
+        done = run_pass(machine, order_of(machine), [], [], memory, text)
         refused, memory = done.number, done.memory
         if not refused:
             seen(machine, done.machine)

@@ -63,6 +63,10 @@ def commands(folder, prefix):
     assert run("./karvelorn", "partials", "bell.csv", "-o", "new.txt", "--passes", "9000", **here).status == 0
     assert run("./karvelorn", "same", "bell.csv", "new.txt", **here).status == 0 and "\ngenerator 2 (tierce): runs" in run("./karvelorn", "show", "new.txt", **here).out
     assert run("./karvelorn", "renumber", "new.txt", "tierce=3", "-o", "moved.txt", **here).status == 0 and (at / "moved.report").exists()
+    (at / "chain").write_text("noise=0\nshaped=4 early noise\n")
+    assert run("./karvelorn", "number", "chain", "--into", "new.txt", "-o", "again.txt", **here).status == 0 and (at / "again.txt").read_bytes() == (at / "new.txt").read_bytes()
+    joined = run("./karvelorn", "join", ROOT / "examples" / "low_bell.txt", ROOT / "examples" / "high_bell.txt", "-o", "both.txt", **here)
+    assert joined.status == 0 and "DAC 1 (right), in each pass as it is alone" in joined.out, joined
     seen = run("./karvelorn", "hear", "new.txt", "--table", "bell.csv", **here)
     assert (seen.status in (Status.DONE, Status.UNLIKE)) and (at / "new.png").exists(), seen
     taken = run("./karvelorn", "measure", "new.wav", "-o", "again.csv", **here)
@@ -92,7 +96,7 @@ def in_place(folder):
     assert files_below(prefix) == before, "a command has left something under the prefix"
     completion = prefix / "share" / "bash-completion" / "completions" / "karvelorn"
     asked = run("bash", "-c", 'source "$1"; COMP_WORDS=("$2" ""); COMP_CWORD=1; _karvelorn; echo "${COMPREPLY[@]}"', "bash", completion, prefix / "bin" / "karvelorn")
-    assert asked.out.split() == ["measure", "partials", "show", "same", "run", "hear", "cut", "compare", "renumber", "drawer", "--help", "--version"], asked
+    assert asked.out.split() == ["measure", "partials", "show", "number", "same", "run", "hear", "cut", "compare", "renumber", "join", "drawer", "--help", "--version"], asked
     stale = prefix / "libexec" / "karvelorn" / "tools" / "of_an_earlier_version.py"
     stale.write_text("")
     listed = prefix / "libexec" / "karvelorn" / "LIST"

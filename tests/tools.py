@@ -218,7 +218,7 @@ def question_words(folder):
 
 def helps(_folder):
     """Each script and tool has -h, --help and --version; the help has each option, the exit statuses and an example."""
-    callers = [("./karvelorn",), ("./hear",), ("./run",), ("./compare",), ("./install",), ("./karvelorn", "partials"), ("./karvelorn", "measure"), ("./karvelorn", "hear"), ("./karvelorn", "show"), ("./karvelorn", "same"), ("./karvelorn", "renumber"), ("./karvelorn", "cut"), ("./karvelorn", "drawer"), (PYTHON, "tools/compared.py"), (PYTHON, "tools/rung.py"), (PYTHON, "tools/picture.py")]
+    callers = [("./karvelorn",), ("./hear",), ("./run",), ("./compare",), ("./install",), ("./karvelorn", "partials"), ("./karvelorn", "measure"), ("./karvelorn", "hear"), ("./karvelorn", "show"), ("./karvelorn", "same"), ("./karvelorn", "renumber"), ("./karvelorn", "number"), ("./karvelorn", "join"), ("./karvelorn", "cut"), ("./karvelorn", "drawer"), (PYTHON, "tools/compared.py"), (PYTHON, "tools/rung.py"), (PYTHON, "tools/picture.py")]
     for caller in callers:
         text = run(*caller, "--help")
         assert text.status == 0 and not text.err and run(*caller, "-h") == text, text
@@ -228,9 +228,9 @@ def helps(_folder):
     table = dict(re.findall(r"^\| (\d+) \| (.*) \|$", (ROOT / "docs" / "COMMANDS.md").read_text().split("| Exit status |")[1].split("\n\n")[0], flags=re.M))
     assert {int(number) for number in table} == set(map(int, statuses.Status)), table
     listed = run("./karvelorn", "--help").out
-    places = [listed.index(f" {name} ") for name in ("measure", "partials", "show", "same", "run", "hear", "cut", "compare", "renumber", "drawer")]
+    places = [listed.index(f" {name} ") for name in ("measure", "partials", "show", "number", "same", "run", "hear", "cut", "compare", "renumber", "join", "drawer")]
     assert places == sorted(places) and listed.index("Monday") < listed.index("Tuesday") < listed.index("Wednesday") < listed.index("Thursday") < listed.index("Friday"), listed
-    assert run("./karvelorn", "--commands").out.split() == ["measure", "partials", "show", "same", "run", "hear", "cut", "compare", "renumber", "drawer"]
+    assert run("./karvelorn", "--commands").out.split() == ["measure", "partials", "show", "number", "same", "run", "hear", "cut", "compare", "renumber", "join", "drawer"]
     refused(run("./karvelorn"), MISUSED, "no command")
     refused(run("./karvelorn", "ring"), MISUSED, "no such command: ring")
     assert "The gate: " in run(".ci/run", "--help").out and run(".ci/run", "-h").status == 0 and run(".ci/run", "--version").out == run("./hear", "--version").out
@@ -243,11 +243,11 @@ def completion(folder):
     Path(folder, "bell one.txt").write_text("")
     shutil.copy(ROOT / "tools" / "completion.bash", folder)
     ask = 'source ./completion.bash; COMP_WORDS=("$@"); COMP_CWORD=$(($# - 1)); _karvelorn; printf "%s\\n" "${COMPREPLY[@]}"'
-    for words, wanted in ((("",), {"measure", "partials", "show", "same", "run", "hear", "cut", "compare", "renumber", "drawer", "--help", "--version"}), (("he",), {"hear"}), (("partials", "--"), {"--help", "--version", "--passes", "--rate", "--seconds", "--gain", "--ratios", "--highest"}),
-                          (("show", "--g"), {"--graph"}), (("hear", "--no"), {"--no-picture"}), (("hear", "-o"), {"-o"}), (("hear", "bell"), {"bell one.txt"})):
+    for words, wanted in ((("",), {"measure", "partials", "show", "number", "same", "run", "hear", "cut", "compare", "renumber", "join", "drawer", "--help", "--version"}), (("he",), {"hear"}), (("partials", "--"), {"--help", "--version", "--passes", "--rate", "--seconds", "--gain", "--words", "--dacs", "--ratios", "--highest"}),
+                          (("show", "--g"), {"--graph"}), (("number", "--i"), {"--into"}), (("join", "--a"), {"--apart"}), (("hear", "--no"), {"--no-picture"}), (("hear", "-o"), {"-o"}), (("hear", "bell"), {"bell one.txt"})):
         done = run("bash", "-c", ask, "bash", ROOT / "karvelorn", *words, cwd=folder)
         assert set(done.out.splitlines()) == wanted, (words, done)
-    return 7
+    return 9
 
 
 def places(folder):

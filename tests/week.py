@@ -1,6 +1,6 @@
 """The planner's commands show, same and renumber: what they say is held against the reference, and what renumber writes is rung.
 
-    /usr/bin/python3 tests/week.py [--full] [GROUP ..]      (ring and sorted must be built; graphviz is needed)
+    /usr/bin/python3 tests/week.py [--full] [GROUP ..]      (ring, sorted and the library for C must be built; graphviz is needed)
 
 --full takes the whole sizes: 2,000 random machines shown (1,500 of 1978, 500 of the older text), 500 random bells renumbered.
 """
@@ -23,6 +23,7 @@ from pathlib import Path
 from calls import ROOT, Status, call, ends, names, refused, run
 import as_rung
 import bench_files
+import hosts
 import partials
 import renumbered
 import ring_files
@@ -45,12 +46,14 @@ PROGRAMS = ROOT / "target" / "bin"
 @contextlib.contextmanager
 def built_already():
     """The programs as they are, without a look at each crate's files for every call."""
-    kept = as_rung.built, renumbered.built
+    asked = hosts.host("week", "library_calls")
+    kept = as_rung.built, renumbered.built, hosts.host, hosts.at_hand
     as_rung.built = renumbered.built = lambda command, *programs: [str(PROGRAMS / program) for program in programs]
+    hosts.host, hosts.at_hand = (lambda command, name: asked), lambda name: True
     try:
         yield
     finally:
-        as_rung.built, renumbered.built = kept
+        as_rung.built, renumbered.built, hosts.host, hosts.at_hand = kept
 
 
 def changed(text, words):
@@ -572,8 +575,9 @@ def pages(folder, sizes):
     page = (ROOT / "docs" / "PLANNING.md").read_text()
     runs = re.findall(r"^    \$ \./karvelorn (.*)\n((?:    [^$\n].*\n)+)", page, flags=re.M)
     assert len(runs) >= 3, "docs/PLANNING.md shows too few runs"
-    for name in ("bell.txt", "bell.csv", "bell.report", "two_strokes.txt"):
-        shutil.copy(ROOT / "examples" / name, folder)
+    for path in (ROOT / "examples").iterdir():
+        if path.suffix in (".txt", ".csv", ".report", ".chain"):
+            shutil.copy(path, folder)
     for arguments, lines in runs:
         said = run(ROOT / "karvelorn", *arguments.replace("examples/", "").split(), cwd=folder)
         at, text = 0, said.out + said.err

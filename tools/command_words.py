@@ -22,6 +22,7 @@ DELAY_MODES = {layout.DELAY_INACTIVE: "inactive", layout.DELAY_LINE: "delay line
 QUADRANT_NAMES = ("generator-last", "modifier-last", "modifier-this")
 MISC, DLY, TIMER, TICKS = "00000", "00001", "00010", "00011"
 GENERATOR_CODES = range(2, 12)  # the four bits of every command that names a generator
+MODIFIER_CODES = range(12, 16)  # and of every one that names a modifier
 TIMERS = {0b00: "TIMER with TT 00: sets nothing", 0b01: "sets the pass counter", 0b10: "Linger", 0b11: "clears the pass counter; Linger"}
 
 
@@ -53,6 +54,11 @@ def code_of(command):
 def names_generator(command):
     """The generator that a command names, or None."""
     return command & 0xFF if (command >> 8 & 0xF) in GENERATOR_CODES else None
+
+
+def names_modifier(command):
+    """The modifier that a command names, or None."""
+    return command & 0x7F if (command >> 8 & 0xF) in MODIFIER_CODES else None
 
 
 def on(command, *pairs):

@@ -17,12 +17,14 @@ COMMANDS = (
     ("Monday", "measure", "measuring", "a recording becomes a table of its partials"),
     ("Monday", "partials", "partials", "a table of measured partials becomes a bench file (and a recording a table, as by measure)"),
     ("Tuesday", "show", "shown", "a bench file in words, with what looks wrong, and as a graph"),
+    ("Tuesday", "number", "numbered", "numbers for a chain of modifiers, in which each sees whom it must see; also into a bench file"),
     ("Tuesday", "same", "sameness", "is a bench file still the bell of its table?"),
     ("Wednesday", "run", "rung", "a bench file is rung pass by pass: a line for each"),
     ("Wednesday", "hear", "heard", "a bench file is heard and seen: its sound, its picture and its partials"),
     ("Wednesday", "cut", "cutting", "what a cut at each ring makes of a bell, by the foundry's table of rings"),
     ("Thursday", "compare", "compared", "is it the same bell with its generators in another order?"),
     ("Thursday", "renumber", "renumbered", "the generators moved to other numbers, in a bench file that rings the same"),
+    ("Thursday", "join", "joining", "two bench files made one, in which each bell sounds as it does alone"),
     ("Friday", "drawer", "drawers", "what was decided is kept in a folder with a page, and can be checked bit for bit"),
 )
 MODULES = {name: module for _, name, module, _ in COMMANDS}

@@ -15,7 +15,7 @@ import os
 from building import LIBRARY, LIBRARY_CRATE, PROGRAMS, built, made
 from command_line import HOME, Ending, Parser, Status, start, tell, version
 from outputs import temporary_beside
-import longer
+import hosts
 import sharing
 import versions
 
@@ -44,8 +44,8 @@ def contents(prefix):
     yield "bin/karvelorn", (HOME / "karvelorn").read_bytes(), True
     for program in PROGRAMS:
         yield f"{OWN}/programs/{program}", made(program).read_bytes(), True
-    if longer.PROGRAM.exists():
-        yield f"{OWN}/programs/{longer.PROGRAM.name}", longer.PROGRAM.read_bytes(), True
+    for program in filter(os.path.exists, map(hosts.program, hosts.HOSTS)):
+        yield f"{OWN}/programs/{program.name}", program.read_bytes(), True
     yield f"{OWN}/{versions.BUILD}", json.dumps(versions.versions(), indent=1).encode(), False
     yield f"{OWN}/VERSION", (HOME / "VERSION").read_bytes(), False
     for folder in ("tools", "reference"):
@@ -154,10 +154,11 @@ def main(arguments):
     if not away:
         built("install", *PROGRAMS, LIBRARY_CRATE)
         try:
-            longer.host("install")
+            for name in hosts.HOSTS:
+                hosts.host("install", name)
             sharing.built_shared()
         except Ending as ending:
-            tell("install", f"without what rings on after a bench file's passes and without the shared library: {ending}")
+            tell("install", f"without number and join, what rings on after a bench file's passes and the shared library: {ending}")
         tell("install", f"putting programs, tools, library and header under {root}")
     try:
         count = uninstall(root) if away else install(root, prefix)

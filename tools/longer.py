@@ -6,51 +6,22 @@ through the library (ring_on.c), and its first frames must be those of the prove
 """
 
 import math
-import os
 import shutil
-import struct
 import subprocess
 
 import questions
 import sounds
-from building import LIBRARY_CRATE, TARGET, built
-from command_line import HOME, IN_REPOSITORY, Ending, Status, tell
+from command_line import Ending, Status, tell
+from hosts import host, packed
 from partials import TICK
 from reference import layout
 
-SOURCE = HOME / "tools" / "ring_on.c"
-PROGRAM = TARGET / "ring_on"
 SECONDS_MOST = 3600.0
 RATES = (44100, 48000)
 PLAYERS = (("aplay", "-q"), ("paplay",), ("play", "-q"))
 PLAYER_PACKAGES = "alsa-utils, pulseaudio-utils or sox"
 TAPS, STOP = 32, 12.0  # the filter reaches over so many samples of the lower rate on each side; its window is Kaiser's with this beta: 118 dB
 PASSED = 0.95  # and passes so much of the lower rate's half
-
-
-def compile_host(library, include, to):
-    """Compiles ring_on.c with the library."""
-    compiler = shutil.which("gcc") or shutil.which("cc")
-    if not compiler:
-        raise Ending("to ring on after a bench file's passes a C compiler is needed: apt install gcc", Status.MISSING)
-    made = f"{to}.{os.getpid()}"
-    done = subprocess.run([compiler, "-std=c99", "-O2", "-I", str(include), str(SOURCE), str(library), "-o", made], stdout=subprocess.PIPE, stderr=subprocess.STDOUT)
-    if done.returncode:
-        raise Ending(f"{SOURCE} can't be compiled: {done.stdout.decode(errors='replace').strip()}", Status.MISSING)
-    os.replace(made, to)
-
-
-def host(command):
-    """The program that rings on, compiled where it is older than the library or its source."""
-    if not IN_REPOSITORY:
-        program = HOME / "programs" / PROGRAM.name
-        if not program.is_file():
-            raise Ending("this installation was made without a C compiler and can't ring on after a bench file's passes", Status.MISSING)
-        return str(program)
-    library, = built(command, LIBRARY_CRATE)
-    if not PROGRAM.exists() or os.path.getmtime(PROGRAM) < max(os.path.getmtime(library), os.path.getmtime(SOURCE)):
-        compile_host(library, HOME / "include", PROGRAM)
-    return str(PROGRAM)
 
 
 def exact_rate(bench):
@@ -67,15 +38,16 @@ def passes_for(text, seconds):
     return bench, max(1, math.ceil(seconds * exact_rate(bench)))
 
 
-def rung_on(command, file, text, sound, seconds):
-    """The sound of a bench file for so many seconds, from that of its own passes."""
+def rung_on(command, file, text, sound, seconds, order=()):
+    """The sound of a bench file for so many seconds, from that of its own passes; each pass by number, or by an order's entries."""
     bench, passes = passes_for(text, seconds)
     rate, frames = sounds.frames_of(sound)
     if passes <= bench.passes:
         return sounds.wave_file(rate, frames[:6 * passes])
     tell(command, f"ringing on to {passes} passes through the library")
-    numbers = [passes, len(bench.words), len(bench.commands), *(number for place, value, _ in bench.words for number in (place, value)), *(value for _, value in bench.commands)]
-    done = subprocess.run([host(command)], input=struct.pack(f"<{len(numbers)}I", *numbers), stdout=subprocess.PIPE, stderr=subprocess.PIPE)
+    numbers = [int(bench.is_old), passes, len(bench.words), len(bench.commands), len(order), *(number for place, value, _ in bench.words for number in (place, value)),
+               *(value for _, value in bench.commands), *order]
+    done = subprocess.run([host(command, "ring_on")], input=packed(numbers), stdout=subprocess.PIPE, stderr=subprocess.PIPE)
     told = done.stderr.decode(errors="replace").strip()
     if told.startswith("refused="):
         raise Ending(f"{file} can't ring on: {told} after pass {len(done.stdout) // 6}")

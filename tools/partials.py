@@ -2,7 +2,7 @@
 """From a table of partials to a bench file, with a report of what the registers make of each. (Of a recording: to the table, as
 `karvelorn measure` does.)
 
-    karvelorn partials TABLE -o FILE [--rate HZ | --seconds S] [--passes N] [--gain DB]
+    karvelorn partials TABLE -o FILE [--rate HZ | --seconds S] [--passes N] [--gain DB] [--words L,R,E,S] [--dacs D[,D]]
     karvelorn partials RECORDING -o TABLE.csv [--ratios R] [--highest HZ]
 
 TABLE has a line `name,hz,db,t60` or `name,hz,db,t60,channel` and then one for each partial: its name, its frequency in
@@ -12,12 +12,14 @@ Lines that start with # are skipped. Tables as spreadsheets write them are read 
 
 The rate in passes a second is 10^9 / (195 N): --rate asks for the nearest one, --seconds for the N with which the passes
 last so long (N = 265 where neither is given). --gain DB is added to all levels; without it the levels are lowered, if need
-be, until the sum of all peaks fits the 20 bits of a DAC. The report goes to standard output and, for `compare`, beside
+be, until the sum of all peaks fits the 20 bits of a DAC. --words and --dacs put a bell on sum words and DACs of its own. The report goes to standard output and, for `compare`, beside
 the bench file: NAME.report for NAME.txt. An error says what is wrong and where, and writes nothing.
 """
 
 import math
 import os
+from argparse import ArgumentTypeError
+from typing import NamedTuple
 
 from command_line import Ending, Parser, Status, read_file, say, start, tell
 from outputs import destination, made_here, same_file, set_aside, write_whole
@@ -41,8 +43,13 @@ TO_DAC, RUNNING = 0b0010, 0b1111
 LEVEL_PLUS_EXPONENTIAL, SINE, SQUARE = 0b11, 0b0000, 0b0010
 NOISE, FOUR_QUADRANT, MIXING, REPLACE = 0b00010, 0b11000, 0b10100, 1 << 6
 GENERATOR_LAST, MODIFIER_LAST, MODIFIER_THIS = 0 << 6, 1 << 6, 2 << 6
-SILENT = GENERATOR_LAST | 63  # a word that nothing adds into: no frequency modulation
 UNITY = 1 << 18  # a coefficient that with a scale of 1 multiplies by exactly 1
+
+
+class Places(NamedTuple):
+    """The sum words of a bell (left or both, right, the envelope of the noise, and one that nothing adds into: no frequency modulation), and the DACs it feeds."""
+    words: tuple = (0, 1, 2, 63)
+    dacs: tuple = (0, 1)
 
 
 def wave_peak(gm):
@@ -122,7 +129,7 @@ def reached(row, rows, rate, gain, seconds):
     return hz, cents, db, t60, missed
 
 
-def add_generator(words, g, run, go=0, gj=0, gm=0, gp=0, gq=0, gsum=0, gfm=SILENT, wave=SINE):
+def add_generator(words, g, run, gsum, gfm, go=0, gj=0, gm=0, gp=0, gq=0, wave=SINE):
     gmode = run << 6 | LEVEL_PLUS_EXPONENTIAL << 4 | wave
     for j, value in enumerate((go, gj, 0, 0, gm, gp, gq, 0, gsum, gfm, gmode)):
         words[layout.generator_at(g) + j] = value
@@ -133,33 +140,36 @@ def add_modifier(words, m, function, m0=0, m1=0, l0=0, l1=0, a=0, b=0, to=0, aa=
         words[layout.modifier_at(m) + j] = value
 
 
-def lay_out(rows, n):
-    """The words of the machine. Sum word 0 is the left channel and 1 the right; where all partials are on both, 0 is both."""
+def lay_out(rows, n, places=Places()):
+    """The words of the machine. One sum word is the left channel and one the right; where all partials are on both, the first is both."""
     apart = any(row.channel != "both" for row in rows)
+    if apart and len(places.dacs) < 2:
+        raise Wrong("a bell with partials on one side feeds two DACs, and one is named", Status.MISUSED)
+    left, right, envelope_word, silent = places.words
     words, g = {}, 0
     noise = [row for row in rows if row.noise]
     for row in rows:
-        for gsum in [] if row.noise else {"left": [0], "right": [1], "both": [0, 1] if apart else [0]}[row.channel]:
-            add_generator(words, g, RUNNING, gj=row.gj, gm=row.gm, gp=row.gp, gq=row.gq, gsum=gsum)
+        for gsum in [] if row.noise else {"left": [left], "right": [right], "both": [left, right] if apart else [left]}[row.channel]:
+            add_generator(words, g, RUNNING, gsum, silent, gj=row.gj, gm=row.gm, gp=row.gp, gq=row.gq)
             row.generators.append(g)
             g += 1
-    sources = [GENERATOR_LAST | 0, GENERATOR_LAST | (1 if apart else 0)]
+    sources = [GENERATOR_LAST | left, GENERATOR_LAST | (right if apart else left)][:len(places.dacs)]
     for row in noise:
-        # The envelope is a constant wave in word 2; modifiers make noise, its product with the envelope, and the mixes.
-        add_generator(words, g, RUNNING, gp=row.gp, gq=row.gq, gsum=2, wave=SQUARE)
+        # The envelope is a constant wave in a word of its own; modifiers make noise, its product with the envelope, and the mixes.
+        add_generator(words, g, RUNNING, envelope_word, silent, gp=row.gp, gq=row.gq, wave=SQUARE)
         row.generators.append(g)
         g += 1
         add_modifier(words, 0, NOISE, m0=4093, l0=12345, l1=1, to=0, aa=2)
-        add_modifier(words, 4, FOUR_QUADRANT, m1=UNITY, a=MODIFIER_THIS | 0, b=GENERATOR_LAST | 2, to=1, aa=2, bb=1)
-        for side in (0, 1):
-            add_modifier(words, 8 + side, MIXING, m0=UNITY, m1=UNITY, a=sources[side], b=MODIFIER_THIS | 1, to=2 + side, aa=1, bb=1)
-        sources = [MODIFIER_LAST | 2, MODIFIER_LAST | 3]
-    for side, source in enumerate(sources):
-        add_generator(words, g, TO_DAC, go=side, gfm=source)
+        add_modifier(words, 4, FOUR_QUADRANT, m1=UNITY, a=MODIFIER_THIS | 0, b=GENERATOR_LAST | envelope_word, to=1, aa=2, bb=1)
+        for side, source in enumerate(sources):
+            add_modifier(words, 8 + side, MIXING, m0=UNITY, m1=UNITY, a=source, b=MODIFIER_THIS | 1, to=2 + side, aa=1, bb=1)
+        sources = [MODIFIER_LAST | 2 + side for side in range(len(sources))]
+    for dac, source in zip(places.dacs, sources):
+        add_generator(words, g, TO_DAC, left, source, go=dac)
         g += 1
     t = max(g, 20) if noise else g
     if g > layout.GENERATORS:
-        raise Wrong(f"{g} generators are needed, two of them for the DACs, and there are {layout.GENERATORS}")
+        raise Wrong(f"{g} generators are needed, {len(sources)} of them for the DACs, and there are {layout.GENERATORS}")
     if n < t + layout.OVERHEAD_TICKS:
         raise Wrong(f"a pass of {n} ticks is too short for {t} generators: {t + layout.OVERHEAD_TICKS} are needed, or a lower rate")
     words[layout.T], words[layout.N] = t, n
@@ -230,12 +240,12 @@ def report_beside(file):
     return os.path.splitext(file)[0] + ".report"
 
 
-def make(table, passes=MOST_PASSES, rate=None, seconds=None, gain=None):
+def make(table, passes=MOST_PASSES, rate=None, seconds=None, gain=None, places=Places()):
     """The bench file of a table, and the report's lines; its rows, with their registers, and N and the gain."""
-    return make_of_rows(read_table(table), passes, rate, seconds, gain)
+    return make_of_rows(read_table(table), passes, rate, seconds, gain, places)
 
 
-def make_of_rows(rows, passes=MOST_PASSES, rate=None, seconds=None, gain=None):
+def make_of_rows(rows, passes=MOST_PASSES, rate=None, seconds=None, gain=None, places=Places()):
     """The same of a table's rows."""
     if not 1 <= passes <= MOST_PASSES:
         raise Wrong(f"a bell has 1 to {MOST_PASSES} passes: {passes}", Status.MISUSED)
@@ -243,7 +253,7 @@ def make_of_rows(rows, passes=MOST_PASSES, rate=None, seconds=None, gain=None):
     gain = fit(rows, 1 / (TICK * n), gain)
     if sum_of_peaks(rows) == 0:
         raise Wrong("nothing would be heard: every partial is too quiet")
-    text = bench_text(lay_out(rows, n), passes)
+    text = bench_text(lay_out(rows, n, places), passes)
     return text, list(report(rows, n, passes, gain)), rows, n, gain
 
 
@@ -263,6 +273,24 @@ def level(text):
     return float(text)
 
 
+def numbers(text, count, most, what):
+    """Different numbers on the command line, parted by commas."""
+    found = text.split(",")
+    if not all(one.isdecimal() and int(one) <= most for one in found) or len(set(map(int, found))) != len(found) or len(found) not in count:
+        raise ArgumentTypeError(f"{what}, different ones from 0 to {most}: {text}")
+    return tuple(map(int, found))
+
+
+def words_asked(text):
+    """The sum words of a bell."""
+    return numbers(text, (4,), layout.QUADRANT_WORDS - 1, "four sum words")
+
+
+def dacs_asked(text):
+    """The DACs of a bell."""
+    return numbers(text, (1, 2), layout.DACS - 1, "one or two DACs")
+
+
 def parser():
     """What may be asked."""
     asked = Parser("partials", "Makes a bench file of a table of measured partials: each becomes a generator. The report says what the registers make of each, what\n"
@@ -275,6 +303,9 @@ def parser():
     asked.add_argument("--rate", metavar="HZ", type=positive, help="about so many passes a second")
     asked.add_argument("--seconds", metavar="S", type=positive, help="the passes last about so long")
     asked.add_argument("--gain", metavar="DB", type=level, help=f"added to all levels, {-QUIET} to {QUIET}; without it levels are lowered until nothing clips")
+    asked.add_argument("--words", metavar="L,R,E,S", type=words_asked, help="the bell's sum words: left (or both), right, the noise's envelope, and one that nothing adds into (0,1,2,63 where this isn't asked); "
+                       "for karvelorn join, whose bells share none")
+    asked.add_argument("--dacs", metavar="D[,D]", type=dacs_asked, help="the DACs it feeds, left and right, or one where all partials are on both sides (0,1 where this isn't asked)")
     asked.add_argument("--ratios", metavar="R", help="of a recording: names by ratios to the prime: just, tempered, or a file of lines name,ratio (just where this isn't asked)")
     asked.add_argument("--highest", metavar="HZ", type=positive, help="of a recording: what is above isn't looked at")
     return asked
@@ -291,8 +322,8 @@ def is_recording(path):
 def of_recording(asked):
     """The table of a recording, as `measure` makes it."""
     import measuring
-    if asked.rate or asked.seconds or asked.gain or asked.passes != MOST_PASSES:
-        raise Ending(f"{asked.table} is a recording, of which a table is made: --passes, --rate, --seconds and --gain are for a table, of which a bench file is made", Status.MISUSED)
+    if asked.rate or asked.seconds or asked.gain or asked.passes != MOST_PASSES or asked.words or asked.dacs:
+        raise Ending(f"{asked.table} is a recording, of which a table is made: --passes, --rate, --seconds, --gain, --words and --dacs are for a table, of which a bench file is made", Status.MISUSED)
     if not asked.file.lower().endswith(".csv"):
         raise Ending(f"{asked.table} is a recording, of which a table is made: name it NAME.csv, not {asked.file}", Status.MISUSED)
     more = [("--ratios", asked.ratios), ("--highest", asked.highest)]
@@ -338,7 +369,7 @@ def main(arguments):
         read_file(asked.table)
     try:
         try:
-            text, lines, _, _, _ = make(asked.table, asked.passes, asked.rate, asked.seconds, asked.gain)
+            text, lines, _, _, _ = make(asked.table, asked.passes, asked.rate, asked.seconds, asked.gain, Places(asked.words or Places().words, asked.dacs or Places().dacs))
         except Ending as ending:
             raise Ending(f"{asked.table}: {ending}", ending.status) from None
         other = unlike(asked.file, text.encode())

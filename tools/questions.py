@@ -19,6 +19,7 @@ TEXT, PASSES, WORD, COMMAND = b"text=", b"passes=", b"word=", b"command="
 NEW, OLD = b"1978", b"old"
 OLD_GMODE_MOST = 2 ** old_layout.GMODE_WIDTH - 1
 BYTE_ORDER_MARKS = {b"\xef\xbb\xbf": "UTF-8", b"\xff\xfe": "UTF-16", b"\xfe\xff": "UTF-16"}
+ORDER_FILE = "it must have 1 to 256 lines order=G, each with a number G from 0 to 255 without leading zeros and ended by LF"
 SHOWN, CUT = 6, 40  # so many words of a machine are named, so many characters of a line are shown
 
 # In the words of docs/FILE.md.

@@ -18,15 +18,15 @@ from as_rung import rung_lines
 from building import built
 from command_line import Ending, Parser, Status, read_file, say, start, tell
 from command_words import TICKS, code_of, course, names_generator
-from outputs import destination, made_here, same_file, set_aside, write_whole
-from partials import beside, report_beside, unlike
+from outputs import destination, same_file, write_whole
+from partials import report_beside, unlike
 from reference import layout
+from rewriting import rewritten, set_older_aside
 from suspects import those
 from wiring import MOVING, TRIGGERING, Wiring
 
 CHANGE = re.compile(r"(.+)=(\d{1,3})")
 ORDER_LINE = re.compile(rb"order=(0|[1-9]\d{0,2})")
-WORD_LINE = re.compile(rb"word=(\d+):(\d+)")
 SHOWN = 12
 
 
@@ -151,37 +151,16 @@ def across_t(wiring, new_of):
 
 # The new file
 
-def moved_line(line, new_of):
-    """A line of the bench file with its generator's new number."""
-    word = WORD_LINE.fullmatch(line)
-    if word:
-        g, register = divmod(int(word[1]), layout.GENERATOR_WORDS)
-        return b"word=%d:%s" % (layout.generator_at(new_of.get(g, g)) + register, word[2])
-    if line.startswith(questions.COMMAND):
-        command = int(line[len(questions.COMMAND):], 16)
-        g = names_generator(command)
-        return b"command=%08X" % (command if g is None else command & ~0xFF | new_of.get(g, g))
-    return line
-
-
-def place_of(line):
-    """The place of a word= line; lines of other kinds stay before or after all of them."""
-    return int(WORD_LINE.fullmatch(line)[1])
-
-
 def new_text(data, new_of):
-    """The bench file with the new numbers. Words that stood in the sequence of their places do so again."""
-    lines = data.split(b"\n")[:-1]
-    moved = [moved_line(line, new_of) for line in lines]
-    words = [at for at, line in enumerate(lines) if WORD_LINE.fullmatch(line)]
-    places = [place_of(lines[at]) for at in words]
-    if places == sorted(places):
-        for at, line in zip(words, sorted((moved[at] for at in words), key=place_of)):
-            moved[at] = line
-    text = b"".join(line + b"\n" for line in moved)
-    if len(text) > questions.FILE_MOST:
-        raise Ending(f"the new file would have {len(text)} bytes, more than {questions.FILE_MOST}")
-    return text
+    """The bench file with the new numbers."""
+    def place(old):
+        g, register = divmod(old, layout.GENERATOR_WORDS)
+        return layout.generator_at(new_of.get(g, g)) + register
+
+    def command(old):
+        g = names_generator(old)
+        return old if g is None else old & ~0xFF | new_of.get(g, g)
+    return rewritten(data, place, command)
 
 
 def new_report(path, new_of):
@@ -242,13 +221,6 @@ def parser():
     return asked
 
 
-def set_older_aside(new, endings):
-    """What stands beside NEW and is of another file gets another name."""
-    for path in (beside(new, ending) for ending in endings):
-        if os.path.isfile(path) and (path.endswith(".report") or made_here(path)):
-            tell("renumber", f"{path} is not of this file: it is now {os.path.basename(set_aside(path))}")
-
-
 def main(arguments):
     asked = parser().parse_intermixed_args(arguments)
     inputs = [asked.file, report_beside(asked.file), *asked.changes]
@@ -274,7 +246,7 @@ def main(arguments):
         tell("renumber", f"no report is written: {file.doubts[0]}")
     other = unlike(asked.new, text)
     write_whole(contents, inputs)
-    set_older_aside(asked.new, ([] if has_report else [".report"]) + ([".wav", ".png"] if other else []))
+    set_older_aside("renumber", asked.new, ([] if has_report else [".report"]) + ([".wav", ".png"] if other else []))
     say("\n".join(summary(file, asked.new, new_of, passes, refused, parted)))
     return Status.DONE
 

@@ -12,6 +12,7 @@ import re
 
 import bench_files
 import compared
+import hosts
 import questions
 from as_rung import as_rung
 from command_line import Ending, Parser, Status, read_file, say, start, tell
@@ -285,11 +286,14 @@ def orders(wiring):
     if file.is_old:
         yield "whether any order rings alike is asked of files of 1978 alone"
         return
-    failing = any_order.failing(file.machine)
+    failing, alike = any_order.failing(file.machine), hosts.any_order("show", file.machine)
+    if alike not in (None, not failing):
+        raise Ending("the library and the reference differ about orders", Status.FAULT)
+    by = "" if alike is not None else " (by the rule of Q-2; the library, which decides it, isn't built here)"
     if failing:
-        yield "not every order of the generators rings alike: " + "; ".join(cause for clause in failing for cause in CLAUSES[clause](wiring))
+        yield f"not every order of the generators rings alike{by}: " + "; ".join(cause for clause in failing for cause in CLAUSES[clause](wiring))
         return
-    yield f"any order of the generators rings alike{', as the file begins' if order_changes(wiring) else ''}"
+    yield f"any order of the generators rings alike{', as the file begins' if order_changes(wiring) else ''}{by}"
     yield from order_changes(wiring)
 
 

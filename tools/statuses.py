@@ -30,7 +30,7 @@ MEANINGS = {
     Status.MISUSED: "a wrong call: an option, a number of files, an output that is an input or no regular file",
     Status.MISSING: "something that is needed isn't there or can't be built; what it is and how to get it is told",
     Status.UNTIL: "of a question: yes, but only until what is told (a trigger, a command)",
-    Status.UNLIKE: "a sound is not what the table says, or can't be measured whole, or a ring has no figure; what can be made of it is written all the same; of show: something looks wrong",
+    Status.UNLIKE: "a sound is not what the table says, or can't be measured whole, or a ring has no figure; what can be made of it is written all the same; of show, number and join: something looks wrong",
     Status.FAULT: "a fault of this software",
     Status.INTERRUPTED: "interrupted (Ctrl-C; by another signal 128 and its number)",
 }
