@@ -23,7 +23,9 @@ UNFIT = (
     r"that can be named from here",
     r"has no field",
     r"is not in scope",
+    # A test turned round.
     r"a dimension .{,60} is expected here",
+    r"one has `[\w.]*_≢_` \(expected\), at the start, and the other has `[\w.]*_≡_`",
     NEEDS,
 )
 SHAPE = (
