@@ -1,7 +1,7 @@
 """What is claimed and promised, word for word: the page of claims with what it brings in, the text of every record and
-proposition that a claim names, in turn what these name, and the whole contract of each call that users reach. All of it
-is kept in tests/claims.txt; a change there is seen by whoever reviews it. Names of the logic's own library mean what the
-library says: no definition or contract takes them from elsewhere.
+proposition that a claim names, in turn what these name, every definition behind them that no contract names, and the whole
+contract of each call that users reach. All of it is kept in tests/claims.txt; a change there is seen by whoever reviews it.
+Names of the logic's own library mean what the library says: no definition or contract takes them from elsewhere.
 
     python3 tests/kept.py           compares
     python3 tests/kept.py --write   writes tests/claims.txt anew
@@ -103,6 +103,48 @@ def propositions():
                   if where not in (PAGE,) and not text.startswith("pub record WorkedExamples"))
 
 
+def definition(path, name):
+    """The text of a definition of any kind, by its name in a file; else nothing."""
+    found = proposition(path, name)
+    if found:
+        return found
+    lines = path.read_text().splitlines() if path.exists() else []
+    for place, line in enumerate(lines):
+        if re.match(rf"(?: *(?:abbrev |unfoldable ))?pub {re.escape(name)} :", line):  # a field of a record has neither word, and stands deeper
+            text, place = block(lines, place)
+            while place < len(lines) and (re.match(rf" *{re.escape(name)}(?= |$)", lines[place]) or lines[place].lstrip().startswith("--")):
+                equation, place = block(lines, place)
+                text = text + equation
+            return plain("\n".join(text))
+    return ""
+
+
+def reached(path, text, seen):
+    """The definitions that a text of a file names, and in turn those that these name."""
+    places = {here: (file_of(module, path), there) for here, module, there in brought(path.read_text())}
+    for word in dict.fromkeys(re.findall(r"[^\s(){};,.λ]+", text)):
+        where, there = places.get(word, (path, word))
+        if where is None or (where, there) in seen:
+            continue
+        found = definition(where, there)
+        if found:
+            seen[(where, there)] = found
+            reached(where, found, seen)
+
+
+def unpromised():
+    """The definitions that the claims name, directly or through others, and no contract of a call that users reach does: nothing but
+    the claims holds them."""
+    of_claims, of_contracts = {}, {}
+    reached(PAGE, " ".join(claims()), of_claims)
+    for crate, name in REACHABLE:
+        for source in sorted((CRATES / crate / "src").glob("*.rt")):
+            reached(source, " ".join(head for found, head in contracts_of(crate) if found == name), of_contracts)
+    records = {place for place in of_claims if proposition(*place)}
+    return sorted(f"{where.relative_to(CRATES)}: {text}" for (where, name), text in of_claims.items()
+                  if (where, name) not in of_contracts and (where, name) not in records and where != PAGE)
+
+
 def promised():
     """The contract of each call that users reach."""
     for crate, name in REACHABLE:
@@ -115,7 +157,7 @@ def kept():
     """All lines that are kept."""
     lines = ["# What is claimed", *claims(), "", "# What the page of claims brings in"]
     lines += [plain(line) for line in PAGE.read_text().splitlines() if line.startswith("use ")]
-    lines += ["", "# What the claims name", *propositions(), "", "# What the calls that users reach promise", *promised()]
+    lines += ["", "# What the claims name", *propositions(), "", "# Definitions that the claims name and no contract does", *unpromised(), "", "# What the calls that users reach promise", *promised()]
     return lines
 
 
@@ -148,7 +190,7 @@ def main():
         KEPT.write_text("\n".join(kept()) + "\n")
         return
     found = list(faults())
-    print("\n".join(found) if found else f"{len(claims())} claims, {len(propositions())} records and propositions that they name and {len(REACHABLE)} contracts are as they are kept")
+    print("\n".join(found) if found else f"{len(claims())} claims, {len(propositions())} records and propositions that they name, {len(unpromised())} definitions that they alone name and {len(REACHABLE)} contracts are as they are kept")
     sys.exit(1 if found else 0)
 
 
