@@ -1,64 +1,62 @@
--- The place of a generator's kind among the counts, by the branches that the code takes.
+-- What a generator moves, by the branches that the code takes: the place of its kind, and what goes with it.
 -- Assumes nothing.
-use mathlib.Core.Path.{_≡_, _∙_}
+use mathlib.Core.Path.{_≡_, refl, _∙_}
 use mathlib.Core.Logic.{_≢_}
-use mathlib.Core.Bool.{true, false}
-use Prim.Native.Nat.{ℕ, _+_, _*_, _<_, _≤_}
-use native.Mathlib.Omega.{arith}
+use mathlib.Core.Bool.{Bool, true, false, _&&_}
+use Prim.Native.Nat.{ℕ, _+_, _-_, _*_}
 use borrow.Author.Tests.{eq-eqb, ne-eqb}
-use lib.Dec.{eqb}
+use lib.Dec.{eqb, leb}
+use Rattle.lists.specs.Lists.{isOneOf}
 use Rattle.layout.specs.Machine.{Machine, gsumAt, gfmAt}
 use Rattle.texts.specs.Texts.{runModeAt, dacNumberAt}
 use Rattle.texts.specs.declared.Text.the-variants.{Of1978}
-use Rattle.modes.specs.Modes.{readData, writeData, writeDAC, adds, replaces}
+use Rattle.modes.specs.Modes.{wait, free, readData, writeData, writeDAC, adds, replaces}
+use Rattle.modes.proofs.Exclusions.{on-not-off}
 use Rattle.modes.proofs.RunModes.{replaces-is}
-use Rattle.order_sums.specs.Places.{othersAt}
+use Rattle.order_agreement.specs.Agreement.{settingsOf, awaits}
+use Rattle.order_sums.specs.Places.{Kept, allReadersAt, awaitingAt}
+use Rattle.order_sums.specs.Moves.{moved, movedIf, kindMoved}
 use Rattle.order_counts.specs.Kept.{placeIn}
+use Rattle.order_counts.specs.KeptCounts.{roleMoved}
 
--- A place by its name, at most the last of the kinds.
-pub record Placed (m : Machine) (g i : ℕ) : Type 0 where
-  pub is : i ≡ placeIn m g
-  pub within : i ≤ othersAt
+module _ (up : Bool) (m : Machine) (k : Kept) (g : ℕ) {run : ℕ} (is : run ≡ runModeAt Of1978 m g) where
+  -- One that doesn't wait has no pair below it.
+  no-pair : eqb run wait ≡ false → awaits (settingsOf Of1978 m) g ≡ false
+  no-pair e = rw (← is, e) (go (leb 1 g) (free (runModeAt Of1978 m (g - 1))))
+    where
+      go : (b c : Bool) → ((b && false) && c) ≡ false
+      go true c = refl
+      go false c = refl
 
-module _ (m : Machine) (g : ℕ) {run : ℕ} (is : run ≡ runModeAt Of1978 m g) where
-  pub reader-place : run ≡ readData → {w : ℕ} → w ≡ gsumAt m g → w < 64 → Placed m g (0 + w)
-  unfolding placeIn
-  reader-place r {w} e l =
-      let q : replaces (runModeAt Of1978 m g) ≡ true = rw (← is) (replaces-is run ∙ eq-eqb run readData r) in
-      record { is = rw (q, ← e) (omega arith); within = omega arith }
+  -- One that neither is a 0111 nor waits moves its kind's count alone.
+  alone : eqb run readData ≡ false → eqb run wait ≡ false → {i : ℕ} → placeIn m g ≡ i → {left : Kept} → left ≡ kindMoved up k i → left ≡ roleMoved up m k g
+  unfolding movedIf
+  alone r w at e = e ∙ rw (no-pair w, ← is, replaces-is run, r, at)
 
-  module _ (no-reader : run ≢ readData) where
-    other : replaces (runModeAt Of1978 m g) ≡ false
-    other = rw (← is) (replaces-is run ∙ ne-eqb run readData no-reader)
+  pub adder-moved : adds run ≡ true → {w : ℕ} → w ≡ gsumAt m g → {left : Kept} → left ≡ kindMoved up k (64 + w) → left ≡ roleMoved up m k g
+  unfolding placeIn adds isOneOf
+  adder-moved a w-is =
+      let r : eqb run readData ≡ false = on-not-off adds run readData a refl in
+      let w : eqb run wait ≡ false = on-not-off adds run wait a refl in
+      alone r w (rw (← is, replaces-is run, r, a, w-is))
 
-    pub adder-place : adds run ≡ true → {w : ℕ} → w ≡ gsumAt m g → w < 64 → Placed m g (64 + w)
-    unfolding placeIn
-    adder-place a {w} e l =
-        let q : adds (runModeAt Of1978 m g) ≡ true = rw (← is) a in
-        record { is = rw (other, q, ← e); within = omega arith }
+  pub writer-moved : run ≡ writeData → {v : ℕ} → v ≡ gfmAt m g → {left : Kept} → left ≡ kindMoved up k (128 + v) → left ≡ roleMoved up m k g
+  unfolding placeIn replaces adds isOneOf
+  writer-moved h v-is = alone (rw h) (rw h) (rw (← is, h, v-is))
 
-    module _ (no-adder : adds run ≡ false) where
-      quiet : adds (runModeAt Of1978 m g) ≡ false
-      quiet = rw (← is) no-adder
+  pub feeder-moved : run ≡ writeDAC → {d v : ℕ} → d ≡ dacNumberAt Of1978 m g → v ≡ gfmAt m g → {left : Kept} → left ≡ kindMoved up k (256 + 128 * d + v) → left ≡ roleMoved up m k g
+  unfolding placeIn replaces adds isOneOf
+  feeder-moved h d-is v-is = alone (rw h) (rw h) (rw (← is, h, d-is, v-is))
 
-      pub writer-place : run ≡ writeData → {v : ℕ} → v ≡ gfmAt m g → v < 128 → Placed m g (128 + v)
-      unfolding placeIn
-      writer-place w {v} e l =
-          let q : eqb (runModeAt Of1978 m g) writeData ≡ true = rw (← is) (eq-eqb run writeData w) in
-          record { is = rw (other, quiet, q, ← e); within = omega arith }
+  pub reader-moved : run ≡ readData → {w : ℕ} → w ≡ gsumAt m g → {kind left : Kept} → kind ≡ kindMoved up k w → left ≡ moved up kind allReadersAt → left ≡ roleMoved up m k g
+  unfolding placeIn movedIf
+  reader-moved h w-is kind-is e =
+      let r : replaces run ≡ true = replaces-is run ∙ eq-eqb run readData h in
+      e ∙ rw (no-pair (rw h), ← is, r, kind-is, w-is)
 
-      module _ (no-writer : run ≢ writeData) where
-        kept : eqb (runModeAt Of1978 m g) writeData ≡ false
-        kept = rw (← is) (ne-eqb run writeData no-writer)
-
-        pub feeder-place : run ≡ writeDAC → {d v : ℕ} → d ≡ dacNumberAt Of1978 m g → d < 16 → v ≡ gfmAt m g → v < 128 → Placed m g (256 + 128 * d + v)
-        unfolding placeIn
-        feeder-place f {d} {v} e l a b =
-            let q : eqb (runModeAt Of1978 m g) writeDAC ≡ true = rw (← is) (eq-eqb run writeDAC f) in
-            record { is = rw (other, quiet, kept, q, ← e, ← a); within = omega arith }
-
-        pub other-place : run ≢ writeDAC → Placed m g 2304
-        unfolding placeIn
-        other-place f =
-            let q : eqb (runModeAt Of1978 m g) writeDAC ≡ false = rw (← is) (ne-eqb run writeDAC f) in
-            record { is = rw (other, quiet, kept, q); within = omega arith }
+  pub other-moved : adds run ≡ false → run ≢ writeData → run ≢ writeDAC → run ≢ readData
+      → {await : Bool} → await ≡ awaits (settingsOf Of1978 m) g → {kind left : Kept} → kind ≡ kindMoved up k 2304 → left ≡ movedIf await up kind awaitingAt → left ≡ roleMoved up m k g
+  unfolding placeIn movedIf
+  other-moved a w d r await-is kind-is e =
+      let n : replaces run ≡ false = replaces-is run ∙ ne-eqb run readData r in
+      e ∙ rw (kind-is, await-is, ← is, n, a, ne-eqb run writeData w, ne-eqb run writeDAC d)

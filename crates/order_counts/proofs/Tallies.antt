@@ -21,6 +21,7 @@ use Rattle.order_sums.proofs.Holds.{Holds, kind-moved, holds-same, readers-move
 use Rattle.order_counts.specs.Kept.{placeIn}
 use Rattle.order_counts.specs.KeptCounts.{Countable, awaited, generatorMoved, countedTo}
 use Rattle.order_counts.proofs.OfKinds.{place-below}
+use Rattle.order_counts.proofs.Steps.{counted-none, counted-next}
 
 -- The counts of the first t generators.
 abbrev pub Tally : Machine → ℕ → Kept → Type 0
@@ -221,7 +222,8 @@ one-more m t l o =
 
 -- Counted one after the other from zero they are counted.
 pub counted : (m : Machine) → Countable m → (t : ℕ) → t ≤ 256 → Tally m t (countedTo m t)
-unfolding countedTo countBelow
-counted m c zero l = zeros-hold (λ i. 0) (λ i. refl)
+unfolding countBelow
+counted m c zero l = rw (counted-none m) (zeros-hold (λ i. 0) (λ i. refl))
 counted m c (suc t) l =
-    all-of-it m (suc t) t l (generator-moved m (suc t) t l true (omega arith) c (countedTo m t) (one-more m t (omega arith) (counted m c t (omega arith))))
+    rw (counted-next m t)
+    (all-of-it m (suc t) t l (generator-moved m (suc t) t l true (omega arith) c (countedTo m t) (one-more m t (omega arith) (counted m c t (omega arith)))))

@@ -26,19 +26,26 @@ pub record Countable (m : Machine) : Type 0 where
 abbrev pub awaited : Machine → ℕ → ℕ → Bool
 awaited m t g = ltb (g + 1) t && awaits (settingsOf Of1978 m) (g + 1)
 
--- Generator g of the t first ones is put in or taken out: at its kind's place, among all 0111s if it is one, and with the pair below it and the pair above it.
-unfoldable pub generatorMoved : Bool → Machine → ℕ → Kept → ℕ → Kept
-generatorMoved up m t k g =
+-- Generator g is put in or taken out at its kind's place, among all 0111s if it is one, and with the pair below it.
+abbrev pub roleMoved : Bool → Machine → Kept → ℕ → Kept
+roleMoved up m k g =
     let kind = kindMoved up k (placeIn m g) in
     let read = movedIf (replaces (runModeAt Of1978 m g)) up kind allReadersAt in
-    let below = movedIf (awaits (settingsOf Of1978 m) g) up read awaitingAt in
-    movedIf (awaited m t g) up below awaitingAt
+    movedIf (awaits (settingsOf Of1978 m) g) up read awaitingAt
+
+-- Of the t first ones also with the pair above it.
+unfoldable pub generatorMoved : Bool → Machine → ℕ → Kept → ℕ → Kept
+generatorMoved up m t k g = movedIf (awaited m t g) up (roleMoved up m k g) awaitingAt
 
 -- The same where it is below T; one from T on counts for nothing.
 unfoldable pub countedMoved : Bool → Machine → Kept → ℕ → Kept
 countedMoved up m k g = cond (ltb g (ticksOf m)) (generatorMoved up m (ticksOf m) k g) k
 
--- The generators below n are put in, one after the other.
-unfoldable pub countedTo : Machine → ℕ → Kept
-countedTo m zero = zeros keptLength
-countedTo m (suc n) = generatorMoved true m (suc n) (countedTo m n) n
+-- The n generators from a number on are put in or taken out, one after the other.
+unfoldable pub rolesMoved : Bool → Machine → Kept → ℕ → ℕ → Kept
+rolesMoved up m k from zero = k
+rolesMoved up m k from (suc n) = roleMoved up m (rolesMoved up m k from n) (from + n)
+
+-- The generators below n are put in.
+abbrev pub countedTo : Machine → ℕ → Kept
+countedTo m n = rolesMoved true m (zeros keptLength) 0 n

@@ -1,10 +1,11 @@
 // Counts of generators kept as a run of words with sums of them, brought up to date one count at a time.
 ghost use mathlib.Core.Path.{_≡_};
-ghost use Prim.Native.Nat.{_<_, _≤_};
+ghost use Prim.Native.Nat.{_<_, _^_};
 ghost use lib.ListN.{getD};
-ghost use Rattle.layout.specs.Layout.{dacs};
-ghost use Rattle.order_sums.specs.Places.{othersAt, keptLength};
-ghost use Rattle.order_sums.specs.Moves.{stepOf, stepped, moved, movedIf, fedMoved, sumsMoved, kindMoved};
+ghost use Rattle.layout.specs.Layout.{dacs, quadrantWords};
+ghost use Rattle.layout.specs.Widths.{gfmBits};
+ghost use Rattle.order_sums.specs.Places.{readersAt, addersAt, writersAt, feedersAt, othersAt, keptLength};
+ghost use Rattle.order_sums.specs.Moves.{stepOf, stepped, moved, movedIf, otherKind, fedMoved, kindMoved};
 
 // Where the counts of 0111s and of adding generators by sum word stand, of writers by GFM, and of feeders by DAC and GFM;
 // of the generators that are none of these; of all 0111s; of the generators that wait and have a lower neighbour that can trigger.
@@ -52,7 +53,7 @@ fn step(up: bool) -> u32
 }
 
 // The word at place i is raised or lowered by 1. What it then is.
-fn shift(kept: &mut Kept, i: usize, up: bool) -> u32
+pub fn shift(kept: &mut Kept, i: usize, up: bool) -> u32
     requires { ⌜ i < keptLength ⌝ }
     ensures { λ r. ⌜ now (kept .exit) ≡ moved up (now (kept .entry)) i ⌝ }
     ensures { λ r. ⌜ r ≡ stepped up (getD (now (kept .entry)) i 0) ⌝ }
@@ -82,32 +83,60 @@ fn shift_fed(kept: &mut Kept, d: usize, up: bool)
     shift_if(kept, PARTED_AT, up, n == 1 + up as u32);
 }
 
-// The sums, where the count at place i has begun or ceased to be 0.
-fn shift_sums(kept: &mut Kept, i: usize, up: bool)
-    requires { ⌜ i ≤ othersAt ⌝ }
-    ensures { λ r. ⌜ now (kept .exit) ≡ sumsMoved up (now (kept .entry)) i ⌝ }
-{
-    if i < WRITERS_AT {
-        let other = kept[(i + layout::QUADRANT_WORDS) % WRITERS_AT];
-        shift_if(kept, SHARED_AT, up, other != 0);
-        return;
-    }
-    if i < FEEDERS_AT {
-        shift(kept, WRITTEN_AT, up);
-        return;
-    }
-    if i < OTHERS_AT {
-        shift_fed(kept, (i - FEEDERS_AT) / SOURCES, up);
-    }
-}
-
-// One generator of the kind at place i more or fewer, with the sums.
-pub fn shift_kind(kept: &mut Kept, i: usize, up: bool)
-    requires { ⌜ i ≤ othersAt ⌝ }
+// One generator more or fewer of the kind at place i, which is by sum word; the other kind on the same word stands at place other.
+// That one is looked at first: on most words it is not there.
+fn shift_on_word(kept: &mut Kept, i: usize, other: usize, up: bool)
+    requires { ⌜ (i < writersAt 0) × (other ≡ otherKind i) ⌝ }
     ensures { λ r. ⌜ now (kept .exit) ≡ kindMoved up (now (kept .entry)) i ⌝ }
 {
     let n = shift(kept, i, up);
-    if n == up as u32 {
-        shift_sums(kept, i, up);
+    if kept[other] == 0 {
+        return;
     }
+    shift_if(kept, SHARED_AT, up, n == up as u32);
+}
+
+// One 0111 of word w more or fewer, with the sums.
+pub fn shift_reader(kept: &mut Kept, w: usize, up: bool)
+    requires { ⌜ w < quadrantWords ⌝ }
+    ensures { λ r. ⌜ now (kept .exit) ≡ kindMoved up (now (kept .entry)) (readersAt w) ⌝ }
+{
+    shift_on_word(kept, READERS_AT + w, ADDERS_AT + w, up);
+}
+
+// One adding generator of word w more or fewer, with the sums.
+pub fn shift_adder(kept: &mut Kept, w: usize, up: bool)
+    requires { ⌜ w < quadrantWords ⌝ }
+    ensures { λ r. ⌜ now (kept .exit) ≡ kindMoved up (now (kept .entry)) (addersAt w) ⌝ }
+{
+    shift_on_word(kept, ADDERS_AT + w, READERS_AT + w, up);
+}
+
+// One writer from source v more or fewer, with the sums.
+pub fn shift_writer(kept: &mut Kept, v: usize, up: bool)
+    requires { ⌜ v < 2 ^ gfmBits ⌝ }
+    ensures { λ r. ⌜ now (kept .exit) ≡ kindMoved up (now (kept .entry)) (writersAt v) ⌝ }
+{
+    let n = shift(kept, WRITERS_AT + v, up);
+    if n == up as u32 {
+        shift(kept, WRITTEN_AT, up);
+    }
+}
+
+// One feeder of DAC d from source v more or fewer, with the sums.
+pub fn shift_feeder(kept: &mut Kept, d: usize, v: usize, up: bool)
+    requires { ⌜ (d < dacs) × (v < 2 ^ gfmBits) ⌝ }
+    ensures { λ r. ⌜ now (kept .exit) ≡ kindMoved up (now (kept .entry)) (feedersAt d v) ⌝ }
+{
+    let n = shift(kept, FEEDERS_AT + SOURCES * d + v, up);
+    if n == up as u32 {
+        shift_fed(kept, d, up);
+    }
+}
+
+// One generator more or fewer that is none of these: no sum moves.
+pub fn shift_other(kept: &mut Kept, up: bool)
+    ensures { λ r. ⌜ now (kept .exit) ≡ kindMoved up (now (kept .entry)) othersAt ⌝ }
+{
+    shift(kept, OTHERS_AT, up);
 }
