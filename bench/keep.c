@@ -177,7 +177,6 @@ static int alike(int lists, int length) {
             if (draw(1)) c.generator = draw(16) % (m[PROVED][T] + 1);
             if (draw(2) == 0) c.kind = KARVELORN_TICK_MORE + draw(1);
             if (draw(4) == 0) c.kind = draw(4), c.generator = draw(9), c.value = draw(11);
-            if (c.kind == KARVELORN_CHANGE_GMODE) c.value &= ~4u; /* oscillator mode 0100 apart */
             uint32_t number[2];
             for (int side = PROVED; side <= PLAIN; side++)
                 number[side] = changes[side](m[side], KARVELORN_WORDS, kept[side], c.kind, c.generator, c.value);
