@@ -5,36 +5,31 @@
  *     target/join_host examples/low_bell.txt examples/high_bell.txt > target/both_bells.txt
  *     ./hear target/both_bells.txt
  *
- * So the low bell is heard on the left as it is alone, and the high one on the right. The files have one line passes=N
- * and lines word=PLACE:VALUE, no commands; the passes are the first's. A refusal prints refused=N: N is the question's
- * number in karvelorn.h, or 9 for a file that is none of these.
+ * So the low bell is heard on the left as it is alone, and the high one on the right. The files are of 1978 and have no
+ * commands; the passes are the first's. A refusal prints refused=N: N is the question's number in karvelorn.h, 8 for a
+ * file with commands, 9 for one that can't be read or follows the older text.
  */
 #include <inttypes.h>
-#include <stdbool.h>
 #include <stdint.h>
 #include <stdio.h>
 
 #include "karvelorn.h"
 
-/* Places of a machine; karvelorn.h lists them all. */
-enum { T = 4113, N = 4114, OVERHEAD = 8, NOT_A_BENCH_FILE = 9 };
+/* A bench file has at most so many bytes; a byte more is enough to see that it is too long. */
+enum { FILE_MOST = 65536, NOT_A_BENCH_FILE = 9 };
 
-/* The update ticks of T and N, which a host that sets T or N itself must set too. */
-static uint32_t update_ticks(uint64_t t, uint64_t n) { return n > t + OVERHEAD ? (uint32_t)(n - t - OVERHEAD) : 0; }
-
-/* Reads a bench file without commands into a fresh machine; says whether it is one. */
-static bool read_bell(const char *path, uint32_t *machine, uint32_t *passes) {
-    uint32_t place, value;
-    FILE *file = fopen(path, "r");
-    if (!file) return false;
-    karvelorn_fresh(machine, KARVELORN_WORDS);
-    bool good = fscanf(file, "passes=%" SCNu32 "\n", passes) == 1;
-    while (good && !feof(file)) {
-        good = fscanf(file, "word=%" SCNu32 ":%" SCNu32 "\n", &place, &value) == 2 && place < KARVELORN_UPDATE_TICKS;
-        if (good) machine[place] = value;
-    }
-    machine[KARVELORN_UPDATE_TICKS] = update_ticks(machine[T], machine[N]);
-    return fclose(file) == 0 && good;
+/* Reads a bench file of 1978 into a machine; there is no place for commands, so one that has any is refused. Gives the
+ * number of the refusal, or 0. */
+static uint32_t read_bell(const char *path, uint32_t *machine, uint32_t *passes) {
+    static uint8_t bytes[FILE_MOST + 1];
+    uint32_t text;
+    size_t commands;
+    FILE *file = fopen(path, "rb");
+    if (!file) return NOT_A_BENCH_FILE;
+    size_t length = fread(bytes, 1, sizeof bytes, file);
+    if (fclose(file) != 0) return NOT_A_BENCH_FILE;
+    uint32_t number = karvelorn_read(bytes, length, machine, KARVELORN_WORDS, NULL, 0, &text, passes, &commands);
+    return number == 0 && text != KARVELORN_TEXT_1978 ? NOT_A_BENCH_FILE : number;
 }
 
 /* Writes a machine as a bench file: the words that are not those of a fresh machine. */
@@ -48,13 +43,14 @@ static void write_bell(const uint32_t *machine, uint32_t passes) {
 
 int main(int count, char **arguments) {
     static uint32_t first[KARVELORN_WORDS], second[KARVELORN_WORDS];
-    uint32_t passes, others, number = NOT_A_BENCH_FILE;
+    uint32_t passes, others;
     if (count != 3) {
         fprintf(stderr, "usage: join_host FIRST-FILE SECOND-FILE\n");
         return 2;
     }
-    if (read_bell(arguments[1], first, &passes) && read_bell(arguments[2], second, &others))
-        number = karvelorn_join(first, KARVELORN_WORDS, second, KARVELORN_WORDS);
+    uint32_t number = read_bell(arguments[1], first, &passes);
+    if (!number) number = read_bell(arguments[2], second, &others);
+    if (!number) number = karvelorn_join(first, KARVELORN_WORDS, second, KARVELORN_WORDS);
     if (number)
         printf("refused=%" PRIu32 "\n", number);
     else

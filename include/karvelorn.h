@@ -869,7 +869,13 @@ uint32_t karvelorn_chain(const uint32_t *entries, size_t entries_len, const uint
                          uint32_t numbers[KARVELORN_MODIFIERS]);
 
 /* Reads a bench file: the machine that it begins with, its commands, how many passes it is to be rung, and which text it
- * follows. README has the form of a bench file. A host then rings it as the program ring does: so many passes by number
+ * follows. Its lines, each ended by LF, with decimal numbers without leading zeros:
+ *   text=1978 or text=old   first, if at all; without it 1978
+ *   passes=N                then, once: 0 to 65535
+ *   word=PLACE:VALUE        then words of the machine as it begins, on a fresh one: places 0 to 4342, values below 2^32. Of
+ *                           two for one place the later holds
+ *   command=XXXXXXXX        then commands, eight hexadecimal capitals; none in a file of the older text
+ * A host then rings it as the program ring does: so many passes by number
  * (karvelorn_pass, or karvelorn_old_pass for KARVELORN_TEXT_OLD) over a delay memory that is zero at first, each followed
  * by karvelorn_update with the commands still left, but by none for KARVELORN_TEXT_OLD.
  *

@@ -20,7 +20,7 @@ FLAGS = ("-std=c99", "-Wall", "-Wextra", "-Werror", "-pedantic", "-O1", "-g", "-
          "-fno-sanitize-recover=all")
 NO_LEAKS = {**os.environ, "ASAN_OPTIONS": "detect_leaks=0"}
 LOW, HIGH = (os.path.join(ROOT, "examples", f"{name}_bell.txt") for name in ("low", "high"))
-REFUSED = ((LOW, LOW, 18), (os.path.join(ROOT, "examples", "short_bell.txt"), HIGH, 9),
+REFUSED = ((LOW, LOW, 18), (os.path.join(ROOT, "examples", "short_bell.txt"), HIGH, 8),
            (os.path.join(ROOT, "examples", "bell.txt"), HIGH, 17), (LOW, os.path.join(ROOT, "VERSION"), 9))
 
 
