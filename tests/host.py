@@ -5,7 +5,7 @@
 Run from the repository root. Builds examples/ring_host.c with include/karvelorn.h and
 target/staticlib/libkarvelorn.a, with the address and undefined-behaviour sanitizers on and
 tests/host_guard.c before each call, and rings the files of tests/ring_files.py, COUNT of
-them at random, and every third of those that tests/text_files.py makes by hand: the host
+them at random, and every ninth of those that tests/text_files.py makes by hand: the host
 must print what the reference does, and the sanitizers nothing.
 Fails too where the files met something too seldom. With --dry nothing is built or run.
 """
@@ -71,7 +71,7 @@ def main(arguments):
     if not options.dry and not (header_compiles() and build()):
         print("host: a compiler refused")
         return 1
-    files = chain(by_hand(), islice(text_files.by_hand(), 0, None, 3), at_random(options.count, options.seed))
+    files = chain(by_hand(), islice(text_files.by_hand(), 0, None, 9), at_random(options.count, options.seed))
     return compared("host", HOST, files, options, NO_LEAKS)
 
 
