@@ -5,7 +5,7 @@
 Run from the repository root. Builds examples/ring_host.c with include/karvelorn.h and
 target/staticlib/libkarvelorn.a, with the address and undefined-behaviour sanitizers on and
 tests/host_guard.c before each call, and rings the files of tests/ring_files.py, COUNT of
-them at random, and every third of those that tests/text_files.py makes by hand: the host
+them at random, and every ninth of those that tests/text_files.py makes by hand: the host
 must print what target/bin/ring does, which tests/ring.py compares with the reference on
 these very files, and the sanitizers nothing. Fails too where the files met something too
 seldom. With --dry nothing is built or run, and the reference answers.
@@ -76,7 +76,7 @@ def main(arguments):
         return 1
     if not options.dry:
         ring_files.ring = lambda text, seen: printed_by(RING, text, {})[0]
-    files = chain(ring_files.by_hand(), islice(text_files.by_hand(), 0, None, 3), ring_files.at_random(options.count, options.seed))
+    files = chain(ring_files.by_hand(), islice(text_files.by_hand(), 0, None, 9), ring_files.at_random(options.count, options.seed))
     return compared("host", HOST, files, options, NO_LEAKS, TOLD)
 
 

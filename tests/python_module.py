@@ -25,7 +25,7 @@ HOME = Path(ROOT)
 sys.path[:0] = [str(HOME / "tools"), str(HOME / "python")]
 import sharing  # noqa: E402
 
-COUNT, SEED, SHORT = 40, 1978, 400  # files with more passes are left to the program itself
+COUNT, SEED, SHORT = 15, 1978, 400  # files with more passes are left to the program itself
 RING = HOME / "target" / "bin" / "ring"
 
 
