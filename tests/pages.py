@@ -11,7 +11,7 @@ from pathlib import Path
 ROOT = Path(__file__).resolve().parent.parent
 CRATES = ROOT / "crates"
 PAGE = ROOT / "docs" / "ARCHITECTURE.md"
-NAMING = (PAGE, ROOT / "README.md", *(ROOT / "docs" / f"{page}.md" for page in ("DECISIONS", "TOUR", "FILE", "C", "HEAR", "ORDERS", "BELLS", "TESTED")))
+NAMING = (PAGE, ROOT / "README.md", *(ROOT / "docs" / f"{page}.md" for page in ("MAP", "WRONG-ENGINES", "DECISIONS", "TOUR", "FILE", "C", "HEAR", "ORDERS", "BELLS", "TESTED")))
 
 
 def section(text, head):

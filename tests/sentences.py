@@ -1,5 +1,5 @@
 """Every sentence of the scope document, and of each request of document 02 that has landed, stands in
-docs/ARCHITECTURE.md, in full; the scope's named forms in docs/DECISIONS.md.
+docs/MAP.md, in full; the scope's named forms in docs/DECISIONS.md.
 
     python3 tests/sentences.py [SCOPE]
 
@@ -11,7 +11,7 @@ import sys
 from pathlib import Path
 
 ROOT = Path(__file__).resolve().parent.parent
-PAGES = (ROOT / "docs" / "ARCHITECTURE.md", ROOT / "docs" / "DECISIONS.md")
+PAGES = (ROOT / "docs" / "MAP.md", ROOT / "docs" / "DECISIONS.md")
 BESIDE = ROOT.parent / "shared" / "docs" / "01-scope.md"
 REQUESTS = "02-change-requests.md"
 
