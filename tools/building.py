@@ -24,7 +24,7 @@ PROVED = re.compile(r"rt: (\w+) proved \((.*)\)")
 LOG, LOG_SHOWN = TARGET / "build.log", 20
 CRATE_MEMORY = 1.5e9  # bytes that a crate's proof may need
 # Estimates: a crate costs so much, and more the more crates stand below it. Measured: `wav` from nothing, two idle cores.
-CRATE_COST, MEASURED, MEASURED_SECONDS, MEASURED_CORES = 20, "wav", 261, 2
+CRATE_COST, MEASURED, MEASURED_SECONDS, MEASURED_CORES = 20, "wav", 580, 2
 
 
 def dependencies():
