@@ -1,9 +1,10 @@
 /* karvelorn.h: a 1978 synthesizer in whole numbers, for a host in C99 or C++.
  *
- * The library is target/staticlib/libkarvelorn.a (made by `rt staticlib karvelorn`), for x86-64. It needs only memcpy, memset and
- * memcmp of the C library, keeps nothing between calls, allocates nothing and prints nothing. Calls on different
- * machines may run at the same time. examples/ring_host.c is a whole host to start from. Below: what a host must see to,
- * the questions, the words of a machine, how to write a bell, delay units, the older text; then names and the calls.
+ * The library is libkarvelorn.a (target/staticlib, made by `rt staticlib karvelorn`) or libkarvelorn.so, for x86-64. It
+ * needs nothing but memcpy, memset and memcmp of the C library, keeps nothing between calls, allocates nothing and prints
+ * nothing. Calls on different machines may run at the same time. examples/ring_host.c is a whole host to start from, and a
+ * small one stands below. Below: what a host must see to, the questions, the words of a machine, how to write a bell,
+ * delay units, the older text; then names and the calls.
  *
  * A run of words is a pointer to its first uint32_t and then how many words it has. A machine is a run that the host
  * owns, and so is the delay memory beside it, which a pass is handed; between calls the host may read and write any of
@@ -58,7 +59,8 @@
  * A refused call leaves every run as it was, but for an update that refuses a command (3 or 4): what it did before that
  * command stays done.
  *
- * The words of a machine (a signed register is kept as its two's-complement bits, in its own width):
+ * The words of a machine. A signed one is kept as its two's-complement bits, in its own width: signed are GO, GJ, GK, GP,
+ * M0, M1, L0, L1, sum memory, the DACs and delay memory, and no others:
  *   11g ..         generator g, 0 to 255: GO (20 bits), GJ (28), GK (20), GN (11), GM (4), GP (20), GQ (24), GL (12),
  *                  GSUM (6), GFM (7), GMODE (10)
  *   2816 + 8m ..   modifier m, 0 to 127: M0 (30), M1 (30), L0 (20), L1 (20), MIN (8), MRM (8), MSUM (7), MMODE (9)
@@ -79,29 +81,58 @@
  * Modes and addresses, from the left bit on (names for all of these stand below, before the calls):
  *   GMODE   run mode (4 bits), envelope mode (2), oscillator mode (4)
  *   GFM     0 generator-last or 1 modifier-last, then the word (6)
- *   MMODE   function (5), AA, the scale of the second multiplication (2), BB, of the first (2)
+ *   MMODE   function (5), AA, the scale of products with M0 (2), BB, the scale of products with M1 (2)
  *   MIN     and MRM: 00 generator-last, 01 modifier-last or 10 modifier-this, then the word (6). In 00111 MRM's low 5
  *           bits name the delay unit
  *   MSUM    0 adds or 1 replaces, then the word of modifier-this (6)
  *   P       0000 inactive, 1000 delay line, 1010 table, 1011 table with its argument rounded; others are not built
  *
- * To write a bell. Of each register the value before the turn is meant, / is exact division, floor(x) the largest whole
- * number not above x. Every sum is reduced to the low bits of its register.
+ * To write a bell. Here is one partial of 440 Hz at DAC 0, which falls by 60 dB in 3 s, rung for 2 s; what its numbers
+ * mean is said below.
+ *     static uint32_t m[KARVELORN_WORDS], memory[KARVELORN_MEMORY_WORDS], order[2] = {0, 1};
+ *     uint8_t clipped[KARVELORN_MARKS];
+ *     size_t read, written, taken;
+ *     karvelorn_fresh(m, KARVELORN_WORDS);
+ *     m[KARVELORN_T] = 2;
+ *     m[KARVELORN_UPDATE_TICKS] = karvelorn_update_ticks(m[KARVELORN_T], m[KARVELORN_N]);
+ *     m[karvelorn_generator(0, KARVELORN_GJ)] = 256 * 23841;
+ *     m[karvelorn_generator(0, KARVELORN_GP)] = 180;
+ *     m[karvelorn_generator(0, KARVELORN_GSUM)] = 1;
+ *     m[karvelorn_generator(0, KARVELORN_GFM)] = 63;
+ *     m[karvelorn_generator(0, KARVELORN_GMODE)] =
+ *         karvelorn_gmode(KARVELORN_RUN_STICKY, KARVELORN_EXPONENTIAL_PLUS, KARVELORN_SINE);
+ *     m[karvelorn_generator(1, KARVELORN_GFM)] = 1;
+ *     m[karvelorn_generator(1, KARVELORN_GMODE)] = karvelorn_gmode(KARVELORN_RUN_DAC, 0, 0);
+ *     for (int pass = 0; pass < 2 * 19352; pass++) {
+ *         uint32_t refused = karvelorn_pass(m, KARVELORN_WORDS, order, 2, NULL, 0, NULL, 0, memory,
+ *                                           KARVELORN_MEMORY_WORDS, &read, &written, clipped);
+ *         if (!refused) refused = karvelorn_update(m, KARVELORN_WORDS, NULL, 0, &taken);
+ *         if (refused) return puts(karvelorn_question(refused)), 1;
+ *         play(karvelorn_sample(m[karvelorn_dac(0)]));
+ *     }
+ * The order names 0 to T-1 once each; by number is usual, and karvelorn_any_order tells where every other rings alike. An
+ * update follows every pass, with no commands too: a Linger that waits ends only in an update at exactly its pass.
+ *
+ * Below, of each register the value before the turn is meant, / is exact division, floor(x) the largest whole number not
+ * above x. Every sum is reduced to the low bits of its register.
  *
  * Time. A tick takes 195 ns. A pass is one sample and takes N ticks, so that there are rate = 1 / (N * 195 ns) passes a
  * second, 19351.7 with the N of a fresh machine, 265. Of the N ticks the first T are processing ticks (generator g has a
  * turn where g < T, modifier m where m < T div 2), 8 are overhead and the others, N-T-8, update ticks, each for one
- * command. So T is at least the number of generators, twice that of modifiers and 4u + 10 for delay unit u; N follows from
- * the rate, and is at least T + 8 and the commands that one update is to take.
+ * command. So T is at least g + 1 for every generator g that is used, those for the DACs too, 2m + 2 for modifier m and
+ * 4u + 10 for delay unit u; N follows from the rate, and is at least T + 8 and the commands that one update is to take.
  *
  * Pitch. GK is the angle, 2^20 a whole turn. Where the oscillator is on, each pass adds J to it: J = floor(GJ / 256) + F,
  * with F the word that GFM names. With F = 0 the pitch is
  *     floor(GJ / 256) / 2^20 * rate Hz,    so    GJ = 256 * round(Hz / rate * 2^20)
- * for Hz below rate / 2, in steps of rate / 2^20 (0.0185 Hz with N = 265). GJ's low 8 bits are for the sweep alone: where
- * the oscillator is on, each pass then adds GO to GJ, and the pitch moves by GO / 2^28 * rate Hz a pass. F modulates the
- * frequency, by F / 2^20 * rate Hz. Every generator has an F: a GFM of 0 is generator-last word 0, not none. So a partial
- * that is not to be modulated needs a GFM whose word stays 0, one that nothing is added to: with all GSUMs other than 63,
- * 63 is such a one, and 127 with no modifier there. A phase is set by GK itself: 2^18 is a quarter turn.
+ * for Hz below rate / 2, in steps of rate / 2^20 (0.0185 Hz with N = 265). By command that is
+ *     karvelorn_load_gj_left(g, round(Hz / rate * 2^20))
+ * while DX is 0, as it is in a fresh machine and after each load that ends in _left; karvelorn_load_gj alone sets only the
+ * low 20 bits, with their sign. GJ's low 8 bits are for the sweep alone: where the oscillator is on, each pass then adds
+ * GO, signed, to GJ, and the pitch moves by GO / 2^28 * rate Hz a pass. F modulates the frequency, by F / 2^20 * rate Hz.
+ * Every generator has an F: a GFM of 0 is generator-last word 0, not none. So a partial that is not to be modulated needs
+ * a GFM whose word stays 0: 63 if no GSUM is 63, 127 if no MSUM names word 63. A phase is set by GK itself: 2^18 is a
+ * quarter turn.
  *
  * Wave. K = floor(GK / 128), or floor(J / 128) in oscillator mode 1000, is the angle in 13 bits, -4096 to 4095 for half a
  * turn on either side. The wave W by the oscillator mode:
@@ -111,8 +142,8 @@
  *   1000    the same of J: a sine whose angle is GJ and a sum word (phase modulation); it doesn't depend on GK
  *   0001    sawtooth: K, but 0 at -4096
  *   0010    square: -2048 where K is negative, else 2048
- *   0011    pulse train: 2048 in a pass in which floor(GJ / 256) + F, or GK + J where the oscillator is on, left -2^19 to
- *           2^19-1 as a signed sum; else 0. So one pulse a turn
+ *   0011    pulse train: 2048 in a pass in which floor(GJ / 256) + F, or GK + J where the oscillator is on, goes out of
+ *           the range -2^19 to 2^19-1 as a signed sum; else 0. So one pulse a turn
  *   0100    sum of cosines, band-limited pulses: floor(4095 * |s| / (|d| * 2^GM)), at most 4095, with the sign of s * d,
  *           where s is the sine above at the index 2 * GN * K (its low 13 bits) and d that at K, both before any shift.
  *           With the angle x = 2 pi K / 8192 this is 4095 / 2^GM * 2 * (cos x + cos 3x + .. + cos (2 GN - 1)x): GN
@@ -123,36 +154,47 @@
  * 0 to 2^24 - 1:
  *   00, 01  linear: Q = floor(GQ / 4096)
  *   10, 11  exponential: with h = floor(GQ / 1024), Q is entry h mod 1024 shifted right by h div 1024 places, and entry f
- *           is floor(4093 * 2^(-f / 1024)): about 4093 * 2^(-GQ / 2^20), 1024 steps a halving, 16 halvings to the end
+ *           is floor(4093 * 2^(-f / 1024)): about 4093 * 2^(-GQ / 2^20), 1024 steps a halving. GQ has room for 16
+ *           halvings, but Q is 0 from the 12th on, at GQ = 12581888; it is rounded down, so a partial that is nearly gone
+ *           falls by steps, and a little faster
  * P has the sign of W and the magnitude floor((|W| * V + 32) / 64), at most 262016: half of what a sum word holds, so one
- * sine at V = 4095 is -6.02 dB. A sine with GM 0 has a peak of about 64 * V. P is added into the word GSUM of
- * generator-this-pass (in 0111 P plus the next read item replaces it); the next pass finds the sum in generator-last.
+ * sine at V = 4095 is -6.02 dB. A sine with GM 0 has a peak of about 64 * V: so a level of so many dB below that is
+ * V = 4093 * 10^(dB / 20), and sines that share a GSUM can't clip while their V together are at most 8191. P is added into
+ * the word GSUM of generator-this-pass (in 0111 P plus the next read item replaces it); the next pass finds the sum in
+ * generator-last.
  *
  * Envelope. Where the envelope is on, each pass then adds GP, signed, to GQ. A partial that dies away has envelope mode
  * 11, GL 0 and
  *     GQ = 2^20 * log2(4093 / V at the beginning),    GP = 2^20 * 9.966 / (T60 * rate)
- * where T60 is the time in seconds to fall by 60 dB (9.966 halvings). A linear fall from V = L to 0 in n passes: mode 01,
- * GL 0, GQ = 4096 * L, GP = -4096 * L / n. A steady level: mode 01, GP 0. A GQ that would leave 0 to 2^24 - 1 overflows.
- * The run modes differ in that, and in what is on:
+ * both rounded, where T60 is the time in seconds to fall by 60 dB (9.966 halvings); rounding makes it longer or shorter by
+ * up to 1 / (2 GP) of itself. To damp a partial, load a larger GP: run mode 0000 cuts it off at once, which clicks. A
+ * linear fall from V = L to 0 in n passes: mode 01, GL 0, GQ = 4096 * L, GP = -floor(4096 * L / n), rounded towards 0 (with
+ * one more the last addition would overflow, and a sticky generator sounds on for ever). A steady level: mode 01, GP 0. A
+ * GQ that would go below 0 or above 2^24 - 1 overflows. The run modes differ in that, and in what is on:
  *   0000, 0001  inactive, pause: nothing is on. A MISC command makes every pause a 1111
- *   1111        oscillator, envelope, adding. Sticky: GQ stays at its last value. A bell's partial
+ *   1111        oscillator, envelope, adding. Sticky: an addition that would overflow isn't made, and GQ keeps the value
+ *               that it had. A bell's partial
  *   1110        the same, but free: GQ wraps, so that the envelope begins again and again, and each overflow triggers
  *   1101        the same, free, once: an overflow wraps and triggers, and the generator goes to 1001 for the next pass
  *   1001        wait: the oscillator turns, nothing is heard. It goes to 1101 for the next pass if generator g-1 was taken
  *               earlier in this pass and triggered (was in 1110 or 1101 and overflowed). A MISC command makes it a 1111
- *   0111        read data: envelope, sticky; P plus the next read item replaces the sum word
- *   0011        write data: F is the next written item
- *   0010        DAC: F goes to the DAC that GO's low 4 bits name. What a bell needs to be heard, one for each DAC, with GFM
- *               the word that its partials have as GSUM; it is heard one pass later
+ *   0111        read data: envelope, sticky, the oscillator off; P plus the next read item replaces the sum word
+ *   0011        write data: F is the next written item. Neither oscillator nor envelope is on, and nothing is added
+ *   0010        DAC: F goes to the DAC that GO's low 4 bits name, the rest as in 0011. What a bell needs to be heard, one
+ *               for each DAC, with GFM the word that its partials have as GSUM: they are heard one pass later. By way of a
+ *               modifier GFM is 64 plus the word of its MSUM, and they are heard two passes later; so beside a side that
+ *               needs a modifier another may want one of gain 1 (mixing with AA 1 and M0 2^28). A DAC word that nothing
+ *               feeds any more keeps its value
  * Other run and oscillator modes are not built.
  *
  * Modifiers. A is the word that MIN names, B that of MRM; S goes to the word of MSUM. A product of two words of 20 bits
  * takes both as fractions of 2^19: a * b with scale s, 0 to 3, is floor((ab * 2^s + 2^18) / 2^19), so that 2^s is 1, 2, 4
- * or 8. An integer product, a ** b here, is floor(ab * 2^s / 4): 1/4, 1/2, 1 or 2. Each is reduced to 20 bits. Of M0 and
- * M1 the high 20 bits count, floor(M / 1024), so that M = 2^29 - 1 is nearly 1. The scale of a product with M1, the first
- * multiplication, is BB; that of a product with M0, the second, is AA, and so is that of A*B, A*((B+1)/2) and B*L0, where
- * (B+1)/2 is floor((B + 2^19) / 2).
- *   00000 inactive                S := 0
+ * or 8. An integer product, a ** b here, is floor(ab * 2^s / 4): 1/4, 1/2, 1 or 2. Each is reduced to 20 bits, and so are
+ * sums: they wrap, and no mark tells of it. Of M0 and M1 the high 20 bits count, floor(M / 1024), so that M = 2^29 - 1 is
+ * nearly 1. AA scales the products with M0 (in the 1978 text the second multiplication), and A*B, A*((B+1)/2) and B*L0,
+ * where (B+1)/2 is floor((B + 2^19) / 2); BB scales those with M1 (the first). So mixing with M0 = 2^28, AA 0 and M1 = 0
+ * is A by -6.02 dB. Modifier-this is cleared in each pass: for a word with one writer adding and replacing are alike.
+ *   00000 inactive                S := 0 (where MSUM replaces, what lower modifiers put into the word is gone)
  *   00010 noise                   S := L0 + L1**M0;  L1 := S
  *   00011 triggered noise         S := L0 + L1**M0;  if B**M1 is not 0, L1 := S
  *   00100 latch                   S := L1;  if B*M1 is not 0, L1 := A
@@ -200,10 +242,13 @@
  *   Question 2  GMODE has 8 bits, with modes as below, and MMODE a function as below. All other words are asked as above
  *   GMODE       run mode (3 bits), each switched as a run mode of 1978: 000 inactive, 001 pause, 010 running (1111), 011
  *               running (1110), 101 running (1101), 100 wait (1001), 110 read data (0111), 111 sends. Envelope mode (2):
- *               00 and 10 add Q to GL, 01 and 11 take it from GL, where Q is the high 12 bits of GQ or, in 10 and 11,
- *               the exponential of these. Oscillator mode (3), of 12 bits: 001 square, 010 sawtooth, 011 pulse train,
- *               100 cosine of GK, 101 cosine of J; 000, a sum of cosines, is good in run mode 000 alone and never heard.
- *               110 and 111 are not built
+ *               00 and 10 add Q to GL, 01 and 11 take it from GL. Q is h = floor(GQ / 4096) or, in 10 and 11, entry h
+ *               mod 256 shifted right by h div 256 places, where entry f is floor(4093 * 2^(-f / 256)). Oscillator mode
+ *               (3), with K = floor(GK / 256), or floor(J / 256) in 101, -2048 to 2047 for half a turn on either side: 001
+ *               square, -1024 or 1024, 010 sawtooth, K, 011 pulse train, 1024 or 0, 100 and 101 cosine: the sine above at
+ *               the index 2K + 2048 (its low 13 bits), its magnitude shifted right by 1 + GM places. So each has half the
+ *               level that it has in 1978. 000, a sum of cosines, is good in run mode 000 alone and never heard. 110 and
+ *               111 are not built
  *   111         sends its own angle, J in oscillator mode 101 and GK in the others: as written data where GN is negative
  *               (its bit 10 is 1), else to the DAC that GN's low 4 bits name
  *   GN          is looked at in 111 alone. GM shifts the cosine
@@ -413,7 +458,8 @@ static inline uint32_t karvelorn_msum(uint32_t replaces, uint32_t word) { return
 
 /* Commands, for karvelorn_update and for bench files, by their fields (karvelorn_update lists these). Of each value the
  * bits of its field count. A load without more in its name is right-adjusted: the register gets a signed value of 20
- * bits. One that ends in _left gives the register's high 20 bits; its low bits come from DX's left, and DX is cleared. */
+ * bits. One that ends in _left gives the register's high 20 bits (what pitch and GQ mostly want); its low bits come from
+ * DX's left, and DX is cleared. */
 static inline uint32_t karvelorn_command(uint32_t data, uint32_t code) { return data << 12 | code; }
 
 static inline uint32_t karvelorn_load_dx(uint32_t value) { return karvelorn_command(value, 0x020); }
@@ -646,9 +692,10 @@ uint32_t karvelorn_fresh(uint32_t *machine, size_t words);
  *                         gets it as the last one left it
  *   read, written         get how many items were read and written, both 0 in a refusal
  *   clipped               gets KARVELORN_MARKS marks, one byte for each generator-this word: 1 where a signed sum in it,
- *                         P added into it or P plus a read item's low 20 bits replacing it, left -524288 to 524287 in
+ *                         P added into it or P plus a read item's low 20 bits replacing it, was outside -524288 to 524287 in
  *                         this pass, though the word may have come back since; else 0. All are 0 in a refusal. The
- *                         word itself wraps. Which marks are set may depend on the order, also of equal orders
+ *                         word itself wraps. Which marks are set may depend on the order, also of equal orders. No mark
+ *                         tells of modifiers
  *
  * Answers 0, 1, 2, 5, 6, 7, 8, 10, 11 or 12. A refused pass changes no word of the machine or of delay memory, and no
  * place.
@@ -696,8 +743,10 @@ uint32_t karvelorn_pass(uint32_t *machine, size_t words, const uint32_t *order, 
  *                                                 disables MSUM; C clears L0
  *   R I C x MRM(8) MIN(8)     11111 modifier(7)   MRM and MIN: R and I disable them; C clears L1
  * A right-adjusted load extends the sign; a left-adjusted one takes its low bits from DX's left and clears DX. A Linger
- * is compared with the counter's low 20 bits: at its pass, or 1 to 4096 passes late (modulo 2^20), it doesn't wait, and
- * a late one sets overrun; any other waits: it sets lingering and the Linger pass. Not built (3): MISC with S or with
+ * is compared with the counter's low 20 bits: at its pass it doesn't wait, nor 1 to 4096 passes late (modulo 2^20), when
+ * it sets overrun; any other waits: it sets lingering and the Linger pass, and ends in the update at exactly that pass. So
+ * with a counter that began at 0 and an update after every pass, what follows karvelorn_linger(p) is done when p passes
+ * have been made: the first pass with it is number p, counted from 0. Not built (3): MISC with S or with
  * RR 10 or 11, DLY with UU 11 or with UU 10 and a P that is not built, TICKS with a 1 in place of its 0, and modes,
  * functions and MIN or MRM top bits that question 2 refuses, unless disabled.
  */

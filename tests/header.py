@@ -1,6 +1,6 @@
 """What include/karvelorn.h says beside the calls, tried against the library: every name, place and maker of a command
-(tests/names.c) and the formulas of "To write a bell" (tests/formulas.c), from C99 and C++17 with all warnings, and with
-the sanitizers on. The header has a prototype for each call of the library and for no other, its version is the
+(tests/names.c), the formulas of "To write a bell" (tests/formulas.c) and the bell that stands there, which sounds as ring
+rings it, from C99 and C++17 with all warnings, and with the sanitizers on. The header has a prototype for each call of the library and for no other, its version is the
 repository's, and no name of it is left out.
 
     python3 tests/header.py
@@ -25,12 +25,40 @@ OF_CALLS = {"H", "KEPT", "KEPT_ALIKE", "CHANGE_GMODE", "CHANGE_GSUM", "CHANGE_GF
             "MEMORY_WORDS", "MARKS", "COMMANDS", "TICK_NS", "TEXT_1978", "TEXT_OLD"}
 
 
-def built(name, title):
-    """A program of the tests, over the library."""
+# The header's bell as a bench file.
+BELL = """passes=38704
+word=1:6103296
+word=5:180
+word=8:1
+word=9:63
+word=10:1008
+word=20:1
+word=21:128
+word=4113:2
+"""
+
+
+def built(name, title, folder="tests"):
+    """A program over the library, of a file in a folder."""
     program = Path(ROOT, "target", f"{name}-{title.replace('+', 'p')}")
-    subprocess.run([*COMPILERS[title], *WARNINGS, "-I", str(HEADER.parent), str(Path(ROOT, "tests", f"{name}.c")),
+    subprocess.run([*COMPILERS[title], *WARNINGS, "-I", str(HEADER.parent), str(Path(ROOT, folder, f"{name}.c")),
                     "-x", "none", LIBRARY, "-lm", "-o", str(program)], check=True)
     return program
+
+
+def header_bell(title):
+    """Whether the bell that stands in the header, made a program, sounds as its bench file rung by ring."""
+    lines = re.search(r"^ \* To write a bell\.(?:.*\n){1,3}?((?: \*     .*\n)+)", HEADER.read_text(), re.M).group(1)
+    body = re.sub(r"^ \*     ", "    ", lines, flags=re.M)
+    Path(ROOT, "target", "header_bell.c").write_text(
+        '#include <stdio.h>\n#include "karvelorn.h"\nstatic void play(int32_t sample) { printf("%d\\n", (int)sample); }\n'
+        f"int main(void) {{\n{body}    return 0;\n}}\n")
+    played = subprocess.run([built("header_bell", title, "target")], check=True, stdout=subprocess.PIPE).stdout.decode()
+    rung = subprocess.run([Path(ROOT, "target", "bin", "ring")], input=BELL.encode(), check=True, stdout=subprocess.PIPE).stdout.decode()
+    samples = re.findall(r" left=(-?\d+) ", rung)
+    same = played.split() == samples and len(set(samples)) > 1000
+    print(f"the header's bell: {len(samples)} samples, " + ("as rung" if same else "not as rung"))
+    return same
 
 
 def faults():
@@ -62,6 +90,8 @@ def main():
         for name in ("names", "formulas"):
             print(f"{title}, ", end="", flush=True)
             wrong += [name] * (subprocess.run([built(name, title)]).returncode != 0)
+        print(f"{title}, ", end="", flush=True)
+        wrong += ["bell"] * (not header_bell(title))
     return 1 if wrong else 0
 
 
