@@ -1,7 +1,7 @@
 """What ./compare says, word for word, with its exit status: bells in two orders that are the same, orders that are parted at each
 of the four points, refusals, and what can't be read.
 
-    /usr/bin/python3 tests/compare_words.py      (target/bin/sorted must be built)
+    /usr/bin/python3 tests/compare_words.py      (target/bin/sorted and target/bin/wav must be built)
 
 Then random machines: the status is the reference's answer, and the generators that are named are those of its points.
 """
@@ -75,6 +75,8 @@ class Folder:
         more = [] if order is None else [self.file(order if isinstance(order, (str, bytes)) else order_text(order), "second.order")]
         done = run("./compare", file, *more)
         said = done.stdout.replace(f"{self.path}/", "").splitlines()
+        if status != Status.REFUSED:
+            assert said.pop().startswith("This very file "), done  # tests/heard_orders.py has its words
         assert (said, done.returncode, done.stderr) == (list(lines), status, ""), f"{file}: {done}\nwanted: {lines}"
 
 

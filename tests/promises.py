@@ -29,9 +29,9 @@ REACHABLE = {
     ("bench_file", "read"): "readOf",
     ("bench_read", "read"): "readInto",
     ("bench_gathering", "gather"): "gathered",
+    ("bench_begin", "begin"): "outputOf",
     ("bench_wave", "wave"): "waveOf",
     ("sorted_findings", "findings"): "findingsOf",
-    ("bench_text", "refusal_line"): "refusalLine",
     ("karvelorn", "karvelorn_fresh"): "freshRun",
     ("karvelorn", "karvelorn_pass"): "passOf",
     ("karvelorn", "karvelorn_update"): "updateOf",
@@ -51,7 +51,7 @@ REACHABLE = {
 }
 
 # Calls that read and write: what a program reads or writes has no contract in the language.
-STREAMS = {("bench_streams", "read_all"), ("bench_streams", "refuse")}
+STREAMS = {("bench_streams", "read_arguments"), ("bench_streams", "read_bench"), ("bench_streams", "complain")}
 
 # The named forms: what it is, the crate, and a pattern that its source has.
 FORMS = (

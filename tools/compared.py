@@ -12,6 +12,7 @@ import os
 import re
 import subprocess
 
+import heard
 import partials as tables
 import questions
 from building import built
@@ -29,7 +30,7 @@ ADDING = (STOPS, TRIGGERS, 0b1111)
 SWITCHED_AS, OLD_SENDS = (0b0000, PAUSE, 0b1111, TRIGGERS, WAITS, STOPS, READS), 0b111
 
 NOT_SO = "what the program sorted found isn't so in the file"
-ORDER_FILE = "it must have 1 to 256 lines order=G, each with a number G from 0 to 255 without leading zeros and ended by LF"
+ORDER_FILE = questions.ORDER_FILE
 
 POINT = re.compile(r"point=([1-4]) place=(\d+) (word|written)=(\d+)")
 ENTRY = re.compile(r"order=(\d+)")
@@ -262,8 +263,32 @@ def behind(bell, point, second):
     return [sentence(cause), f"Shown by an example with the file's modes, sum words and DACs: after a pass by each order the first difference is in {where}."]
 
 
-def compared(program, file, order_file=None):
-    """What was found, in words, and the exit status."""
+# This very file, rung by both orders
+
+def frames_words(frame):
+    """A frame of a sound in words."""
+    left, right = (int.from_bytes(frame[at:at + 3], "little", signed=True) // 16 for at in (0, 3))
+    return f"left={left} right={right}"
+
+
+def two_sounds(text, second):
+    """Whether the sounds of this very file by number and by the second order are the same bytes: a sentence, by ringing both."""
+    program, = built("compare", "wav")
+    order = heard.Order("second", "".join(f"order={g}\n" for g in second).encode())
+    (one, refused), (other, refused_too) = heard.outcome(program, text), heard.outcome(program, text, order)
+    if refused or refused_too:
+        said = [f"{who} {f'it is refused ({told})' if told else 'it sounds'}" for who, told in (("by number", refused), ("in the second order", refused_too))]
+        return f"This very file makes no sound in either order: {refused}." if refused == refused_too else f"This very file: {' and '.join(said)}."
+    if one == other:
+        passes = (len(one) - heard.WAVE_HEADER) // heard.FRAME
+        return f"This very file sounds the same in both orders: {passes} frames, bit for bit." if passes else "This very file has no passes, and so no sound."
+    at = next(at for at in range(heard.WAVE_HEADER, len(one), heard.FRAME) if one[at:at + heard.FRAME] != other[at:at + heard.FRAME])
+    return (f"This very file sounds otherwise in the second order from frame {(at - heard.WAVE_HEADER) // heard.FRAME + 1} on: "
+            f"{frames_words(one[at:at + heard.FRAME])} becomes {frames_words(other[at:at + heard.FRAME])}.")
+
+
+def compared(program, file, order_file=None, rung=None):
+    """What was found, in words, and the exit status; with what is said of this very file, where that is asked."""
     text = read_file(file, questions.FILE_MOST + 1)
     lines = found(program, text, order_file)
     refused = refusal(lines[0], file, order_file, text) if len(lines) == 1 else None
@@ -277,15 +302,16 @@ def compared(program, file, order_file=None):
         raise Ending(NOT_SO, Status.FAULT)
     name_partials(bell, tables.report_beside(file))
     said = [order_line(bell, second, order_file)]
+    this = [rung(text, second)] if rung else []
     if point:
-        return said + ["No: the two orders can ring differently.", *behind(bell, point, second)], Status.NO
+        return said + ["No: the two orders can ring differently.", *behind(bell, point, second), *this], Status.NO
     until = list(limits(bell, second))
-    return said + [f"Yes{', as the file begins' if until else ''}: the same bell in both orders.", *until], Status.UNTIL if until else Status.DONE
+    return said + [f"Yes{', as the file begins' if until else ''}: the same bell in both orders.", *until, *this], Status.UNTIL if until else Status.DONE
 
 
-def answer(program, file, order_file=None):
+def answer(program, file, order_file=None, rung=None):
     """Prints what was found; answers the status."""
-    said, status = compared(program, file, order_file)
+    said, status = compared(program, file, order_file, rung)
     say("\n".join(said))
     return status
 
@@ -293,7 +319,8 @@ def answer(program, file, order_file=None):
 def parser():
     """What may be asked."""
     asked = Parser("compare", "Says whether a bench file rings the same bell with its generators by number and in a second order: by pitch, or as in ORDER-FILE.\n"
-                   "0 is yes, 1 no; a yes that holds only until a trigger or a command has 7, and a line \"Only until ..\" says until which.",
+                   "0 is yes, 1 no; a yes that holds only until a trigger or a command has 7, and a line \"Only until ..\" says until which. That is for all contents\n"
+                   "of a file with these modes, sum words, DACs and T; the last line says whether this very file, rung by both orders, sounds the same.",
                    "karvelorn compare bell.txt")
     asked.add_argument("file", metavar="FILE", help="a bench file, - for standard input")
     asked.add_argument("order", metavar="ORDER-FILE", nargs="?", help="a line order=G for each generator, as they are taken")
@@ -310,8 +337,8 @@ def main(arguments):
     for path in (asked.file, asked.order):
         if path not in (None, "-") and not is_stream(path):
             read_file(path, 1)
-    program, = built("compare", "sorted")
-    return answer(program, asked.file, asked.order)
+    program, _ = built("compare", "sorted", "wav")
+    return answer(program, asked.file, asked.order, two_sounds)
 
 
 if __name__ == "__main__":

@@ -1,9 +1,9 @@
 #!/usr/bin/env python3
 """Makes a bench file heard and seen: its sound (.wav) and its picture (.png) beside it, and the table of its partials.
 
-    karvelorn hear [FILE]
+    karvelorn hear [FILE [ORDER-FILE]]      karvelorn hear --by-pitch FILE
 
-FILE is a bench file, or a recording, of which only the picture is made. What stood there before is set aside first, so that after
+By an order the sound has a name of its own (NAME.by-ORDER.wav, NAME.by-pitch.wav). FILE is a bench file, or a recording, of which only the picture is made. What stood there before is set aside first, so that after
 a refusal, a failure or an interruption no older sound or picture is taken for this file's. A sound needs the proved program wav
 alone; a picture needs numpy, scipy and matplotlib, and is made by tools/picture.py.
 """
@@ -28,6 +28,7 @@ from table_reader import read_table
 
 EXAMPLE = HOME / "examples" / "bell.txt"
 REFUSED = re.compile(r"refused=(\d+)")
+ORDER_REFUSED, BY_PITCH = "order-refused=9", "-"  # what wav tells of a text that is no order file, and what it takes for by pitch
 WAVE_HEADER, FRAME = 44, 6
 LIBRARIES = ("numpy", "scipy", "matplotlib")
 
@@ -39,14 +40,23 @@ class Files(NamedTuple):
     sound: str
     picture: str
     other_rate: str
+    order: object = None
+
+
+class Order(NamedTuple):
+    """An order that is rung by: its name in words, and the text of its order file, None for by pitch."""
+    name: str
+    data: bytes = None
 
 
 def parser():
     """What may be asked."""
     asked = Parser("hear", "Makes a bench file heard and seen: NAME.wav and NAME.png beside NAME.txt, and the table of its partials. Of a recording (WAVE or FLAC)\n"
                    "the picture and the table are made. An older NAME.wav or NAME.png is set aside (NAME.older.wav) unless a new one takes its place.",
-                   "karvelorn hear bell.txt\nkarvelorn hear --no-picture bell.txt\nkarvelorn hear recording.flac --table bell.csv")
+                   "karvelorn hear bell.txt\nkarvelorn hear --no-picture bell.txt\nkarvelorn hear --by-pitch bell.txt\nkarvelorn hear recording.flac --table bell.csv")
     asked.add_argument("file", metavar="FILE", nargs="?", help="a bench file or a recording" + (" (examples/bell.txt where none is named)" if IN_REPOSITORY else ""))
+    asked.add_argument("order", metavar="ORDER-FILE", nargs="?", help="lines order=G: each pass takes the generators in this order instead of by number; the sound is NAME.by-ORDER.wav then")
+    asked.add_argument("--by-pitch", action="store_true", help="each pass takes them by pitch, as karvelorn compare has it; the sound is NAME.by-pitch.wav then")
     asked.add_argument("-o", dest="output", metavar="SOUND", help="the sound (NAME.wav where this isn't asked); the picture goes beside it")
     asked.add_argument("--table", metavar="CSV", help="a table of partials that gives them their names (NAME.csv beside FILE, where there is one)")
     asked.add_argument("--no-picture", action="store_true", help="only the sound, for which no library is needed")
@@ -81,54 +91,94 @@ def head_of(file, base):
         raise
 
 
+def order_asked(asked):
+    """The order that a call asks for, and how its results are called; nothing where each pass goes by number."""
+    if asked.by_pitch and asked.order not in (None, BY_PITCH):
+        raise Ending("ask for an order file or for --by-pitch, not for both", Status.MISUSED)
+    if asked.by_pitch or asked.order == BY_PITCH:
+        return Order("by pitch"), "by-pitch"
+    if asked.order is None:
+        return None, ""
+    return Order(asked.order, read_file(asked.order, questions.FILE_MOST + 1)), f"by-{os.path.splitext(os.path.basename(asked.order))[0]}"
+
+
 def files_of(asked):
     """The files of a call, judged before anything is touched."""
     file = file_of(asked.file, EXAMPLE)
     if file == "-":
         raise Ending("name a file: the results are written beside it", Status.MISUSED)
-    base = os.path.splitext(asked.output or file)[0]
+    order, named = order_asked(asked)
+    base = os.path.splitext(asked.output or file)[0] + (f".{named}" if order and not asked.output else "")
     recording = sounds.is_sound(head_of(file, base))
-    if recording and (asked.no_picture or asked.output or asked.seconds or asked.rate):
+    if recording and (asked.no_picture or asked.output or asked.seconds or asked.rate or order):
         raise Ending(f"{file} is a sound already: only its picture is made", Status.MISUSED)
     beside = os.path.splitext(file)[0] + ".csv"
     table = asked.table or (beside if os.path.isfile(beside) else None)
     if asked.table:
         read_file(asked.table, 1)
-    files = Files(file, table, None if recording else asked.output or base + ".wav", base + ".png", f"{base}.{asked.rate}.wav" if asked.rate else None)
+    files = Files(file, table, None if recording else asked.output or base + ".wav", base + ".png", f"{base}.{asked.rate}.wav" if asked.rate else None, order)
     if files.sound and same_file(files.sound, files.picture):
         raise Ending(f"{files.sound} can't be the sound: the picture goes there", Status.MISUSED)
     if files.other_rate and same_file(files.sound, files.other_rate):
         raise Ending(f"{files.sound} can't be the sound: that at {asked.rate} Hz goes there", Status.MISUSED)
     for output in filter(None, (files.sound, files.picture, files.other_rate)):
-        destination(output, [given for given in (file, table) if given])
+        destination(output, [given for given in (file, table, asked.order) if given])
     return files
 
 
 # Sound
 
-def sound_of(file, seconds=None):
+def sound_of(file, seconds=None, order=None):
     """The sound of a bench file: the bytes of a WAVE file, whole; for so many seconds, where that is asked."""
     text = read_file(file, questions.FILE_MOST + 1)
-    sound = sound_of_text("hear", file, text)
-    return sound if seconds is None else longer.rung_on("hear", file, text, sound, seconds)
+    sound = sound_of_text("hear", file, text, order)
+    return sound if seconds is None else longer.rung_on("hear", file, text, sound, seconds, entries("hear", text, order))
 
 
-def sound_of_text(command, file, text):
-    """The same of a bench file's text, for a command."""
-    program, = built(command, "wav")
-    tell(command, f"ringing {file}")
-    try:
-        done = subprocess.run([program], input=text, stdout=subprocess.PIPE, stderr=subprocess.PIPE)
-    except OSError as error:
-        raise Ending(f"cannot run {program}: {error.strerror}", Status.MISSING) from None
+def outcome(program, text, order=None):
+    """What the program wav writes of a text, by number or by an order, and what it tells."""
+    with tempfile.TemporaryDirectory(prefix="karvelorn-") as folder:
+        by = [] if order is None else [BY_PITCH] if order.data is None else [os.path.join(folder, "order")]
+        if by and by[0] != BY_PITCH:
+            with open(by[0], "wb") as file:
+                file.write(order.data)
+        try:
+            done = subprocess.run([program, *by], input=text, stdout=subprocess.PIPE, stderr=subprocess.PIPE)
+        except OSError as error:
+            raise Ending(f"cannot run {program}: {error.strerror}", Status.MISSING) from None
     told = done.stderr.decode(errors="replace").strip()
-    refused = REFUSED.fullmatch(told)
-    if refused:
-        raise Ending("\n".join([f"{file} makes no sound: {told}", *questions.refusal(file, int(refused[1]), text)]))
     bench, _ = questions.read(text)
+    if REFUSED.fullmatch(told) or told == ORDER_REFUSED:
+        return b"", told
     if done.returncode or told or bench is None or len(done.stdout) != WAVE_HEADER + FRAME * bench.passes:
         raise said_by("wav", told)
-    return done.stdout
+    return done.stdout, ""
+
+
+def sound_of_text(command, file, text, order=None):
+    """The same of a bench file's text, for a command; by number, or by an order."""
+    program, = built(command, "wav")
+    tell(command, f"ringing {file}" + (f" by the order {order.name}" if order and order.data is not None else " by pitch" if order else ""))
+    sound, told = outcome(program, text, order)
+    if told == ORDER_REFUSED:
+        raise Ending(f"{order.name} is no order file: {questions.ORDER_FILE}")
+    if told:
+        number = int(REFUSED.fullmatch(told)[1])
+        whose = (f"the order {order.name}" if order.data is not None else "the order by pitch") if order and number in (5, 6) else file
+        raise Ending("\n".join([f"{file} makes no sound: {told}", *questions.refusal(whose, number, text)]))
+    return sound
+
+
+def entries(command, text, order):
+    """The entries of an order that was rung by; none for by number."""
+    if order is None:
+        return ()
+    data = order.data
+    if data is None:
+        import compared
+        program, = built(command, "sorted")
+        data = "".join(f"{line}\n" for line in compared.found(program, text, None)).encode()
+    return [int(line[len(b"order="):]) for line in data.split(b"\n") if line.startswith(b"order=")]
 
 
 # Picture
@@ -214,7 +264,7 @@ def written(files, asked):
     """Makes and writes the sounds."""
     if asked.rate:
         need_libraries(("numpy", "scipy"), f"no sound at {asked.rate} Hz was made")
-    sound = sound_of(files.file, asked.seconds)
+    sound = sound_of(files.file, asked.seconds, files.order)
     write_whole({files.sound: sound}, [files.file])
     tell("hear", f"wrote {files.sound}")
     if files.other_rate:

@@ -5,30 +5,37 @@ use mathlib.Core.Bool.{cond}
 use mathlib.Core.List.{List, [], _++_}
 use lib.Dec.{eqb, ltb}
 use lib.ListN.{length}
-use Rattle.bench_text.specs.Text.{lineBytes, refusalLine}
+use Rattle.bench_text.specs.Text.{lineBytes, refusalLine, orderRefusalLine}
 use Rattle.bench_file.specs.BenchFile.{Answer}
+use Rattle.bench_pass.specs.BenchPass.{Ordering}
+use Rattle.rung_order.specs.RungOrder.{orderingBy, orderRefusal}
+use Rattle.rung_order.specs.declared.By.{By}
 use Rattle.bench_ringing.specs.Steps.{Ringing, Step, stepOf, begun}
 use Rattle.bench_ringing.specs.declared.Output.{Output}
 use Rattle.bench_ringing.specs.declared.Output.the-variants.{Lines}
 use Rattle.texts.specs.declared.Text.{Text}
 
 -- What is gathered after some bytes, at most k steps: a step is taken while a pass is left and a line's buffer, more than a line or a frame has, is free of `room`.
-unfoldable pub gatheredAfter : Text → Output → ℕ → ℕ → List ℕ → Ringing → Step
-gatheredAfter text o room zero bytes r = record { bytes = bytes; next = r }
-gatheredAfter text o room (suc k) bytes r =
-    let s = stepOf text o r in
+unfoldable pub gatheredAfter : Text → Ordering → Output → ℕ → ℕ → List ℕ → Ringing → Step
+gatheredAfter text by o room zero bytes r = record { bytes = bytes; next = r }
+gatheredAfter text by o room (suc k) bytes r =
+    let s = stepOf text by o r in
     cond (eqb (r .passes) 0) (record { bytes = bytes; next = r })
-    (cond (ltb room (length bytes + lineBytes)) (record { bytes = bytes; next = r }) (gatheredAfter text o room k (bytes ++ s .bytes) (s .next)))
+    (cond (ltb room (length bytes + lineBytes)) (record { bytes = bytes; next = r }) (gatheredAfter text by o room k (bytes ++ s .bytes) (s .next)))
 
 -- What is gathered from a ringing under way.
-unfoldable pub gathered : Text → Output → ℕ → Ringing → Step
-gathered text o room r = gatheredAfter text o room (r .passes) [] r
+unfoldable pub gathered : Text → Ordering → Output → ℕ → Ringing → Step
+gathered text by o room r = gatheredAfter text by o room (r .passes) [] r
 
 -- What is given out, one gathering after another until no pass is left, at most k of them.
-unfoldable pub printedBy : Text → Output → ℕ → ℕ → Ringing → List ℕ
-printedBy text o room zero r = []
-printedBy text o room (suc k) r = cond (eqb (r .passes) 0) [] (gathered text o room r .bytes ++ printedBy text o room k (gathered text o room r .next))
+unfoldable pub printedBy : Text → Ordering → Output → ℕ → ℕ → Ringing → List ℕ
+printedBy text by o room zero r = []
+printedBy text by o room (suc k) r = cond (eqb (r .passes) 0) [] (gathered text by o room r .bytes ++ printedBy text by o room k (gathered text by o room r .next))
 
--- What is printed so from what reading a file answers and leaves, by its text; a refused file has the line of its refusal.
-unfoldable pub printedFrom : ℕ → Answer → List ℕ
-printedFrom room a = cond (eqb (a .number) 0) (printedBy (a .text) Lines room (a .passes) (begun a)) (refusalLine (a .number))
+-- What is printed so from what reading a file answers and leaves, by its text; a refused file, and a refused order file, has the line of its refusal.
+unfoldable pub printedFrom : ℕ → By → List ℕ → Answer → List ℕ
+printedFrom room by orderFile a =
+    let other = orderRefusal by orderFile in
+    cond (eqb (a .number) 0)
+    (cond (eqb other 0) (printedBy (a .text) (orderingBy by orderFile (a .machine)) Lines room (a .passes) (begun a)) (orderRefusalLine other))
+    (refusalLine (a .number))

@@ -1,5 +1,6 @@
 // Steps of a ringing gathered in a buffer.
 ghost use mathlib.Core.Path.{_≡_};
+ghost use mathlib.Core.Bool.{false};
 ghost use mathlib.Core.Logic.{_≢_};
 ghost use Prim.Native.Nat.{_+_, _≤_};
 ghost use lib.ListN.{length};
@@ -8,7 +9,7 @@ ghost use Rattle.sine.specs.Sine.{quarter};
 ghost use Rattle.exponential.specs.Exponential.{tableSize, entries};
 ghost use Rattle.bench_text.specs.Text.{lineBytes};
 ghost use Rattle.order_lists.specs.Sequences.{byNumber};
-ghost use Rattle.bench_pass.specs.ByNumber.{passed};
+ghost use Rattle.bench_pass.specs.BenchPass.{orderingOf, passed};
 ghost use Rattle.bench_ringing.specs.Steps.{ringingAt, stepOf, commandsTaken};
 ghost use Rattle.bench_gathering.specs.Gathering.{gathered};
 use bench_ringing::Output;
@@ -25,6 +26,7 @@ fn step_into(
     m: &mut [u32],
     commands: &[u32],
     memory: &mut [u32],
+    given: bool,
     order: &[u32],
     number: u32,
     out: &mut [u8],
@@ -33,13 +35,13 @@ fn step_into(
 ) -> Progress
     requires { ⌜ at .length + lineBytes ≤ length (now out) ⌝ }
     requires { ⌜ at .passes ≢ 0 ⌝ }
-    requires { ⌜ now order ≡ byNumber 256 ⌝ }
-    requires { ⌜ number ≡ passed text (now m) (now memory) .number ⌝ }
+    requires { ⌜ (given ≡ false → now order ≡ byNumber 256) ⌝ }
+    requires { ⌜ number ≡ passed text (orderingOf given (now order)) (now m) (now memory) .number ⌝ }
     requires { ⌜ (now sine ≡ quarter) × (now decay ≡ entries tableSize) ⌝ }
-    ensures { λ r. ⌜ r .length ≡ at .length + length (stepOf text output (ringingAt at (now (m .entry)) (now (memory .entry)) (now (commands .entry))) .bytes) ⌝ }
-    ensures { λ _. ⌜ now (out .exit) ≡ sets (now (out .entry)) (at .length) (stepOf text output (ringingAt at (now (m .entry)) (now (memory .entry)) (now (commands .entry))) .bytes) ⌝ }
-    ensures { λ r. ⌜ ringingAt r (now (m .exit)) (now (memory .exit)) (now (commands .entry)) ≡ stepOf text output (ringingAt at (now (m .entry)) (now (memory .entry)) (now (commands .entry))) .next ⌝ }
-    ensures { λ r. ⌜ r .taken ≡ at .taken + commandsTaken (ringingAt at (now (m .entry)) (now (memory .entry)) (now (commands .entry))) (stepOf text output (ringingAt at (now (m .entry)) (now (memory .entry)) (now (commands .entry)))) ⌝ }
+    ensures { λ r. ⌜ r .length ≡ at .length + length (stepOf text (orderingOf given (now (order .entry))) output (ringingAt at (now (m .entry)) (now (memory .entry)) (now (commands .entry))) .bytes) ⌝ }
+    ensures { λ _. ⌜ now (out .exit) ≡ sets (now (out .entry)) (at .length) (stepOf text (orderingOf given (now (order .entry))) output (ringingAt at (now (m .entry)) (now (memory .entry)) (now (commands .entry))) .bytes) ⌝ }
+    ensures { λ r. ⌜ ringingAt r (now (m .exit)) (now (memory .exit)) (now (commands .entry)) ≡ stepOf text (orderingOf given (now (order .entry))) output (ringingAt at (now (m .entry)) (now (memory .entry)) (now (commands .entry))) .next ⌝ }
+    ensures { λ r. ⌜ r .taken ≡ at .taken + commandsTaken (ringingAt at (now (m .entry)) (now (memory .entry)) (now (commands .entry))) (stepOf text (orderingOf given (now (order .entry))) output (ringingAt at (now (m .entry)) (now (memory .entry)) (now (commands .entry)))) ⌝ }
 {
     let start = at.length;
     let mut line = [0u8; bench_text::LINE_BYTES];
@@ -50,6 +52,7 @@ fn step_into(
         m,
         commands,
         memory,
+        given,
         order,
         number,
         &mut line,
@@ -77,22 +80,23 @@ fn gather_by(
     m: &mut [u32],
     commands: &[u32],
     memory: &mut [u32],
+    given: bool,
     order: &[u32],
     out: &mut [u8],
     sine: &Quarter,
     decay: &Entries,
 ) -> Progress
-    requires { ⌜ now order ≡ byNumber 256 ⌝ }
+    requires { ⌜ (given ≡ false → now order ≡ byNumber 256) ⌝ }
     requires { ⌜ (now sine ≡ quarter) × (now decay ≡ entries tableSize) ⌝ }
-    ensures { λ r. ⌜ r .length ≡ length (gathered text output (length (now (out .entry))) (ringingAt at (now (m .entry)) (now (memory .entry)) (now (commands .entry))) .bytes) ⌝ }
-    ensures { λ _. ⌜ now (out .exit) ≡ sets (now (out .entry)) 0 (gathered text output (length (now (out .entry))) (ringingAt at (now (m .entry)) (now (memory .entry)) (now (commands .entry))) .bytes) ⌝ }
-    ensures { λ r. ⌜ ringingAt r (now (m .exit)) (now (memory .exit)) (now (commands .entry)) ≡ gathered text output (length (now (out .entry))) (ringingAt at (now (m .entry)) (now (memory .entry)) (now (commands .entry))) .next ⌝ }
-    ensures { λ r. ⌜ r .taken ≡ at .taken + commandsTaken (ringingAt at (now (m .entry)) (now (memory .entry)) (now (commands .entry))) (gathered text output (length (now (out .entry))) (ringingAt at (now (m .entry)) (now (memory .entry)) (now (commands .entry)))) ⌝ }
+    ensures { λ r. ⌜ r .length ≡ length (gathered text (orderingOf given (now (order .entry))) output (length (now (out .entry))) (ringingAt at (now (m .entry)) (now (memory .entry)) (now (commands .entry))) .bytes) ⌝ }
+    ensures { λ _. ⌜ now (out .exit) ≡ sets (now (out .entry)) 0 (gathered text (orderingOf given (now (order .entry))) output (length (now (out .entry))) (ringingAt at (now (m .entry)) (now (memory .entry)) (now (commands .entry))) .bytes) ⌝ }
+    ensures { λ r. ⌜ ringingAt r (now (m .exit)) (now (memory .exit)) (now (commands .entry)) ≡ gathered text (orderingOf given (now (order .entry))) output (length (now (out .entry))) (ringingAt at (now (m .entry)) (now (memory .entry)) (now (commands .entry))) .next ⌝ }
+    ensures { λ r. ⌜ r .taken ≡ at .taken + commandsTaken (ringingAt at (now (m .entry)) (now (memory .entry)) (now (commands .entry))) (gathered text (orderingOf given (now (order .entry))) output (length (now (out .entry))) (ringingAt at (now (m .entry)) (now (memory .entry)) (now (commands .entry)))) ⌝ }
 {
     let passes = at.passes;
     let taken = at.taken;
     let refused = at.refused;
-    let mut number = bench_pass::refusal(text, m, memory);
+    let mut number = bench_pass::refusal(text, m, memory, given, order);
     let mut here = Progress {
         passes,
         taken,
@@ -110,6 +114,7 @@ fn gather_by(
             m,
             commands,
             memory,
+            given,
             order,
             number,
             out,
@@ -117,13 +122,13 @@ fn gather_by(
             decay,
         );
         let took = next.taken != here.taken;
-        number = bench_ringing::next_number(text, m, memory, number, took);
+        number = bench_ringing::next_number(text, m, memory, given, order, number, took);
         here = next;
     }
     here
 }
 
-// Steps until no pass is left or the buffer may not hold another line or frame; the length answered is that of all that they give out.
+// Steps by an order that is given, else by number, until no pass is left or the buffer may not hold another line or frame; the length answered is that of all that they give out.
 pub fn gather(
     text: Text,
     output: Output,
@@ -131,17 +136,34 @@ pub fn gather(
     m: &mut [u32],
     commands: &[u32],
     memory: &mut [u32],
+    given: bool,
+    order: &[u32],
     out: &mut [u8],
 ) -> Progress
-    ensures { λ r. ⌜ r .length ≡ length (gathered text output (length (now (out .entry))) (ringingAt at (now (m .entry)) (now (memory .entry)) (now (commands .entry))) .bytes) ⌝ }
-    ensures { λ _. ⌜ now (out .exit) ≡ sets (now (out .entry)) 0 (gathered text output (length (now (out .entry))) (ringingAt at (now (m .entry)) (now (memory .entry)) (now (commands .entry))) .bytes) ⌝ }
-    ensures { λ r. ⌜ ringingAt r (now (m .exit)) (now (memory .exit)) (now (commands .entry)) ≡ gathered text output (length (now (out .entry))) (ringingAt at (now (m .entry)) (now (memory .entry)) (now (commands .entry))) .next ⌝ }
-    ensures { λ r. ⌜ r .taken ≡ at .taken + commandsTaken (ringingAt at (now (m .entry)) (now (memory .entry)) (now (commands .entry))) (gathered text output (length (now (out .entry))) (ringingAt at (now (m .entry)) (now (memory .entry)) (now (commands .entry)))) ⌝ }
+    ensures { λ r. ⌜ r .length ≡ length (gathered text (orderingOf given (now (order .entry))) output (length (now (out .entry))) (ringingAt at (now (m .entry)) (now (memory .entry)) (now (commands .entry))) .bytes) ⌝ }
+    ensures { λ _. ⌜ now (out .exit) ≡ sets (now (out .entry)) 0 (gathered text (orderingOf given (now (order .entry))) output (length (now (out .entry))) (ringingAt at (now (m .entry)) (now (memory .entry)) (now (commands .entry))) .bytes) ⌝ }
+    ensures { λ r. ⌜ ringingAt r (now (m .exit)) (now (memory .exit)) (now (commands .entry)) ≡ gathered text (orderingOf given (now (order .entry))) output (length (now (out .entry))) (ringingAt at (now (m .entry)) (now (memory .entry)) (now (commands .entry))) .next ⌝ }
+    ensures { λ r. ⌜ r .taken ≡ at .taken + commandsTaken (ringingAt at (now (m .entry)) (now (memory .entry)) (now (commands .entry))) (gathered text (orderingOf given (now (order .entry))) output (length (now (out .entry))) (ringingAt at (now (m .entry)) (now (memory .entry)) (now (commands .entry)))) ⌝ }
 {
-    let mut order = [0u32; layout::GENERATORS];
-    bench_pass::by_number(&mut order);
     let sine = sine::table();
     let decay = exponential::table();
+    if given {
+        return gather_by(
+            text,
+            output,
+            at,
+            m,
+            commands,
+            memory,
+            given,
+            order,
+            out,
+            &sine,
+            &decay,
+        );
+    }
+    let mut numbers = [0u32; layout::GENERATORS];
+    bench_pass::by_number(&mut numbers);
     gather_by(
         text,
         output,
@@ -149,7 +171,8 @@ pub fn gather(
         m,
         commands,
         memory,
-        &order,
+        given,
+        &numbers,
         out,
         &sine,
         &decay,

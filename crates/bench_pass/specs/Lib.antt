@@ -1,1 +1,1 @@
-pub mod ByNumber
+pub mod BenchPass

@@ -1,5 +1,6 @@
-// A pass of the bench: by number, with no read items and no written places. Its questions are asked apart from it, since a pass that is let through keeps its machine and delay memory good.
+// A pass of the bench: by number or by an order that is given, with no read items and no written places. Its questions are asked apart from it, since a pass that is let through keeps its machine and delay memory good.
 ghost use mathlib.Core.Path.{_≡_};
+ghost use mathlib.Core.Bool.{false};
 ghost use mathlib.Core.List.{[], _∷_};
 ghost use lib.ListN.{length};
 ghost use Rattle.sine.specs.Sine.{quarter};
@@ -8,7 +9,7 @@ ghost use Rattle.questions.specs.Questions.{asked};
 ghost use Rattle.machine.specs.Questions.{question1, question2};
 ghost use Rattle.order.specs.Order.{question7, question8};
 ghost use Rattle.order_lists.specs.Sequences.{byNumber};
-ghost use Rattle.bench_pass.specs.ByNumber.{passed, refusedAgain};
+ghost use Rattle.bench_pass.specs.BenchPass.{orderingOf, passed, orderAsked, refusedAgain};
 use exponential::Entries;
 use sine::Quarter;
 use texts::Text;
@@ -40,11 +41,26 @@ fn data_refusal(text: Text, m: &[u32]) -> u32
     0
 }
 
-// The number of the first of questions 7, 8, 11 and 12 that is answered no, or 0, of a machine that passes questions 1 and 2.
-pub fn refusal_again(text: Text, m: &[u32]) -> u32
+// Of a machine that passes questions 1 and 2: 5 or 6 of an order that is given, else 0. The order by number passes both.
+fn given_refusal(text: Text, m: &[u32], given: bool, order: &[u32]) -> u32
     requires { ⌜ asked (question1 (now m) ∷ question2 text (now m) ∷ []) ≡ 0 ⌝ }
-    ensures { λ r. ⌜ r ≡ refusedAgain text (now (m .entry)) ⌝ }
+    ensures { λ r. ⌜ r ≡ orderAsked (orderingOf given (now (order .entry))) (now (m .entry)) ⌝ }
 {
+    if given {
+        return order::order_refusal(order, layout::ticks(m));
+    }
+    0
+}
+
+// The number of the first of questions 5, 6, 7, 8, 11 and 12 that is answered no, or 0, of a machine that passes questions 1 and 2.
+pub fn refusal_again(text: Text, m: &[u32], given: bool, order: &[u32]) -> u32
+    requires { ⌜ asked (question1 (now m) ∷ question2 text (now m) ∷ []) ≡ 0 ⌝ }
+    ensures { λ r. ⌜ r ≡ refusedAgain text (orderingOf given (now (order .entry))) (now (m .entry)) ⌝ }
+{
+    let ordered = given_refusal(text, m, given, order);
+    if ordered != 0 {
+        return ordered;
+    }
     let number = data_refusal(text, m);
     if number != 0 {
         return number;
@@ -52,13 +68,17 @@ pub fn refusal_again(text: Text, m: &[u32]) -> u32
     pass::unit_refusal(text, m)
 }
 
-// The number of the question that refuses a pass, or 0. The order by number passes 5 and 6.
-pub fn refusal(text: Text, m: &[u32], memory: &[u32]) -> u32
-    ensures { λ r. ⌜ r ≡ passed text (now (m .entry)) (now (memory .entry)) .number ⌝ }
+// The number of the question that refuses a pass, or 0.
+pub fn refusal(text: Text, m: &[u32], memory: &[u32], given: bool, order: &[u32]) -> u32
+    ensures { λ r. ⌜ r ≡ passed text (orderingOf given (now (order .entry))) (now (m .entry)) (now (memory .entry)) .number ⌝ }
 {
     let first = machine::refusal(text, m);
     if first != 0 {
         return first;
+    }
+    let ordered = given_refusal(text, m, given, order);
+    if ordered != 0 {
+        return ordered;
     }
     let number = data_refusal(text, m);
     if number != 0 {
@@ -70,19 +90,20 @@ pub fn refusal(text: Text, m: &[u32], memory: &[u32]) -> u32
     pass::unit_refusal(text, m)
 }
 
-// A pass that no question refuses, by the first entries of the order by number.
+// A pass that no question refuses, by the first T entries of a given order, or of the order by number of 256.
 pub fn run(
     text: Text,
     m: &mut [u32],
     memory: &mut [u32],
+    given: bool,
     order: &[u32],
     sine: &Quarter,
     decay: &Entries,
 )
-    requires { ⌜ passed text (now m) (now memory) .number ≡ 0 ⌝ }
-    requires { ⌜ now order ≡ byNumber 256 ⌝ }
+    requires { ⌜ passed text (orderingOf given (now order)) (now m) (now memory) .number ≡ 0 ⌝ }
+    requires { ⌜ (given ≡ false → now order ≡ byNumber 256) ⌝ }
     requires { ⌜ (now sine ≡ quarter) × (now decay ≡ entries tableSize) ⌝ }
-    ensures { λ _. ⌜ (now (m .exit) ≡ passed text (now (m .entry)) (now (memory .entry)) .machine) × (now (memory .exit) ≡ passed text (now (m .entry)) (now (memory .entry)) .memory) ⌝ }
+    ensures { λ _. ⌜ (now (m .exit) ≡ passed text (orderingOf given (now (order .entry))) (now (m .entry)) (now (memory .entry)) .machine) × (now (memory .exit) ≡ passed text (orderingOf given (now (order .entry))) (now (m .entry)) (now (memory .entry)) .memory) ⌝ }
 {
     let t = layout::ticks(m);
     let mut places = [0u32; 1];

@@ -1,4 +1,4 @@
--- What is heard without commands, from a machine that isn't lingering, are the machines of passes by number in sequence, up to the first refusal.
+-- What is heard without commands, from a machine that isn't lingering, are the machines of passes in sequence, up to the first refusal.
 -- Assumes nothing.
 use mathlib.Core.Path.{_≡_, refl, sym, ap, _∙_}
 use mathlib.Core.Bool.{Bool, true, false, cond, not, _&&_}
@@ -8,22 +8,20 @@ use native.Mathlib.Omega.{arith}
 use native.Mathlib.Nat.{not-suc-le-zero, le-of-suc-le-suc}
 use borrow.Author.Tests.{eqb-true, eqb-false}
 use lib.Dec.{eqb}
-use lib.ListN.{length, getD, set, length-set}
+use lib.ListN.{length, getD, set, replicate, length-set}
 use lib.Seq.{getD-set-same, getD-set-other, ext-getD}
 use Rattle.layout.specs.Layout.{lingeringAt, lingerPassAt}
-use Rattle.layout.specs.Machine.{Machine, Memory, Commands, lowCounter}
+use Rattle.layout.specs.Machine.{Machine, Memory, Commands, lowCounter, ticksOf}
 use Rattle.texts.specs.declared.Text.{Text}
 use Rattle.texts.specs.declared.Text.the-variants.{Of1978, Old}
 use Rattle.questions.specs.Questions.{asked}
 use Rattle.machine.specs.Questions.{question1, question2}
 use Rattle.pass_model.specs.Pass.{Outcome as Pass}
-use Rattle.pass_laws.specs.Passes.{passesByNumber}
+use Rattle.pass_laws.specs.Passes.{noData, rungBy}
 use Rattle.pass_laws.proofs.PassSettings.{pass-settings}
-use Rattle.pass_laws.proofs.PassesInSequence.{by-number-first, by-number-none}
 use Rattle.update.specs.Update.{Outcome, outcome, mostCommands, stillLingering, takenBy, updateOf}
-use Rattle.bench_pass.specs.ByNumber.{benchCall, passed}
-use Rattle.bench_ringing.specs.Ringing.{updateAfter}
-use Rattle.bench_ringing.specs.Heard.{Heard, heardAfter, heardRefused, heard}
+use Rattle.bench_pass.specs.BenchPass.{Ordering, benchCall, passed}
+use Rattle.bench_ringing.specs.Heard.{updateAfter, Heard, heardAfter, heardRefused, heard}
 
 -- A word that is put where it stands already.
 put-again : (m : List ℕ) (i : ℕ) → set m i (getD m i 0) ≡ m
@@ -59,19 +57,34 @@ after-nothing : (text : Text) (m : Machine) → getD m lingeringAt 0 ≡ 0 → (
 after-nothing Of1978 m e = update-nothing m e
 after-nothing Old m e = (refl, refl)
 
-none-heard : (text : Text) (m : Machine) (memory : Memory) (k : ℕ) → k < length (heard text 0 m memory [] .machines) → ⊥
+none-heard : (text : Text) (by : Ordering) (m : Machine) (memory : Memory) (k : ℕ) → k < length (heard text by 0 m memory [] .machines) → ⊥
 unfolding heard
-none-heard text m memory k h = not-suc-le-zero h
+none-heard text by m memory k h = not-suc-le-zero h
+
+-- So many passes in sequence, by the order for the T of the first machine, which no pass changes.
+abbrev sequence : Text → Ordering → ℕ → Machine → Memory → Machine
+sequence text by n m memory = rungBy text (by (ticksOf m)) m memory (replicate n noData) .machine
+
+sequence-first : (text : Text) (by : Ordering) (n : ℕ) (m : Machine) (memory : Memory)
+    → sequence text by (suc n) m memory ≡ sequence text by n (passed text by m memory .machine) (passed text by m memory .memory)
+unfolding rungBy
+sequence-first text by n m memory =
+    let r = passed text by m memory in
+    ap (λ (t : ℕ). rungBy text (by t) (r .machine) (r .memory) (replicate n noData) .machine) (sym (pass-settings text m (benchCall by m memory) .t))
+
+sequence-none : (text : Text) (by : Ordering) (m : Machine) (memory : Memory) → sequence text by 0 m memory ≡ m
+unfolding rungBy
+sequence-none text by m memory = refl
 
 -- One pass more, where those after it are as they should be.
-module _ (text : Text) (n : ℕ) (m : Machine) (memory : Memory) where
+module _ (text : Text) (by : Ordering) (n : ℕ) (m : Machine) (memory : Memory) where
   abbrev p : Pass
-  p = passed text m memory
+  p = passed text by m memory
 
   first-heard : getD m lingeringAt 0 ≡ 0
-      → ((k : ℕ) → k < length (heard text n (p .machine) (p .memory) [] .machines)
-      → getD (heard text n (p .machine) (p .memory) [] .machines) k [] ≡ passesByNumber text (suc k) (p .machine) (p .memory) .machine)
-      → (k : ℕ) → k < length (heard text (suc n) m memory [] .machines) → getD (heard text (suc n) m memory [] .machines) k [] ≡ passesByNumber text (suc k) m memory .machine
+      → ((k : ℕ) → k < length (heard text by n (p .machine) (p .memory) [] .machines)
+      → getD (heard text by n (p .machine) (p .memory) [] .machines) k [] ≡ sequence text by (suc k) (p .machine) (p .memory))
+      → (k : ℕ) → k < length (heard text by (suc n) m memory [] .machines) → getD (heard text by (suc n) m memory [] .machines) k [] ≡ sequence text by (suc k) m memory
   unfolding heard
   first-heard e others k h = go (eqb (p .number) 0) (eqb (u .number) 0) k h
     where
@@ -79,24 +92,24 @@ module _ (text : Text) (n : ℕ) (m : Machine) (memory : Memory) where
       u = updateAfter text (p .machine) []
 
       done : (u .machine ≡ p .machine) × (u .rest ≡ [])
-      done = after-nothing text (p .machine) (pass-settings text m (benchCall m memory) .lingering ∙ e)
+      done = after-nothing text (p .machine) (pass-settings text m (benchCall by m memory) .lingering ∙ e)
 
-      same : heard text n (u .machine) (p .memory) (u .rest) ≡ heard text n (p .machine) (p .memory) []
+      same : heard text by n (u .machine) (p .memory) (u .rest) ≡ heard text by n (p .machine) (p .memory) []
       same = rw (done .0, done .1)
 
-      go : (x y : Bool) (k : ℕ) → k < length (cond x (cond y (heardAfter (u .machine) (heard text n (u .machine) (p .memory) (u .rest))) (heardRefused (u .number))) (heardRefused (p .number)) .machines)
-          → getD (cond x (cond y (heardAfter (u .machine) (heard text n (u .machine) (p .memory) (u .rest))) (heardRefused (u .number))) (heardRefused (p .number)) .machines) k []
-          ≡ passesByNumber text (suc k) m memory .machine
-      go true true zero l = done .0 ∙ sym (by-number-first text 0 m memory ∙ by-number-none text (p .machine) (p .memory))
+      go : (x y : Bool) (k : ℕ) → k < length (cond x (cond y (heardAfter (u .machine) (heard text by n (u .machine) (p .memory) (u .rest))) (heardRefused (u .number))) (heardRefused (p .number)) .machines)
+          → getD (cond x (cond y (heardAfter (u .machine) (heard text by n (u .machine) (p .memory) (u .rest))) (heardRefused (u .number))) (heardRefused (p .number)) .machines) k []
+          ≡ sequence text by (suc k) m memory
+      go true true zero l = done .0 ∙ sym (sequence-first text by 0 m memory ∙ sequence-none text by (p .machine) (p .memory))
       go true true (suc k) l =
           ap (λ (r : Heard). getD (r .machines) k []) same
           ∙ others k (rw same at (le-of-suc-le-suc l))
-          ∙ sym (by-number-first text (suc k) m memory)
+          ∙ sym (sequence-first text by (suc k) m memory)
       go true false k l = absurd (not-suc-le-zero l)
       go false y k l = absurd (not-suc-le-zero l)
 
-  one-more : (commands : Commands) → ((rest : Commands) (l : Machine) → heard text n l (p .memory) rest .number ≡ 0 → length (heard text n l (p .memory) rest .machines) ≡ n)
-      → heard text (suc n) m memory commands .number ≡ 0 → length (heard text (suc n) m memory commands .machines) ≡ suc n
+  one-more : (commands : Commands) → ((rest : Commands) (l : Machine) → heard text by n l (p .memory) rest .number ≡ 0 → length (heard text by n l (p .memory) rest .machines) ≡ n)
+      → heard text by (suc n) m memory commands .number ≡ 0 → length (heard text by (suc n) m memory commands .machines) ≡ suc n
   unfolding heard
   one-more commands others e = go (eqb (p .number) 0) (eqb (u .number) 0) refl refl e
     where
@@ -104,23 +117,23 @@ module _ (text : Text) (n : ℕ) (m : Machine) (memory : Memory) where
       u = updateAfter text (p .machine) commands
 
       go : (x y : Bool) → eqb (p .number) 0 ≡ x → eqb (u .number) 0 ≡ y
-          → cond x (cond y (heardAfter (u .machine) (heard text n (u .machine) (p .memory) (u .rest))) (heardRefused (u .number))) (heardRefused (p .number)) .number ≡ 0
-          → length (cond x (cond y (heardAfter (u .machine) (heard text n (u .machine) (p .memory) (u .rest))) (heardRefused (u .number))) (heardRefused (p .number)) .machines) ≡ suc n
+          → cond x (cond y (heardAfter (u .machine) (heard text by n (u .machine) (p .memory) (u .rest))) (heardRefused (u .number))) (heardRefused (p .number)) .number ≡ 0
+          → length (cond x (cond y (heardAfter (u .machine) (heard text by n (u .machine) (p .memory) (u .rest))) (heardRefused (u .number))) (heardRefused (p .number)) .machines) ≡ suc n
       go true true q r z = ap suc (others (u .rest) (u .machine) z)
       go true false q r z = absurd (eqb-false (u .number) 0 r z)
       go false y q r z = absurd (eqb-false (p .number) 0 q z)
 
 -- The machine after pass k + 1, where that is heard, is the one after k + 1 passes in sequence.
-pub heard-passes : (text : Text) (n : ℕ) (m : Machine) (memory : Memory) → getD m lingeringAt 0 ≡ 0 → (k : ℕ) → k < length (heard text n m memory [] .machines)
-    → getD (heard text n m memory [] .machines) k [] ≡ passesByNumber text (suc k) m memory .machine
-heard-passes text zero m memory e k h = absurd (none-heard text m memory k h)
-heard-passes text (suc n) m memory e k h =
-    let r = passed text m memory in
-    first-heard text n m memory e (λ i l. heard-passes text n (r .machine) (r .memory) (pass-settings text m (benchCall m memory) .lingering ∙ e) i l) k h
+pub heard-passes : (text : Text) (by : Ordering) (n : ℕ) (m : Machine) (memory : Memory) → getD m lingeringAt 0 ≡ 0 → (k : ℕ) → k < length (heard text by n m memory [] .machines)
+    → getD (heard text by n m memory [] .machines) k [] ≡ rungBy text (by (ticksOf m)) m memory (replicate (suc k) noData) .machine
+heard-passes text by zero m memory e k h = absurd (none-heard text by m memory k h)
+heard-passes text by (suc n) m memory e k h =
+    let r = passed text by m memory in
+    first-heard text by n m memory e (λ i l. heard-passes text by n (r .machine) (r .memory) (pass-settings text m (benchCall by m memory) .lingering ∙ e) i l) k h
 
 -- Where nothing is refused, each pass is heard.
-pub heard-all : (text : Text) (n : ℕ) (m : Machine) (memory : Memory) (commands : Commands) → heard text n m memory commands .number ≡ 0 → length (heard text n m memory commands .machines) ≡ n
+pub heard-all : (text : Text) (by : Ordering) (n : ℕ) (m : Machine) (memory : Memory) (commands : Commands) → heard text by n m memory commands .number ≡ 0 → length (heard text by n m memory commands .machines) ≡ n
 unfolding heard
-heard-all text zero m memory commands e = refl
-heard-all text (suc n) m memory commands e =
-    one-more text n m memory commands (λ rest l z. heard-all text n l (passed text m memory .memory) rest z) e
+heard-all text by zero m memory commands e = refl
+heard-all text by (suc n) m memory commands e =
+    one-more text by n m memory commands (λ rest l z. heard-all text by n l (passed text by m memory .memory) rest z) e

@@ -1,4 +1,4 @@
--- The steps of a ringing, one after another until no pass is left, give out all that is heard; as lines they are what is to be printed.
+-- The steps of a ringing, one after another until no pass is left, give out all that is heard, as lines or as frames.
 -- Assumes nothing.
 use mathlib.Core.Path.{_≡_, refl, sym, _∙_, ap}
 use mathlib.Core.Logic.{_≢_}
@@ -8,14 +8,12 @@ use Prim.Native.Nat.{ℕ, zero, suc, _-_, _≤_, _<_}
 use native.Mathlib.Omega.{arith}
 use borrow.Author.Tests.{eqb-true, eqb-false, eq-eqb, ne-eqb}
 use lib.Dec.{eqb}
-use Rattle.layout.specs.Machine.{Machine, Memory, Commands}
+use Rattle.layout.specs.Machine.{Machine}
 use Rattle.texts.specs.declared.Text.{Text}
 use Rattle.pass_model.specs.Pass.{Outcome as Passed}
-use Rattle.bench_text.specs.Text.{refusalLine}
 use Rattle.update.specs.Update.{Outcome}
-use Rattle.bench_pass.specs.ByNumber.{passed}
-use Rattle.bench_ringing.specs.Ringing.{updateAfter, lineAfter, printed}
-use Rattle.bench_ringing.specs.Heard.{Heard, heardAfter, heardRefused, heard, linesAfter, linesHeard, framesOf}
+use Rattle.bench_pass.specs.BenchPass.{Ordering, passed}
+use Rattle.bench_ringing.specs.Heard.{updateAfter, Heard, heardAfter, heardRefused, heard, linesAfter, linesHeard, framesOf}
 use Rattle.bench_ringing.specs.Steps.{givenAfter, givenRefused, Ringing, Step, stepOf, untilDone}
 use Rattle.bench_ringing.specs.declared.Output.{Output}
 use Rattle.bench_ringing.specs.declared.Output.the-variants.{Lines, Frames}
@@ -33,14 +31,14 @@ unfoldable pub given : Output → Heard → List ℕ
 given o h = givenMachines o (h .machines) ++ givenEnd o (h .number)
 
 -- What is heard of a ringing under way, what is given out of that, and the number that ends it.
-abbrev pub heardFrom : (text : Text) → Ringing → Heard
-heardFrom text r = heard text (r .passes) (r .machine) (r .memory) (r .commands)
+abbrev pub heardFrom : Text → Ordering → Ringing → Heard
+heardFrom text by r = heard text by (r .passes) (r .machine) (r .memory) (r .commands)
 
-abbrev pub onward : (text : Text) → Output → Ringing → List ℕ
-onward text o r = given o (heardFrom text r)
+abbrev pub onward : Text → Ordering → Output → Ringing → List ℕ
+onward text by o r = given o (heardFrom text by r)
 
-unfoldable pub endNumber : (text : Text) → Ringing → ℕ
-endNumber text r = cond (eqb (r .passes) 0) (r .number) (heardFrom text r .number)
+unfoldable pub endNumber : Text → Ordering → Ringing → ℕ
+endNumber text by r = cond (eqb (r .passes) 0) (r .number) (heardFrom text by r .number)
 
 -- Nothing but a refusal, by its number.
 refused-given : (o : Output) (n : ℕ) → n ≢ 0 → given o (heardRefused n) ≡ givenRefused o n
@@ -56,30 +54,30 @@ unfolding given givenMachines
 after-given o m h = append-assoc (givenAfter o m) (givenMachines o (h .machines)) (givenEnd o (h .number))
 
 -- With no pass left it is nothing.
-none-heard : (text : Text) (r : Ringing) → r .passes ≡ 0 → heardFrom text r ≡ heardRefused 0
+none-heard : (text : Text) (by : Ordering) (r : Ringing) → r .passes ≡ 0 → heardFrom text by r ≡ heardRefused 0
 unfolding heard
-none-heard text r z = rw z refl
+none-heard text by r z = rw z refl
 
-pub none-left : (text : Text) (o : Output) (r : Ringing) → r .passes ≡ 0 → [] ≡ onward text o r
-none-left text o r z = sym (ap (given o) (none-heard text r z) ∙ none-given o)
+pub none-left : (text : Text) (by : Ordering) (o : Output) (r : Ringing) → r .passes ≡ 0 → [] ≡ onward text by o r
+none-left text by o r z = sym (ap (given o) (none-heard text by r z) ∙ none-given o)
 
-pub ended-number : (text : Text) (r : Ringing) → r .passes ≡ 0 → endNumber text r ≡ r .number
+pub ended-number : (text : Text) (by : Ordering) (r : Ringing) → r .passes ≡ 0 → endNumber text by r ≡ r .number
 unfolding endNumber
-ended-number text r z = rw (eq-eqb (r .passes) 0 z)
+ended-number text by r z = rw (eq-eqb (r .passes) 0 z)
 
 -- The number that ends a ringing is that of what is heard, where none has ended it before.
-pub heard-number : (text : Text) (r : Ringing) → r .number ≡ 0 → endNumber text r ≡ heardFrom text r .number
+pub heard-number : (text : Text) (by : Ordering) (r : Ringing) → r .number ≡ 0 → endNumber text by r ≡ heardFrom text by r .number
 unfolding endNumber
-heard-number text r z = go (eqb (r .passes) 0) refl
+heard-number text by r z = go (eqb (r .passes) 0) refl
   where
-    go : (b : Bool) → eqb (r .passes) 0 ≡ b → cond b (r .number) (heardFrom text r .number) ≡ heardFrom text r .number
-    go true e = z ∙ sym (ap (λ (h : Heard). h .number) (none-heard text r (eqb-true (r .passes) 0 e)))
+    go : (b : Bool) → eqb (r .passes) 0 ≡ b → cond b (r .number) (heardFrom text by r .number) ≡ heardFrom text by r .number
+    go true e = z ∙ sym (ap (λ (h : Heard). h .number) (none-heard text by r (eqb-true (r .passes) 0 e)))
     go false e = refl
 
 -- What is heard of a ringing with a pass left, by the two numbers.
-module _ (text : Text) (r : Ringing) (some : r .passes ≢ 0) where
+module _ (text : Text) (by : Ordering) (r : Ringing) (some : r .passes ≢ 0) where
   abbrev pass : Passed
-  pass = passed text (r .machine) (r .memory)
+  pass = passed text by (r .machine) (r .memory)
 
   abbrev update : Outcome
   update = updateAfter text (pass .machine) (r .commands)
@@ -87,126 +85,93 @@ module _ (text : Text) (r : Ringing) (some : r .passes ≢ 0) where
   one-more : r .passes ≡ suc (r .passes - 1)
   one-more = omega arith
 
-  begins : heardFrom text r ≡ heard text (suc (r .passes - 1)) (r .machine) (r .memory) (r .commands)
-  begins = ap (λ (i : ℕ). heard text i (r .machine) (r .memory) (r .commands)) one-more
+  begins : heardFrom text by r ≡ heard text by (suc (r .passes - 1)) (r .machine) (r .memory) (r .commands)
+  begins = ap (λ (i : ℕ). heard text by i (r .machine) (r .memory) (r .commands)) one-more
 
-  heard-pass : pass .number ≢ 0 → heardFrom text r ≡ heardRefused (pass .number)
+  heard-pass : pass .number ≢ 0 → heardFrom text by r ≡ heardRefused (pass .number)
   unfolding heard
   heard-pass h = begins ∙ rw (ne-eqb (pass .number) 0 h)
 
-  heard-update : pass .number ≡ 0 → update .number ≢ 0 → heardFrom text r ≡ heardRefused (update .number)
+  heard-update : pass .number ≡ 0 → update .number ≢ 0 → heardFrom text by r ≡ heardRefused (update .number)
   unfolding heard
   heard-update z h = begins ∙ rw (eq-eqb (pass .number) 0 z, ne-eqb (update .number) 0 h)
 
-  heard-both : pass .number ≡ 0 → update .number ≡ 0 → heardFrom text r ≡ heardAfter (update .machine) (heard text (r .passes - 1) (update .machine) (pass .memory) (update .rest))
+  heard-both : pass .number ≡ 0 → update .number ≡ 0 → heardFrom text by r ≡ heardAfter (update .machine) (heard text by (r .passes - 1) (update .machine) (pass .memory) (update .rest))
   unfolding heard
   heard-both z h = begins ∙ rw (eq-eqb (pass .number) 0 z, eq-eqb (update .number) 0 h)
 
-  number-from : endNumber text r ≡ heardFrom text r .number
+  number-from : endNumber text by r ≡ heardFrom text by r .number
   unfolding endNumber
   number-from = rw (ne-eqb (r .passes) 0 some)
 
 -- A step of a ringing with a pass left: it lowers the passes left, what it gives out and what is given out after it is all, and the number that ends it stays.
-pub record Falls (text : Text) (o : Output) (r : Ringing) (s : Step) : Type 0 where
+pub record Falls (text : Text) (by : Ordering) (o : Output) (r : Ringing) (s : Step) : Type 0 where
   pub falls : s .next .passes < r .passes
-  pub prints : onward text o r ≡ s .bytes ++ onward text o (s .next)
-  pub ends : endNumber text r ≡ endNumber text (s .next)
+  pub prints : onward text by o r ≡ s .bytes ++ onward text by o (s .next)
+  pub ends : endNumber text by r ≡ endNumber text by (s .next)
 
 -- A refusal leaves a ringing that is done.
-falls-refused : (text : Text) (o : Output) (r : Ringing) → r .passes ≢ 0 → {m memory commands : List ℕ} (n : ℕ) → n ≢ 0 → heardFrom text r ≡ heardRefused n
-    → Falls text o r (record { bytes = givenRefused o n; next = record { passes = 0; machine = m; memory = memory; commands = commands; number = n } })
-falls-refused text o r some {m} {memory} {commands} n h e =
+falls-refused : (text : Text) (by : Ordering) (o : Output) (r : Ringing) → r .passes ≢ 0 → {m memory commands : List ℕ} (n : ℕ) → n ≢ 0 → heardFrom text by r ≡ heardRefused n
+    → Falls text by o r (record { bytes = givenRefused o n; next = record { passes = 0; machine = m; memory = memory; commands = commands; number = n } })
+falls-refused text by o r some {m} {memory} {commands} n h e =
     let next : Ringing = record { passes = 0; machine = m; memory = memory; commands = commands; number = n } in
     record {
       falls = omega arith;
-      prints = ap (given o) e ∙ refused-given o n h ∙ sym (append-nil (givenRefused o n)) ∙ ap (λ (l : List ℕ). givenRefused o n ++ l) (none-left text o next refl);
-      ends = number-from text r some ∙ ap (λ (l : Heard). l .number) e ∙ sym (ended-number text next refl);
+      prints = ap (given o) e ∙ refused-given o n h ∙ sym (append-nil (givenRefused o n)) ∙ ap (λ (l : List ℕ). givenRefused o n ++ l) (none-left text by o next refl);
+      ends = number-from text by r some ∙ ap (λ (l : Heard). l .number) e ∙ sym (ended-number text by next refl);
     }
 
-pub step-falls : (text : Text) (o : Output) (r : Ringing) → r .passes ≢ 0 → Falls text o r (stepOf text o r)
-step-falls text o r some = go (eqb (p .number) 0) refl (eqb (u .number) 0) refl
+pub step-falls : (text : Text) (by : Ordering) (o : Output) (r : Ringing) → r .passes ≢ 0 → Falls text by o r (stepOf text by o r)
+step-falls text by o r some = go (eqb (p .number) 0) refl (eqb (u .number) 0) refl
   where
     p : Passed
-    p = passed text (r .machine) (r .memory)
+    p = passed text by (r .machine) (r .memory)
 
     u : Outcome
     u = updateAfter text (p .machine) (r .commands)
 
-    go : (a : Bool) → eqb (p .number) 0 ≡ a → (b : Bool) → eqb (u .number) 0 ≡ b → Falls text o r (stepOf text o r)
+    go : (a : Bool) → eqb (p .number) 0 ≡ a → (b : Bool) → eqb (u .number) 0 ≡ b → Falls text by o r (stepOf text by o r)
     go true e true f =
         let z = eqb-true (p .number) 0 e in
         let y = eqb-true (u .number) 0 f in
-        let h = heard-both text r some z y in
+        let h = heard-both text by r some z y in
         let next : Ringing = record { passes = r .passes - 1; machine = u .machine; memory = p .memory; commands = u .rest; number = 0 } in
-        rw (by-both text o r some z y)
+        rw (by-both text by o r some z y)
         (record {
           falls = omega arith;
-          prints = ap (given o) h ∙ after-given o (u .machine) (heardFrom text next);
-          ends = number-from text r some ∙ ap (λ (l : Heard). l .number) h ∙ sym (heard-number text next refl);
+          prints = ap (given o) h ∙ after-given o (u .machine) (heardFrom text by next);
+          ends = number-from text by r some ∙ ap (λ (l : Heard). l .number) h ∙ sym (heard-number text by next refl);
         })
     go true e false f =
         let z = eqb-true (p .number) 0 e in
         let y = eqb-false (u .number) 0 f in
-        rw (by-update text o r some z y) (falls-refused text o r some (u .number) y (heard-update text r some z y))
+        rw (by-update text by o r some z y) (falls-refused text by o r some (u .number) y (heard-update text by r some z y))
     go false e b f =
         let z = eqb-false (p .number) 0 e in
-        rw (by-pass text o r some z) (falls-refused text o r some (p .number) z (heard-pass text r some z))
+        rw (by-pass text by o r some z) (falls-refused text by o r some (p .number) z (heard-pass text by r some z))
 
 -- So the steps until done give out all that is heard.
-pub steps-are-given : (text : Text) (o : Output) (k : ℕ) (r : Ringing) → r .passes ≤ k → untilDone text o k r ≡ onward text o r
+pub steps-are-given : (text : Text) (by : Ordering) (o : Output) (k : ℕ) (r : Ringing) → r .passes ≤ k → untilDone text by o k r ≡ onward text by o r
 unfolding untilDone
-steps-are-given text o zero r h = none-left text o r (omega arith)
-steps-are-given text o (suc k) r h = by (eqb (r .passes) 0) refl (λ n. steps-are-given text o k (stepOf text o r .next) (omega (arith, step-falls text o r n .falls)))
+steps-are-given text by o zero r h = none-left text by o r (omega arith)
+steps-are-given text by o (suc k) r h = onwards (eqb (r .passes) 0) refl (λ n. steps-are-given text by o k (stepOf text by o r .next) (omega (arith, step-falls text by o r n .falls)))
   where
-    by : (b : Bool) → eqb (r .passes) 0 ≡ b → (r .passes ≢ 0 → untilDone text o k (stepOf text o r .next) ≡ onward text o (stepOf text o r .next))
-        → cond b [] (stepOf text o r .bytes ++ untilDone text o k (stepOf text o r .next)) ≡ onward text o r
-    by true e f = none-left text o r (eqb-true (r .passes) 0 e)
-    by false e f =
+    onwards : (b : Bool) → eqb (r .passes) 0 ≡ b → (r .passes ≢ 0 → untilDone text by o k (stepOf text by o r .next) ≡ onward text by o (stepOf text by o r .next))
+        → cond b [] (stepOf text by o r .bytes ++ untilDone text by o k (stepOf text by o r .next)) ≡ onward text by o r
+    onwards true e f = none-left text by o r (eqb-true (r .passes) 0 e)
+    onwards false e f =
         let n = eqb-false (r .passes) 0 e in
-        ap (λ (l : List ℕ). stepOf text o r .bytes ++ l) (f n) ∙ sym (step-falls text o r n .prints)
+        ap (λ (l : List ℕ). stepOf text by o r .bytes ++ l) (f n) ∙ sym (step-falls text by o r n .prints)
 
--- What is printed are the lines of the machines that are heard, and the line of a refusal.
-after-line : (m : Machine) (h : Heard) → given Lines (heardAfter m h) ≡ lineAfter m ++ given Lines h
-unfolding givenAfter
-after-line m h = after-given Lines m h
-
-refused-line : (n : ℕ) → n ≢ 0 → given Lines (heardRefused n) ≡ refusalLine n
-unfolding givenRefused
-refused-line n h = refused-given Lines n h
-
-pub printed-given : (text : Text) (k : ℕ) (m : Machine) (memory : Memory) (commands : Commands) → printed text k m memory commands ≡ given Lines (heard text k m memory commands)
-unfolding printed heard
-printed-given text zero m memory commands = sym (none-given Lines)
-printed-given text (suc k) m memory commands =
-    go (eqb (p .number) 0) refl (eqb (u .number) 0) refl (printed-given text k (u .machine) (p .memory) (u .rest))
-  where
-    p : Passed
-    p = passed text m memory
-
-    u : Outcome
-    u = updateAfter text (p .machine) commands
-
-    rest : Heard
-    rest = heard text k (u .machine) (p .memory) (u .rest)
-
-    go : (a : Bool) → eqb (p .number) 0 ≡ a → (b : Bool) → eqb (u .number) 0 ≡ b → printed text k (u .machine) (p .memory) (u .rest) ≡ given Lines rest
-        → cond a (cond b (lineAfter (u .machine) ++ printed text k (u .machine) (p .memory) (u .rest)) (refusalLine (u .number))) (refusalLine (p .number))
-        ≡ given Lines (cond a (cond b (heardAfter (u .machine) rest) (heardRefused (u .number))) (heardRefused (p .number)))
-    go true e true f q = ap (λ (l : List ℕ). lineAfter (u .machine) ++ l) q ∙ sym (after-line (u .machine) rest)
-    go true e false f q = sym (refused-line (u .number) (eqb-false (u .number) 0 f))
-    go false e b f q = sym (refused-line (p .number) (eqb-false (p .number) 0 e))
-
+-- As lines they are the lines of what is heard.
 lines-machines : (ms : List Machine) → givenMachines Lines ms ≡ linesAfter ms
 unfolding givenMachines givenAfter linesAfter
 lines-machines [] = refl
 lines-machines (m ∷ ms) = rw (lines-machines ms)
 
-lines-given : (h : Heard) → given Lines h ≡ linesHeard h
+pub lines-given : (h : Heard) → given Lines h ≡ linesHeard h
 unfolding given givenEnd givenRefused linesHeard
 lines-given h = rw (lines-machines (h .machines))
-
-pub printed-heard : (text : Text) (k : ℕ) (m : Machine) (memory : Memory) (commands : Commands) → printed text k m memory commands ≡ linesHeard (heard text k m memory commands)
-printed-heard text k m memory commands = printed-given text k m memory commands ∙ lines-given (heard text k m memory commands)
 
 -- As frames they are the frames of the machines that are heard.
 frames-machines : (ms : List Machine) → givenMachines Frames ms ≡ framesOf ms

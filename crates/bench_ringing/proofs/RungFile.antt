@@ -9,7 +9,7 @@ use borrow.Author.Tests.{eqb-true}
 use lib.Dec.{eqb}
 use lib.ListN.{length, getD, length-set}
 use lib.Seq.{sets, length-sets}
-use Rattle.bench_text.specs.Text.{refusalLine}
+use Rattle.bench_text.specs.Text.{refusalLine, orderRefusalLine}
 use Rattle.lists.proofs.Choices.{of-cond, of-test}
 use Rattle.bench_bytes.proofs.Puts.{first-part}
 use Rattle.layout.specs.Layout.{machineLength, updateTicksAt}
@@ -25,10 +25,13 @@ use Rattle.bench_lines.specs.declared.Line.the-variants.{Titled, Passes, Word, 
 use Rattle.bench_file.specs.BenchFile.{withWord, Reading, unread, withLine, withLines, fileOf, textOf, fileRefusal, commandPlaces, Answer, readOf}
 use Rattle.bench_file.proofs.WholeFile.{unrefused}
 use Rattle.bench_file.proofs.FewCommands.{few-commands}
-use Rattle.bench_ringing.specs.Ringing.{printed, memoryAtFirst, outputOf}
-use Rattle.bench_ringing.specs.Steps.{Ringing, untilDone, rungFrom}
+use Rattle.rung_order.specs.RungOrder.{orderingBy, orderRefusal}
+use Rattle.rung_order.specs.declared.By.{By}
+use Rattle.bench_ringing.specs.Heard.{linesHeard}
+use Rattle.bench_ringing.specs.Ringing.{memoryAtFirst, heardBy, outputOf}
+use Rattle.bench_ringing.specs.Steps.{Ringing, untilDone, begun, rungFrom}
 use Rattle.bench_ringing.specs.declared.Output.the-variants.{Lines}
-use Rattle.bench_ringing.proofs.Printing.{steps-are-given, printed-given}
+use Rattle.bench_ringing.proofs.Printing.{steps-are-given, lines-given}
 
 -- What reading answers and leaves, by its questions.
 module _ (file m room : List ℕ) where
@@ -50,23 +53,31 @@ module _ (file m room : List ℕ) where
   few e = few-commands file (unrefused file (eqb-true (fileRefusal file) 0 e))
 
   -- The whole program, for every file.
-  pub rung-file : length room ≡ commandPlaces → rungFrom (readOf file m room) ≡ outputOf file
-  unfolding rungFrom readOf outputOf
-  rung-file h = go (eqb (fileRefusal file) 0) refl
-    where
-      text : Text
-      text = textOf (fileOf file .title)
+  module _ (by : By) (orderFile : List ℕ) where
+    rung-lines : length room ≡ commandPlaces → eqb (fileRefusal file) 0 ≡ true
+        → untilDone (textOf (fileOf file .title)) (orderingBy by orderFile (fileOf file .machine)) Lines (fileOf file .passes) (begun (told true)) ≡ linesHeard (heardBy by orderFile (fileOf file))
+    unfolding heardBy
+    rung-lines h e =
+        let reading = fileOf file in
+        let text = textOf (reading .title) in
+        let used = orderingBy by orderFile (reading .machine) in
+        let r : Ringing = record { passes = reading .passes; machine = reading .machine; memory = memoryAtFirst; commands = reading .commands; number = 0 } in
+        ap (λ (l : List ℕ). untilDone text used Lines (reading .passes) (record { passes = reading .passes; machine = reading .machine; memory = memoryAtFirst; commands = l; number = 0 }))
+        (first-part (reading .commands) room (omega (arith, few e)))
+        ∙ steps-are-given text used Lines (reading .passes) r (omega arith)
+        ∙ lines-given _
 
-      go : (b : Bool) → eqb (fileRefusal file) 0 ≡ b
-          → rungFrom (told b) ≡ cond b (printed text (fileOf file .passes) (fileOf file .machine) memoryAtFirst (fileOf file .commands)) (refusalLine (fileRefusal file))
-      go true e =
-          let reading = fileOf file in
-          let r : Ringing = record { passes = reading .passes; machine = reading .machine; memory = memoryAtFirst; commands = reading .commands; number = 0 } in
-          ap (λ (l : List ℕ). untilDone text Lines (reading .passes) (record { passes = reading .passes; machine = reading .machine; memory = memoryAtFirst; commands = l; number = 0 }))
-          (first-part (reading .commands) room (omega (arith, few e)))
-          ∙ steps-are-given text Lines (reading .passes) r (omega arith)
-          ∙ sym (printed-given text (reading .passes) (reading .machine) memoryAtFirst (reading .commands))
-      go false e = rw e
+    pub rung-file : length room ≡ commandPlaces → rungFrom by orderFile (readOf file m room) ≡ outputOf by orderFile file
+    unfolding rungFrom readOf outputOf
+    rung-file h = go (eqb (fileRefusal file) 0) refl
+      where
+        other : ℕ
+        other = orderRefusal by orderFile
+
+        go : (b : Bool) → eqb (fileRefusal file) 0 ≡ b
+            → rungFrom by orderFile (told b) ≡ cond b (cond (eqb other 0) (linesHeard (heardBy by orderFile (fileOf file))) (orderRefusalLine other)) (refusalLine (fileRefusal file))
+        go true e = ap (λ (l : List ℕ). cond (eqb other 0) l (orderRefusalLine other)) (rung-lines h e)
+        go false e = rw e
 
   -- The commands that were read have room, which keeps its length.
   pub read-room : length (readOf file m room .room) ≡ length room

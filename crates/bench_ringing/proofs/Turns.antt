@@ -20,9 +20,8 @@ use Rattle.lists.proofs.Choices.{of-cond}
 use Rattle.lists.proofs.Parts.{part-from}
 use Rattle.bench_text.proofs.Lines.{pass-line-length, refusal-line-length}
 use Rattle.wave_format.proofs.Numbers.{frame-length}
-use Rattle.bench_pass.specs.ByNumber.{passed}
-use Rattle.bench_ringing.specs.Ringing.{updateAfter, lineAfter}
-use Rattle.bench_ringing.specs.Heard.{frameAfter}
+use Rattle.bench_pass.specs.BenchPass.{Ordering, passed}
+use Rattle.bench_ringing.specs.Heard.{updateAfter, lineAfter, frameAfter}
 use Rattle.bench_ringing.specs.Steps.{takenAfter, Lined, givenAfter, givenRefused, Ringing, Step, stepOf, commandsTaken}
 use Rattle.bench_ringing.specs.declared.Output.{Output}
 use Rattle.bench_ringing.specs.declared.Output.the-variants.{Lines, Frames}
@@ -69,54 +68,54 @@ lined text m cs q e =
     })
 
 -- A step by its passes and by the two numbers.
-module _ (text : Text) (o : Output) (r : Ringing) where
+module _ (text : Text) (by : Ordering) (o : Output) (r : Ringing) where
   abbrev pass : Passed
-  pass = passed text (r .machine) (r .memory)
+  pass = passed text by (r .machine) (r .memory)
 
   abbrev update : Outcome
   update = updateAfter text (pass .machine) (r .commands)
 
   module _ (some : r .passes ≢ 0) where
     pub by-pass : pass .number ≢ 0
-        → stepOf text o r ≡ record { bytes = givenRefused o (pass .number); next = record { passes = 0; machine = pass .machine; memory = pass .memory; commands = r .commands; number = pass .number } }
+        → stepOf text by o r ≡ record { bytes = givenRefused o (pass .number); next = record { passes = 0; machine = pass .machine; memory = pass .memory; commands = r .commands; number = pass .number } }
     unfolding stepOf
     by-pass h = rw (ne-eqb (r .passes) 0 some, ne-eqb (pass .number) 0 h)
 
     module _ (z : pass .number ≡ 0) where
       pub by-update : update .number ≢ 0
-          → stepOf text o r ≡ record { bytes = givenRefused o (update .number); next = record { passes = 0; machine = update .machine; memory = pass .memory; commands = update .rest; number = update .number } }
+          → stepOf text by o r ≡ record { bytes = givenRefused o (update .number); next = record { passes = 0; machine = update .machine; memory = pass .memory; commands = update .rest; number = update .number } }
       unfolding stepOf
       by-update h = rw (ne-eqb (r .passes) 0 some, eq-eqb (pass .number) 0 z, ne-eqb (update .number) 0 h)
 
       pub by-both : update .number ≡ 0
-          → stepOf text o r ≡ record { bytes = givenAfter o (update .machine); next = record { passes = r .passes - 1; machine = update .machine; memory = pass .memory; commands = update .rest; number = 0 } }
+          → stepOf text by o r ≡ record { bytes = givenAfter o (update .machine); next = record { passes = r .passes - 1; machine = update .machine; memory = pass .memory; commands = update .rest; number = 0 } }
       unfolding stepOf
       by-both h = rw (ne-eqb (r .passes) 0 some, eq-eqb (pass .number) 0 z, eq-eqb (update .number) 0 h)
 
 -- What a step promises: the length of what it gives out, that at the start of its buffer, what is left to ring, and the commands taken then.
-module _ (text : Text) (o : Output) (r : Ringing) (line : List ℕ) (from : ℕ) where
+module _ (text : Text) (by : Ordering) (o : Output) (r : Ringing) (line : List ℕ) (from : ℕ) where
   abbrev pub Stepped : List ℕ → ℕ → Ringing → ℕ → Type 0
   Stepped line' size next taken =
-      (size ≡ length (stepOf text o r .bytes))
-      × ((line' ≡ sets line 0 (stepOf text o r .bytes)) × ((next ≡ stepOf text o r .next) × (taken ≡ from + commandsTaken r (stepOf text o r))))
+      (size ≡ length (stepOf text by o r .bytes))
+      × ((line' ≡ sets line 0 (stepOf text by o r .bytes)) × ((next ≡ stepOf text by o r .next) × (taken ≡ from + commandsTaken r (stepOf text by o r))))
 
-  stepped : (bytes : List ℕ) {line' : List ℕ} {size taken : ℕ} {next : Ringing} → stepOf text o r ≡ record { bytes = bytes; next = next }
+  stepped : (bytes : List ℕ) {line' : List ℕ} {size taken : ℕ} {next : Ringing} → stepOf text by o r ≡ record { bytes = bytes; next = next }
       → (size ≡ length bytes) × (line' ≡ sets line 0 bytes) → taken ≡ from + (length (r .commands) - length (next .commands)) → Stepped line' size next taken
   stepped bytes e (es, el) et = rw e (es, (el, (refl, et)))
 
-  module _ (some : r .passes ≢ 0) {n : ℕ} {after memory : List ℕ} (en : n ≡ passed text (r .machine) (r .memory) .number) (ea : after ≡ passed text (r .machine) (r .memory) .machine)
-      (ey : memory ≡ passed text (r .machine) (r .memory) .memory) where
+  module _ (some : r .passes ≢ 0) {n : ℕ} {after memory : List ℕ} (en : n ≡ passed text by (r .machine) (r .memory) .number) (ea : after ≡ passed text by (r .machine) (r .memory) .machine)
+      (ey : memory ≡ passed text by (r .machine) (r .memory) .memory) where
     -- The pass is refused.
     pub step-refused : n ≢ 0 → {line' : List ℕ} {size : ℕ} → (size ≡ length (givenRefused o n)) × (line' ≡ sets line 0 (givenRefused o n))
         → Stepped line' size (record { passes = 0; machine = after; memory = memory; commands = r .commands; number = n }) from
-    step-refused h puts = stepped (givenRefused o n) (by-pass text o r some (λ e. h (en ∙ e)) ∙ rw (← en, ea, ey)) puts (omega arith)
+    step-refused h puts = stepped (givenRefused o n) (by-pass text by o r some (λ e. h (en ∙ e)) ∙ rw (← en, ea, ey)) puts (omega arith)
 
     module _ (z : n ≡ 0) {k count : ℕ} {last left : List ℕ} (eu : record { number = k; machine = last; rest = left } ≡ updateAfter text after (r .commands))
         (ec : count ≡ takenAfter text after (r .commands)) where
-      updated : record { number = k; machine = last; rest = left } ≡ updateAfter text (passed text (r .machine) (r .memory) .machine) (r .commands)
+      updated : record { number = k; machine = last; rest = left } ≡ updateAfter text (passed text by (r .machine) (r .memory) .machine) (r .commands)
       updated = eu ∙ ap (λ (l : List ℕ). updateAfter text l (r .commands)) ea
 
-      number-is : k ≡ updateAfter text (passed text (r .machine) (r .memory) .machine) (r .commands) .number
+      number-is : k ≡ updateAfter text (passed text by (r .machine) (r .memory) .machine) (r .commands) .number
       number-is = ap (λ (u : Outcome). u .number) updated
 
       taken-is : from + count ≡ from + (length (r .commands) - length left)
@@ -127,7 +126,7 @@ module _ (text : Text) (o : Output) (r : Ringing) (line : List ℕ) (from : ℕ)
           → Stepped line' size (record { passes = 0; machine = last; memory = memory; commands = left; number = k }) (from + count)
       step-update-refused h puts =
           stepped (givenRefused o k)
-          (by-update text o r some (sym en ∙ z) (λ e. h (number-is ∙ e)) ∙ rw (← updated, ← ey))
+          (by-update text by o r some (sym en ∙ z) (λ e. h (number-is ∙ e)) ∙ rw (← updated, ← ey))
           puts taken-is
 
       -- Neither is.
@@ -135,7 +134,7 @@ module _ (text : Text) (o : Output) (r : Ringing) (line : List ℕ) (from : ℕ)
           → Stepped line' size (record { passes = r .passes - 1; machine = last; memory = memory; commands = left; number = k }) (from + count)
       step-goes h puts =
           stepped (givenAfter o last)
-          (by-both text o r some (sym en ∙ z) (sym number-is ∙ h) ∙ rw (← updated, ← ey, h))
+          (by-both text by o r some (sym en ∙ z) (sym number-is ∙ h) ∙ rw (← updated, ← ey, h))
           puts taken-is
 
 -- What a step gives out has at most 51 bytes.
@@ -160,35 +159,35 @@ refused-length Frames n = omega arith
 Short : Step → Type 0
 Short s = length (s .bytes) ≤ 51
 
-pub step-length : (text : Text) (o : Output) (r : Ringing) → length (stepOf text o r .bytes) ≤ 51
+pub step-length : (text : Text) (by : Ordering) (o : Output) (r : Ringing) → length (stepOf text by o r .bytes) ≤ 51
 unfolding stepOf Short
-step-length text o r =
+step-length text by o r =
     of-cond Short (eqb (r .passes) 0) (omega arith)
-    (of-cond Short (eqb (passed text (r .machine) (r .memory) .number) 0)
-    (of-cond Short (eqb (updateAfter text (passed text (r .machine) (r .memory) .machine) (r .commands) .number) 0) (given-length o _) (refused-length o _))
+    (of-cond Short (eqb (passed text by (r .machine) (r .memory) .number) 0)
+    (of-cond Short (eqb (updateAfter text (passed text by (r .machine) (r .memory) .machine) (r .commands) .number) 0) (given-length o _) (refused-length o _))
     (refused-length o _))
 
 -- A step takes commands from the front: no more are left than before.
 Fewer : Ringing → Step → Type 0
 Fewer r s = length (s .next .commands) ≤ length (r .commands)
 
-pub step-takes : (text : Text) (o : Output) (r : Ringing) → length (stepOf text o r .next .commands) ≤ length (r .commands)
+pub step-takes : (text : Text) (by : Ordering) (o : Output) (r : Ringing) → length (stepOf text by o r .next .commands) ≤ length (r .commands)
 unfolding stepOf Fewer
-step-takes text o r =
-    let l = left-after text (passed text (r .machine) (r .memory) .machine) (r .commands) in
+step-takes text by o r =
+    let l = left-after text (passed text by (r .machine) (r .memory) .machine) (r .commands) in
     of-cond (Fewer r) (eqb (r .passes) 0) (omega arith)
-    (of-cond (Fewer r) (eqb (passed text (r .machine) (r .memory) .number) 0)
-    (of-cond (Fewer r) (eqb (updateAfter text (passed text (r .machine) (r .memory) .machine) (r .commands) .number) 0) l l)
+    (of-cond (Fewer r) (eqb (passed text by (r .machine) (r .memory) .number) 0)
+    (of-cond (Fewer r) (eqb (updateAfter text (passed text by (r .machine) (r .memory) .machine) (r .commands) .number) 0) l l)
     (omega arith))
 
 -- A step gives out a frame of six bytes, or none.
 OneFrame : Step → Type 0
 OneFrame s = length (s .bytes) ≤ 6
 
-pub frame-step : (text : Text) (r : Ringing) → length (stepOf text Frames r .bytes) ≤ 6
+pub frame-step : (text : Text) (by : Ordering) (r : Ringing) → length (stepOf text by Frames r .bytes) ≤ 6
 unfolding stepOf givenAfter givenRefused OneFrame
-frame-step text r =
-    let p = passed text (r .machine) (r .memory) in
+frame-step text by r =
+    let p = passed text by (r .machine) (r .memory) in
     let u = updateAfter text (p .machine) (r .commands) in
     of-cond OneFrame (eqb (r .passes) 0) (omega arith)
     (of-cond OneFrame (eqb (p .number) 0) (of-cond OneFrame (eqb (u .number) 0) (omega (arith, frame-after-length (u .machine))) (omega arith)) (omega arith))

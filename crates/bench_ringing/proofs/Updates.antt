@@ -13,7 +13,7 @@ use Rattle.machine.specs.Questions.{sound}
 use Rattle.update.proofs.Updating.{none-taken, left-within}
 use Rattle.update_laws.proofs.Lengths.{update-length}
 use Rattle.update_laws.proofs.UpdateSound.{update-sound}
-use Rattle.bench_ringing.specs.Ringing.{updateAfter}
+use Rattle.bench_ringing.specs.Heard.{updateAfter}
 use Rattle.bench_ringing.specs.Steps.{takenAfter}
 
 pub update-after-sound : (text : Text) (m : Machine) (cs : Commands) → sound text m ≡ true → sound text (updateAfter text m cs .machine) ≡ true

@@ -1,17 +1,23 @@
--- A ringing as it is heard: the machines that it goes through, up to a refusal. What the bench program prints are the lines of these machines (law `printed-heard`).
+-- A ringing as it is heard (document 01, "Bench file"; document 02, Q-1 and Q-10): the machines that it goes through, up to a refusal, and their lines and frames.
 -- Assumes nothing.
 use Prim.Native.Nat.{ℕ, zero, suc}
 use mathlib.Core.Bool.{cond}
 use mathlib.Core.List.{List, [], _∷_, _++_}
 use lib.Dec.{eqb}
 use lib.ListN.{getD}
-use Rattle.layout.specs.Layout.{dacAt}
+use Rattle.layout.specs.Layout.{counterAt, dacAt}
 use Rattle.layout.specs.Machine.{Machine, Memory, Commands}
 use Rattle.texts.specs.declared.Text.{Text}
-use Rattle.bench_text.specs.Text.{refusalLine}
+use Rattle.texts.specs.declared.Text.the-variants.{Of1978, Old}
+use Rattle.update.specs.Update.{Outcome, updateOf}
+use Rattle.bench_text.specs.Text.{passLine, refusalLine}
 use Rattle.wave_format.specs.WaveFormat.{frame}
-use Rattle.bench_pass.specs.ByNumber.{passed}
-use Rattle.bench_ringing.specs.Ringing.{updateAfter, lineAfter}
+use Rattle.bench_pass.specs.BenchPass.{Ordering, passed}
+
+-- What follows a pass by a text: an update with the commands still left; no update follows an old one.
+abbrev pub updateAfter : Text → Machine → Commands → Outcome
+updateAfter Of1978 m commands = updateOf m commands
+updateAfter Old m commands = record { number = 0; machine = m; rest = commands }
 
 -- The machines after each pass and its update, and the number of the refusal that ended the ringing, or 0.
 pub record Heard : Type 0 where
@@ -24,15 +30,19 @@ heardAfter m h = record { machines = m ∷ h .machines; number = h .number }
 abbrev pub heardRefused : ℕ → Heard
 heardRefused n = record { machines = []; number = n }
 
--- So many passes, each followed by an update with the commands still left; a refusal ends them. Delay memory goes from pass to pass.
-unfoldable pub heard : Text → ℕ → Machine → Memory → Commands → Heard
-heard text zero m memory commands = heardRefused 0
-heard text (suc passes) m memory commands =
-    let p = passed text m memory in
+-- So many passes by an ordering, each followed by an update with the commands still left; a refusal ends them. Delay memory goes from pass to pass.
+unfoldable pub heard : Text → Ordering → ℕ → Machine → Memory → Commands → Heard
+heard text by zero m memory commands = heardRefused 0
+heard text by (suc passes) m memory commands =
+    let p = passed text by m memory in
     let u = updateAfter text (p .machine) commands in
     cond (eqb (p .number) 0)
-    (cond (eqb (u .number) 0) (heardAfter (u .machine) (heard text passes (u .machine) (p .memory) (u .rest))) (heardRefused (u .number)))
+    (cond (eqb (u .number) 0) (heardAfter (u .machine) (heard text by passes (u .machine) (p .memory) (u .rest))) (heardRefused (u .number)))
     (heardRefused (p .number))
+
+-- The line of a machine after pass and update: the counter, then DAC 0 and DAC 1.
+unfoldable pub lineAfter : Machine → List ℕ
+lineAfter m = passLine (getD m counterAt 0) (getD m (dacAt 0) 0) (getD m (dacAt 1) 0)
 
 -- The lines of machines, one after another, and of what is heard: a refusal has its own.
 unfoldable pub linesAfter : List Machine → List ℕ

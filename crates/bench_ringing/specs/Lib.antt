@@ -1,3 +1,3 @@
-pub mod Ringing
 pub mod Heard
+pub mod Ringing
 pub mod Steps

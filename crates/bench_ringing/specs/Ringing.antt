@@ -1,46 +1,32 @@
 -- What the bench program prints (document 01, "Bench file"; document 02, Q-1 and Q-10).
 -- Assumes nothing.
-use Prim.Native.Nat.{ℕ, zero, suc}
+use Prim.Native.Nat.{ℕ}
 use mathlib.Core.Bool.{cond}
-use mathlib.Core.List.{List, [], _++_}
+use mathlib.Core.List.{List}
 use lib.Dec.{eqb}
-use lib.ListN.{getD}
 use Rattle.lists.specs.Lists.{zeros}
-use Rattle.layout.specs.Layout.{counterAt, dacAt, memoryWords}
-use Rattle.layout.specs.Machine.{Machine, Memory, Commands}
-use Rattle.texts.specs.declared.Text.{Text}
-use Rattle.texts.specs.declared.Text.the-variants.{Of1978, Old}
-use Rattle.update.specs.Update.{Outcome, updateOf}
-use Rattle.bench_text.specs.Text.{passLine, refusalLine}
-use Rattle.bench_file.specs.BenchFile.{fileOf, textOf, fileRefusal}
-use Rattle.bench_pass.specs.ByNumber.{passed}
-
--- The line of a machine after pass and update: the counter, then DAC 0 and DAC 1.
-unfoldable pub lineAfter : Machine → List ℕ
-lineAfter m = passLine (getD m counterAt 0) (getD m (dacAt 0) 0) (getD m (dacAt 1) 0)
-
--- What follows a pass by a text: an update with the commands still left; no update follows an old one.
-abbrev pub updateAfter : Text → Machine → Commands → Outcome
-updateAfter Of1978 m commands = updateOf m commands
-updateAfter Old m commands = record { number = 0; machine = m; rest = commands }
-
--- What is printed: so many passes, each followed by an update with the commands still left, a line after both; a refusal prints its number and ends. Delay memory goes from pass to pass.
-unfoldable pub printed : Text → ℕ → Machine → Memory → Commands → List ℕ
-printed text zero m memory commands = []
-printed text (suc passes) m memory commands =
-    let p = passed text m memory in
-    let u = updateAfter text (p .machine) commands in
-    cond (eqb (p .number) 0)
-    (cond (eqb (u .number) 0) (lineAfter (u .machine) ++ printed text passes (u .machine) (p .memory) (u .rest)) (refusalLine (u .number)))
-    (refusalLine (p .number))
+use Rattle.layout.specs.Layout.{memoryWords}
+use Rattle.layout.specs.Machine.{Memory}
+use Rattle.bench_text.specs.Text.{refusalLine, orderRefusalLine}
+use Rattle.bench_file.specs.BenchFile.{Reading, fileOf, textOf, fileRefusal}
+use Rattle.rung_order.specs.RungOrder.{orderingBy, orderRefusal}
+use Rattle.rung_order.specs.declared.By.{By}
+use Rattle.bench_ringing.specs.Heard.{Heard, heard, linesHeard}
 
 -- The delay memory that a ringing begins with: zeros.
 unfoldable pub memoryAtFirst : Memory
 memoryAtFirst = zeros memoryWords
 
--- The program's whole output for every file: its questions first, then by its text.
-unfoldable pub outputOf : List ℕ → List ℕ
-outputOf file =
-    let reading = fileOf file in
+-- What is heard of a file that is not refused: as many passes as it asks for, by its text, from its machine with its commands.
+unfoldable pub heardBy : By → List ℕ → Reading → Heard
+heardBy by orderFile reading =
+    heard (textOf (reading .title)) (orderingBy by orderFile (reading .machine)) (reading .passes) (reading .machine) memoryAtFirst (reading .commands)
+
+-- The program's whole output for every file, by number, by pitch or by an order file: the bench file's questions first, then that of the order file, then the lines.
+unfoldable pub outputOf : By → List ℕ → List ℕ → List ℕ
+outputOf by orderFile file =
     let number = fileRefusal file in
-    cond (eqb number 0) (printed (textOf (reading .title)) (reading .passes) (reading .machine) memoryAtFirst (reading .commands)) (refusalLine number)
+    let other = orderRefusal by orderFile in
+    cond (eqb number 0)
+    (cond (eqb other 0) (linesHeard (heardBy by orderFile (fileOf file))) (orderRefusalLine other))
+    (refusalLine number)

@@ -12,11 +12,13 @@ use Rattle.texts.specs.declared.Text.{Text}
 use Rattle.questions.specs.Questions.{asked}
 use Rattle.machine.specs.Questions.{question1, question2}
 use Rattle.delay_questions.specs.Questions.{memoryGood}
-use Rattle.bench_text.specs.Text.{refusalLine}
+use Rattle.bench_text.specs.Text.{refusalLine, orderRefusalLine}
 use Rattle.bench_file.specs.BenchFile.{Answer}
-use Rattle.bench_pass.specs.ByNumber.{passed}
-use Rattle.bench_ringing.specs.Ringing.{updateAfter, lineAfter, memoryAtFirst}
-use Rattle.bench_ringing.specs.Heard.{frameAfter}
+use Rattle.bench_pass.specs.BenchPass.{Ordering, passed}
+use Rattle.rung_order.specs.RungOrder.{orderingBy, orderRefusal}
+use Rattle.rung_order.specs.declared.By.{By}
+use Rattle.bench_ringing.specs.Heard.{updateAfter, lineAfter, frameAfter}
+use Rattle.bench_ringing.specs.Ringing.{memoryAtFirst}
 use Rattle.bench_ringing.specs.declared.Progress.{Progress}
 use Rattle.bench_ringing.specs.declared.Output.{Output}
 use Rattle.bench_ringing.specs.declared.Output.the-variants.{Lines, Frames}
@@ -54,9 +56,9 @@ pub record Step : Type 0 where
   pub next : Ringing
 
 -- One pass and one update; after a refusal no pass is left. With no pass left nothing is given out.
-unfoldable pub stepOf : Text → Output → Ringing → Step
-stepOf text o r =
-    let p = passed text (r .machine) (r .memory) in
+unfoldable pub stepOf : Text → Ordering → Output → Ringing → Step
+stepOf text by o r =
+    let p = passed text by (r .machine) (r .memory) in
     let u = updateAfter text (p .machine) (r .commands) in
     cond (eqb (r .passes) 0) (record { bytes = []; next = r })
     (cond (eqb (p .number) 0)
@@ -74,20 +76,24 @@ abbrev pub commandsTaken : Ringing → Step → ℕ
 commandsTaken r s = length (r .commands) - length (s .next .commands)
 
 -- What is known after a step of which question refuses the next pass: where it took no command the number is as it was, and where it took one the machine passes questions 1 and 2 and delay memory 10.
-pub record Known (text : Text) (m : Machine) (memory : Memory) (number : ℕ) (took : Bool) : Type 0 where
-  pub as-before : took ≡ false → number ≡ passed text m memory .number
+pub record Known (text : Text) (by : Ordering) (m : Machine) (memory : Memory) (number : ℕ) (took : Bool) : Type 0 where
+  pub as-before : took ≡ false → number ≡ passed text by m memory .number
   pub good : took ≡ true → asked (question1 m ∷ question2 text m ∷ []) ≡ 0
   pub memory-good : took ≡ true → memoryGood memory ≡ true
 
 -- The steps one after another until no pass is left, at most k of them.
-unfoldable pub untilDone : Text → Output → ℕ → Ringing → List ℕ
-untilDone text o zero r = []
-untilDone text o (suc k) r = let s = stepOf text o r in cond (eqb (r .passes) 0) [] (s .bytes ++ untilDone text o k (s .next))
+unfoldable pub untilDone : Text → Ordering → Output → ℕ → Ringing → List ℕ
+untilDone text by o zero r = []
+untilDone text by o (suc k) r = let s = stepOf text by o r in cond (eqb (r .passes) 0) [] (s .bytes ++ untilDone text by o k (s .next))
 
 -- The ringing that begins with what reading a file answers and leaves, over a delay memory of zeros.
 abbrev pub begun : Answer → Ringing
 begun a = record { passes = a .passes; machine = a .machine; memory = memoryAtFirst; commands = take (a .count) (a .room); number = 0 }
 
--- What the steps print from there, by its text; a refused file has the line of its refusal.
-unfoldable pub rungFrom : Answer → List ℕ
-rungFrom a = cond (eqb (a .number) 0) (untilDone (a .text) Lines (a .passes) (begun a)) (refusalLine (a .number))
+-- What the steps print from there, by its text; a refused file, and a refused order file, has the line of its refusal.
+unfoldable pub rungFrom : By → List ℕ → Answer → List ℕ
+rungFrom by orderFile a =
+    let other = orderRefusal by orderFile in
+    cond (eqb (a .number) 0)
+    (cond (eqb other 0) (untilDone (a .text) (orderingBy by orderFile (a .machine)) Lines (a .passes) (begun a)) (orderRefusalLine other))
+    (refusalLine (a .number))

@@ -1,6 +1,7 @@
-// The ringing of a bench file: one step, a pass by number and then an update with the commands still left.
+// The ringing of a bench file: one step, a pass by number or by an order that is given, and then an update with the commands still left.
 ghost use mathlib.Core.Path.{_≡_};
 ghost use mathlib.Core.Logic.{_≢_};
+ghost use mathlib.Core.Bool.{false};
 ghost use mathlib.Core.List.{[], _∷_};
 ghost use Prim.Native.Nat.{_+_, _≤_};
 ghost use lib.ListN.{length, drop};
@@ -10,8 +11,8 @@ ghost use Rattle.exponential.specs.Exponential.{tableSize, entries};
 ghost use Rattle.questions.specs.Questions.{asked};
 ghost use Rattle.machine.specs.Questions.{question1, question2};
 ghost use Rattle.order_lists.specs.Sequences.{byNumber};
-ghost use Rattle.bench_pass.specs.ByNumber.{passed};
-ghost use Rattle.bench_ringing.specs.Ringing.{updateAfter};
+ghost use Rattle.bench_pass.specs.BenchPass.{orderingOf, passed};
+ghost use Rattle.bench_ringing.specs.Heard.{updateAfter};
 ghost use Rattle.bench_ringing.specs.Steps.{takenAfter, Lined, Known, givenAfter, givenRefused, ringingAt, stepOf, commandsTaken};
 use exponential::Entries;
 use sine::Quarter;
@@ -91,6 +92,7 @@ pub fn step(
     m: &mut [u32],
     commands: &[u32],
     memory: &mut [u32],
+    given: bool,
     order: &[u32],
     number: u32,
     line: &mut [u8; bench_text::LINE_BYTES],
@@ -98,13 +100,13 @@ pub fn step(
     decay: &Entries,
 ) -> Progress
     requires { ⌜ at .passes ≢ 0 ⌝ }
-    requires { ⌜ now order ≡ byNumber 256 ⌝ }
-    requires { ⌜ number ≡ passed text (now m) (now memory) .number ⌝ }
+    requires { ⌜ (given ≡ false → now order ≡ byNumber 256) ⌝ }
+    requires { ⌜ number ≡ passed text (orderingOf given (now order)) (now m) (now memory) .number ⌝ }
     requires { ⌜ (now sine ≡ quarter) × (now decay ≡ entries tableSize) ⌝ }
-    ensures { λ r. ⌜ r .length ≡ length (stepOf text output (ringingAt at (now (m .entry)) (now (memory .entry)) (now (commands .entry))) .bytes) ⌝ }
-    ensures { λ _. ⌜ now (line .exit) ≡ sets (now (line .entry)) 0 (stepOf text output (ringingAt at (now (m .entry)) (now (memory .entry)) (now (commands .entry))) .bytes) ⌝ }
-    ensures { λ r. ⌜ ringingAt r (now (m .exit)) (now (memory .exit)) (now (commands .entry)) ≡ stepOf text output (ringingAt at (now (m .entry)) (now (memory .entry)) (now (commands .entry))) .next ⌝ }
-    ensures { λ r. ⌜ r .taken ≡ at .taken + commandsTaken (ringingAt at (now (m .entry)) (now (memory .entry)) (now (commands .entry))) (stepOf text output (ringingAt at (now (m .entry)) (now (memory .entry)) (now (commands .entry)))) ⌝ }
+    ensures { λ r. ⌜ r .length ≡ length (stepOf text (orderingOf given (now (order .entry))) output (ringingAt at (now (m .entry)) (now (memory .entry)) (now (commands .entry))) .bytes) ⌝ }
+    ensures { λ _. ⌜ now (line .exit) ≡ sets (now (line .entry)) 0 (stepOf text (orderingOf given (now (order .entry))) output (ringingAt at (now (m .entry)) (now (memory .entry)) (now (commands .entry))) .bytes) ⌝ }
+    ensures { λ r. ⌜ ringingAt r (now (m .exit)) (now (memory .exit)) (now (commands .entry)) ≡ stepOf text (orderingOf given (now (order .entry))) output (ringingAt at (now (m .entry)) (now (memory .entry)) (now (commands .entry))) .next ⌝ }
+    ensures { λ r. ⌜ r .taken ≡ at .taken + commandsTaken (ringingAt at (now (m .entry)) (now (memory .entry)) (now (commands .entry))) (stepOf text (orderingOf given (now (order .entry))) output (ringingAt at (now (m .entry)) (now (memory .entry)) (now (commands .entry)))) ⌝ }
 {
     // After a refusal no pass is left.
     let ended: u32 = 0;
@@ -118,7 +120,7 @@ pub fn step(
             refused: number,
         };
     }
-    bench_pass::run(text, m, memory, order, sine, decay);
+    bench_pass::run(text, m, memory, given, order, sine, decay);
     let mut refused: u32 = 0;
     let count = ring_update(text, m, commands, from, &mut refused);
     let taken = at.taken + count;
@@ -142,12 +144,20 @@ pub fn step(
 }
 
 // Which question refuses the next pass, or 0: it is asked again only where the step took commands, since a pass and an update without commands keep the answers. Delay memory is not looked at.
-pub fn next_number(text: Text, m: &[u32], memory: &[u32], number: u32, took: bool) -> u32
-    requires { ⌜ Known text (now m) (now memory) number took ⌝ }
-    ensures { λ r. ⌜ r ≡ passed text (now (m .entry)) (now (memory .entry)) .number ⌝ }
+pub fn next_number(
+    text: Text,
+    m: &[u32],
+    memory: &[u32],
+    given: bool,
+    order: &[u32],
+    number: u32,
+    took: bool,
+) -> u32
+    requires { ⌜ Known text (orderingOf given (now order)) (now m) (now memory) number took ⌝ }
+    ensures { λ r. ⌜ r ≡ passed text (orderingOf given (now (order .entry))) (now (m .entry)) (now (memory .entry)) .number ⌝ }
 {
     if took {
-        return bench_pass::refusal_again(text, m);
+        return bench_pass::refusal_again(text, m, given, order);
     }
     number
 }

@@ -1,19 +1,13 @@
--- The parts of buffers that are read and written.
+-- The parts of buffers that are read.
 -- Assumes nothing.
-use mathlib.Core.Path.{_≡_, ap}
+use mathlib.Core.Path.{_≡_, sym}
 use mathlib.Core.List.{List}
 use Prim.Native.Nat.{ℕ, _+_, _-_, _≤_}
 use native.Mathlib.Omega.{arith}
 use lib.ListN.{length, take, drop, length-take, length-drop}
-use lib.Seq.{sets, length-sets}
-use Rattle.bench_text.specs.Text.{lineBytes, refusalLine}
-use Rattle.bench_text.proofs.Lines.{refusal-line-length}
+use lib.Seq.{length-take-le}
+use Rattle.io.specs.Counts.{Counts}
 use Rattle.bench_streams.specs.declared.Input.the-variants.{Bytes, Failed}
-
--- The line of a refusal has room in its buffer.
-pub refusal-within : (line : List ℕ) (n : ℕ) {size : ℕ} {after : List ℕ} → length line ≡ lineBytes
-    → (size ≡ length (refusalLine n)) × (after ≡ sets line 0 (refusalLine n)) → size ≤ length after
-refusal-within line n e (es, ea) = omega (arith, es, ap length ea, length-sets line 0 (refusalLine n), refusal-line-length n)
 
 -- So many bytes that were read lie within a buffer; where a read failed there are none.
 pub bytes-within : {k m : ℕ} → k ≤ m → (n : ℕ) → Bytes k ≡ Bytes n → n ≤ m
@@ -26,3 +20,7 @@ failed-within n e = let never : _≡_ {A = ℕ} 0 1 = cc in omega arith
 pub more-within : (buffer rest : List ℕ) (at more : ℕ) → at ≤ length buffer → length rest ≡ length (take (length buffer - at) (drop at buffer))
     → more ≤ length rest → at + more ≤ length buffer
 more-within buffer rest at more h e l = omega (arith, simp (length-take, length-drop) at e)
+
+-- As counts.
+pub counts : (n : ℕ) (l : List ℕ) → n ≤ length l → Counts n l
+counts n l h = (h, sym (length-take-le n l h))

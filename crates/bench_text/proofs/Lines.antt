@@ -12,7 +12,7 @@ use lib.ListN.{length, set, length-append}
 use lib.Seq.{sets}
 use Rattle.lists.proofs.Choices.{of-cond}
 use Rattle.bench_bytes.proofs.Puts.{Put, done, then}
-use Rattle.bench_text.specs.Text.{digits, decimal, named, minus, signedDecimal, passText, leftText, rightText, refusedText, newline, passLine, refusalLine}
+use Rattle.bench_text.specs.Text.{digits, decimal, named, minus, signedDecimal, passText, leftText, rightText, refusedText, orderRefusedText, newline, passLine, refusalLine, orderRefusalLine}
 
 pub digits-none : (k n : ℕ) → k ≡ 0 → digits k n ≡ []
 unfolding digits
@@ -68,6 +68,10 @@ pub refusal-line-length : (n : ℕ) → length (refusalLine n) ≤ 19
 unfolding refusalLine
 refusal-line-length n = simp length-append (omega (arith, named-length refusedText n))
 
+pub order-refusal-line-length : (n : ℕ) → length (orderRefusalLine n) ≤ 25
+unfolding orderRefusalLine
+order-refusal-line-length n = simp length-append (omega (arith, named-length orderRefusedText n))
+
 -- The digits of n as the code puts them: none, one, or those of n / 10 and one more.
 module _ (d : List ℕ) (at k n : ℕ) where
   pub put-none : k ≡ 0 → (at ≡ at + length (digits k n)) × (d ≡ sets d at (digits k n))
@@ -103,7 +107,7 @@ module _ (d : List ℕ) (at n : ℕ) where
       let r = then d at minus (digits 10 (1048576 - n)) p q in
       rw (le-ltb n 524288 l) (r .ends, r .leaves)
 
--- The six texts of a pass's line, and the two of a refusal's.
+-- The six texts of a pass's line, and the two of a refusal's and of an order file's refusal.
 pub put-pass : (d : List ℕ) (counter left right : ℕ) {i₁ i₂ i₃ i₄ i₅ i₆ : ℕ} {d₁ d₂ d₃ d₄ d₅ d₆ : List ℕ}
     → Put d 0 (named passText counter) i₁ d₁
     → Put d₁ i₁ leftText i₂ d₂
@@ -125,3 +129,8 @@ pub put-refusal : (d : List ℕ) (n : ℕ) {i₁ i₂ : ℕ} {d₁ d₂ : List �
     → (i₂ ≡ length (refusalLine n)) × (d₂ ≡ sets d 0 (refusalLine n))
 unfolding refusalLine
 put-refusal d n p₁ p₂ = let q₁ = then d 0 (named refusedText n) newline p₁ p₂ in (q₁ .ends ∙ zero-add _, q₁ .leaves)
+
+pub put-order-refusal : (d : List ℕ) (n : ℕ) {i₁ i₂ : ℕ} {d₁ d₂ : List ℕ} → Put d 0 (named orderRefusedText n) i₁ d₁ → Put d₁ i₁ newline i₂ d₂
+    → (i₂ ≡ length (orderRefusalLine n)) × (d₂ ≡ sets d 0 (orderRefusalLine n))
+unfolding orderRefusalLine
+put-order-refusal d n p₁ p₂ = let q = then d 0 (named orderRefusedText n) newline p₁ p₂ in (q .ends ∙ zero-add _, q .leaves)

@@ -40,6 +40,9 @@ rightText = ascii " right="
 abbrev pub refusedText : List ℕ
 refusedText = ascii "refused="
 
+abbrev pub orderRefusedText : List ℕ
+orderRefusedText = ascii "order-refused="
+
 abbrev pub newline : List ℕ
 newline = ascii "\n"
 
@@ -50,6 +53,10 @@ passLine counter left right = named passText counter ++ (leftText ++ (signedDeci
 -- The line of a refusal.
 unfoldable pub refusalLine : ℕ → List ℕ
 refusalLine n = named refusedText n ++ newline
+
+-- The line of a text that is no order file.
+unfoldable pub orderRefusalLine : ℕ → List ℕ
+orderRefusalLine n = named orderRefusedText n ++ newline
 
 -- The length of a buffer for one line, which has at most 51 bytes.
 abbrev pub lineBytes : ℕ

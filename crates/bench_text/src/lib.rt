@@ -3,7 +3,7 @@ ghost use mathlib.Core.Path.{_≡_};
 ghost use Prim.Native.Nat.{_+_, _≤_, _<_, _^_};
 ghost use lib.ListN.{length};
 ghost use lib.Seq.{sets};
-ghost use Rattle.bench_text.specs.Text.{lineBytes, digits, named, signedDecimal, passLine, refusalLine};
+ghost use Rattle.bench_text.specs.Text.{lineBytes, digits, named, signedDecimal, passLine, refusalLine, orderRefusalLine};
 
 // The length of a buffer for one line.
 pub const LINE_BYTES: usize = 64;
@@ -69,5 +69,14 @@ pub fn refusal_line(line: &mut [u8; LINE_BYTES], n: u32) -> usize
     ensures { λ _. ⌜ now (line .exit) ≡ sets (now (line .entry)) 0 (refusalLine n) ⌝ }
 {
     let a = put_named(line, 0, b"refused=", n);
+    bench_bytes::put(line, a, b"\n")
+}
+
+// The line of a text that is no order file. Answers its length.
+pub fn order_refusal_line(line: &mut [u8; LINE_BYTES], n: u32) -> usize
+    ensures { λ r. ⌜ r ≡ length (orderRefusalLine n) ⌝ }
+    ensures { λ _. ⌜ now (line .exit) ≡ sets (now (line .entry)) 0 (orderRefusalLine n) ⌝ }
+{
+    let a = put_named(line, 0, b"order-refused=", n);
     bench_bytes::put(line, a, b"\n")
 }

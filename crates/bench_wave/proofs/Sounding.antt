@@ -15,15 +15,14 @@ use Rattle.layout.specs.Machine.{Machine, Memory, Commands}
 use Rattle.texts.specs.declared.Text.{Text}
 use Rattle.pass_model.specs.Pass.{Outcome as Passed}
 use Rattle.update.specs.Update.{Outcome}
-use Rattle.bench_ringing.specs.Ringing.{updateAfter}
-use Rattle.bench_pass.specs.ByNumber.{passed}
+use Rattle.bench_pass.specs.BenchPass.{Ordering, passed}
 use Rattle.sums.proofs.Blocks.{part-back}
 use Rattle.bench_bytes.proofs.Puts.{Put, then, first-part}
 use Rattle.bench_text.specs.Text.{lineBytes}
 use Rattle.bench_lines.specs.Lines.{mostPasses}
 use Rattle.wave_format.specs.WaveFormat.{frameBytes, rateOf, header, headerBytes}
 use Rattle.wave_format.proofs.Numbers.{header-length}
-use Rattle.bench_ringing.specs.Heard.{Heard, heardAfter, heardRefused, heard, frameAfter, framesOf}
+use Rattle.bench_ringing.specs.Heard.{updateAfter, Heard, heardAfter, heardRefused, heard, frameAfter, framesOf}
 use Rattle.bench_ringing.specs.Steps.{Ringing, Step}
 use Rattle.bench_ringing.specs.declared.Output.the-variants.{Frames}
 use Rattle.bench_ringing.proofs.Turns.{frame-after-length}
@@ -38,21 +37,21 @@ unfolding rateOf
 rate-below n h = div-lt-iff-lt-mul {k = 390 * n} (omega arith) .1 (omega arith)
 
 -- A ringing that no question ends has a frame for each pass.
-frames-count : (text : Text) (k : ℕ) (m : Machine) (memory : Memory) (commands : Commands) → heard text k m memory commands .number ≡ 0
-    → length (framesOf (heard text k m memory commands .machines)) ≡ frameBytes * k
+frames-count : (text : Text) (by : Ordering) (k : ℕ) (m : Machine) (memory : Memory) (commands : Commands) → heard text by k m memory commands .number ≡ 0
+    → length (framesOf (heard text by k m memory commands .machines)) ≡ frameBytes * k
 unfolding heard framesOf
-frames-count text zero m memory commands z = refl
-frames-count text (suc k) m memory commands z =
-    go (eqb (p .number) 0) refl (eqb (u .number) 0) refl (frames-count text k (u .machine) (p .memory) (u .rest)) z
+frames-count text by zero m memory commands z = refl
+frames-count text by (suc k) m memory commands z =
+    go (eqb (p .number) 0) refl (eqb (u .number) 0) refl (frames-count text by k (u .machine) (p .memory) (u .rest)) z
   where
     p : Passed
-    p = passed text m memory
+    p = passed text by m memory
 
     u : Outcome
     u = updateAfter text (p .machine) commands
 
     rest : Heard
-    rest = heard text k (u .machine) (p .memory) (u .rest)
+    rest = heard text by k (u .machine) (p .memory) (u .rest)
 
     all : Bool → Bool → Heard
     all a b = cond a (cond b (heardAfter (u .machine) rest) (heardRefused (u .number))) (heardRefused (p .number))
@@ -72,39 +71,39 @@ whole : (n : ℕ) (h : Heard) → h .number ≡ 0 → waveFile n h ≡ header (r
 unfolding waveFile
 whole n h e = rw (eq-eqb (h .number) 0 e)
 
-module _ (text : Text) (n passes : ℕ) (m memory commands : List ℕ) (few : passes ≤ mostPasses) (room : ℕ) (wide : waveRoom - headerBytes ≤ room) where
+module _ (text : Text) (by : Ordering) (n passes : ℕ) (m memory commands : List ℕ) (few : passes ≤ mostPasses) (room : ℕ) (wide : waveRoom - headerBytes ≤ room) where
   abbrev ringing : Ringing
   ringing = record { passes = passes; machine = m; memory = memory; commands = commands; number = 0 }
 
   abbrev rung : Heard
-  rung = heard text passes m memory commands
+  rung = heard text by passes m memory commands
 
   fits : 6 * passes + lineBytes ≤ room
   fits = omega arith
 
-  frames-are : gathered text Frames room ringing .bytes ≡ framesOf (rung .machines)
-  frames-are = frames-whole text room ringing fits ∙ frames-given rung
+  frames-are : gathered text by Frames room ringing .bytes ≡ framesOf (rung .machines)
+  frames-are = frames-whole text by room ringing fits ∙ frames-given rung
 
-  ends-with : gathered text Frames room ringing .next .number ≡ rung .number
-  ends-with = frames-number text room ringing fits ∙ heard-number text ringing refl
+  ends-with : gathered text by Frames room ringing .next .number ≡ rung .number
+  ends-with = frames-number text by room ringing fits ∙ heard-number text by ringing refl
 
   -- What was made: the number, the file's length, and the file as the first part of a buffer.
   abbrev pub Made : ℕ → ℕ → List ℕ → Type 0
   Made number size out = (number ≡ rung .number) × ((size ≡ length (waveFile n rung)) × (take size out ≡ waveFile n rung))
 
-  pub made-refused : {number : ℕ} (out : List ℕ) → number ≡ gathered text Frames room ringing .next .number → number ≢ 0 → Made number 0 out
+  pub made-refused : {number : ℕ} (out : List ℕ) → number ≡ gathered text by Frames room ringing .next .number → number ≢ 0 → Made number 0 out
   made-refused out e h =
       let w = silent n rung (λ z. h (e ∙ ends-with ∙ z)) in
       (e ∙ ends-with, (ap length (sym w), sym w))
 
   pub made-whole : {number size : ℕ} (out : List ℕ) {headed out' : List ℕ} → length out ≡ waveRoom
       → headed ≡ sets out 0 (header (rateOf n) (frameBytes * passes))
-      → size ≡ length (gathered text Frames room ringing .bytes)
-      → out' ≡ sets headed headerBytes (gathered text Frames room ringing .bytes)
-      → number ≡ gathered text Frames room ringing .next .number → number ≡ 0 → Made 0 (headerBytes + size) out'
+      → size ≡ length (gathered text by Frames room ringing .bytes)
+      → out' ≡ sets headed headerBytes (gathered text by Frames room ringing .bytes)
+      → number ≡ gathered text by Frames room ringing .next .number → number ≡ 0 → Made 0 (headerBytes + size) out'
   made-whole {number} {size} out {headed} {out'} long eh es eo en z =
       let done : rung .number ≡ 0 = sym (en ∙ ends-with) ∙ z in
-      let count : length (framesOf (rung .machines)) ≡ frameBytes * passes = frames-count text passes m memory commands done in
+      let count : length (framesOf (rung .machines)) ≡ frameBytes * passes = frames-count text by passes m memory commands done in
       let frames = framesOf (rung .machines) in
       let head = header (rateOf n) (frameBytes * passes) in
       let file : waveFile n rung ≡ head ++ frames = whole n rung done ∙ ap (λ (i : ℕ). header (rateOf n) i ++ frames) count in
@@ -127,21 +126,21 @@ pub headed-long : (out : List ℕ) {headed : List ℕ} (rate bytes : ℕ) → he
 headed-long out rate bytes e = ap length e ∙ length-sets out 0 (header rate bytes)
 
 -- What is gathered in the part behind the header is in the whole buffer behind it.
-pub behind-header : (text : Text) (out : List ℕ) (r : Ringing) {size : ℕ} {part : List ℕ} {next : Ringing} → headerBytes ≤ length out
+pub behind-header : (text : Text) (by : Ordering) (out : List ℕ) (r : Ringing) {size : ℕ} {part : List ℕ} {next : Ringing} → headerBytes ≤ length out
     → let lent = take (length out - headerBytes) (drop headerBytes out) in
-    size ≡ length (gathered text Frames (length lent) r .bytes) → part ≡ sets lent 0 (gathered text Frames (length lent) r .bytes) → next ≡ gathered text Frames (length lent) r .next
-    → (size ≡ length (gathered text Frames (length out - headerBytes) r .bytes))
-    × ((take headerBytes out ++ (part ++ drop (length out - headerBytes) (drop headerBytes out)) ≡ sets out headerBytes (gathered text Frames (length out - headerBytes) r .bytes))
-    × (next .number ≡ gathered text Frames (length out - headerBytes) r .next .number))
-behind-header text out r {size} {part} {next} h es ep en =
+    size ≡ length (gathered text by Frames (length lent) r .bytes) → part ≡ sets lent 0 (gathered text by Frames (length lent) r .bytes) → next ≡ gathered text by Frames (length lent) r .next
+    → (size ≡ length (gathered text by Frames (length out - headerBytes) r .bytes))
+    × ((take headerBytes out ++ (part ++ drop (length out - headerBytes) (drop headerBytes out)) ≡ sets out headerBytes (gathered text by Frames (length out - headerBytes) r .bytes))
+    × (next .number ≡ gathered text by Frames (length out - headerBytes) r .next .number))
+behind-header text by out r {size} {part} {next} h es ep en =
     let lent = take (length out - headerBytes) (drop headerBytes out) in
     let k : length lent ≡ length out - headerBytes =
     length-take-le (length out - headerBytes) (drop headerBytes out) (omega (arith, length-drop headerBytes out)) in
-    let bytes-are : gathered text Frames (length lent) r ≡ gathered text Frames (length out - headerBytes) r = ap (λ (i : ℕ). gathered text Frames i r) k in (
+    let bytes-are : gathered text by Frames (length lent) r ≡ gathered text by Frames (length out - headerBytes) r = ap (λ (i : ℕ). gathered text by Frames i r) k in (
       es ∙ ap (λ (s : Step). length (s .bytes)) bytes-are,
       (
         ap (λ (l : List ℕ). take headerBytes out ++ (l ++ drop (length out - headerBytes) (drop headerBytes out))) (ep ∙ ap (λ (s : Step). sets lent 0 (s .bytes)) bytes-are)
-            ∙ part-back out (gathered text Frames (length out - headerBytes) r .bytes) headerBytes h,
+            ∙ part-back out (gathered text by Frames (length out - headerBytes) r .bytes) headerBytes h,
         ap (λ (x : Ringing). x .number) en ∙ ap (λ (s : Step). s .next .number) bytes-are,
       ),
     )

@@ -1,138 +1,143 @@
--- A file by what reading it answers: refused by 9 or 13, by question 2, or rung; in each case what is made of it is its file.
+-- A file by how its ringing begins: something is refused before it, or it is rung; in each case what is made of it is what there is to write.
 -- Assumes nothing.
-use mathlib.Core.Path.{_≡_, refl, sym, _∙_, ap}
+use mathlib.Core.Path.{_≡_, refl, sym, ap, _∙_}
 use mathlib.Core.Logic.{_≢_}
 use mathlib.Core.Bool.{Bool, true, false}
 use mathlib.Core.List.{List, [], _∷_}
-use Prim.Native.Nat.{ℕ, _-_, _≤_}
+use Prim.Native.Nat.{ℕ, _≤_}
 use native.Mathlib.Omega.{arith}
 use borrow.Author.Tests.{eqb-true, eqb-false, eq-eqb, ne-eqb}
 use lib.Dec.{eqb}
-use lib.ListN.{length, getD, take, replicate}
+use lib.ListN.{length, getD, take}
 use lib.Seq.{sets}
-use Rattle.lists.specs.Lists.{zeros}
-use Rattle.layout.specs.Layout.{nAt, memoryWords}
+use Rattle.lists.proofs.Choices.{of-cond}
+use Rattle.layout.specs.Layout.{nAt, generators}
+use Rattle.layout.specs.Machine.{Machine, Memory, Commands, ticksOf}
 use Rattle.texts.specs.declared.Text.{Text}
-use Rattle.texts.specs.declared.Text.the-variants.{Of1978}
 use Rattle.questions.specs.Questions.{asked}
 use Rattle.machine.specs.Questions.{question1, question2}
+use Rattle.pass_model.proofs.Asked.{few-ticks}
 use Rattle.bench_bytes.proofs.Puts.{first-part}
+use Rattle.bench_text.specs.Text.{lineBytes, refusalLine}
 use Rattle.bench_lines.specs.Lines.{mostPasses}
-use Rattle.bench_file.specs.BenchFile.{fileOf, textOf, fileRefusal, commandPlaces, Answer, readOf}
-use Rattle.bench_file.proofs.WholeFile.{unrefused, read-number}
-use Rattle.bench_file.proofs.FewCommands.{few-commands}
+use Rattle.bench_file.specs.BenchFile.{fileOf, fileRefusal, commandPlaces, Answer, readOf}
+use Rattle.bench_pass.specs.BenchPass.{Ordering}
+use Rattle.rung_order.specs.RungOrder.{orderingBy, orderRefusal}
+use Rattle.rung_order.specs.declared.By.{By}
 use Rattle.bench_ringing.specs.Ringing.{memoryAtFirst}
-use Rattle.bench_ringing.specs.Heard.{Heard, heardRefused, heard}
-use Rattle.bench_wave.specs.Wave.{heardOf, heardFile, waveFile, waveOf}
+use Rattle.bench_ringing.specs.Heard.{Heard, heard}
+use Rattle.bench_ringing.specs.Steps.{Ringing, begun}
+use Rattle.bench_begin.specs.Beginning.{refusalsLine, refusedLine}
+use Rattle.bench_begin.proofs.Begun.{by-numbers, line-fits, none-refused, begun-whole, read-text}
+use Rattle.bench_wave.specs.Wave.{Written, silent, sounded, waveFile, soundedFrom, waveOf}
 use Rattle.bench_wave.proofs.FewPasses.{few-passes}
-use Rattle.bench_wave.proofs.Sounding.{silent}
 
--- A delay memory of zeros, as the code has it.
-pub zeros-at-first : replicate memoryWords 0 ≡ memoryAtFirst
-unfolding memoryAtFirst zeros
-zeros-at-first = refl
+-- The line of a ringing's number, as there is to write.
+pub number-line : (n : ℕ) (h : Heard) → refusalsLine (h .number) 0 ≡ sounded n h .error
+unfolding refusalsLine
+number-line n h = refl
 
-module _ (file m room : List ℕ) where
-  abbrev whole : Answer
-  whole =
-      let reading = fileOf file in
-      record {
-        number = 0;
-        text = textOf (reading .title);
-        passes = reading .passes;
-        count = length (reading .commands);
-        machine = reading .machine;
-        room = sets room 0 (reading .commands);
-      }
+pub first-line : (n : ℕ) → n ≢ 0 → refusalsLine n 0 ≡ refusalLine n
+unfolding refusalsLine
+first-line n h = rw (ne-eqb n 0 h)
 
-  good : fileRefusal file ≡ 0 → readOf file m room ≡ whole
-  unfolding readOf
-  good e = rw (eq-eqb (fileRefusal file) 0 e)
+pub no-line : (n : ℕ) → n ≡ 0 → refusalsLine n 0 ≡ []
+unfolding refusalsLine
+no-line n z = rw (eq-eqb n 0 z)
 
-  bad : fileRefusal file ≢ 0 → readOf file m room ≡ record { number = fileRefusal file; text = Of1978; passes = 0; count = 0; machine = m; room = room }
-  unfolding readOf
-  bad e = rw (ne-eqb (fileRefusal file) 0 e)
+-- It is the first part of the buffer that it was put into.
+line-part : (n : ℕ) (line : List ℕ) {error : ℕ} {line' : List ℕ} → length line ≡ lineBytes
+    → (error ≡ length (refusalsLine n 0)) × (line' ≡ sets line 0 (refusalsLine n 0)) → take error line' ≡ refusalsLine n 0
+line-part n line long (ee, el) = rw (ee, el) (first-part (refusalsLine n 0) line (omega (arith, long, line-fits n 0)))
 
-  output-is : waveOf file ≡ waveFile (getD (fileOf file .machine) nAt 0) (heardFile file)
+-- What there is to write, by questions 1 and 2.
+module _ (text : Text) (by : Ordering) (passes : ℕ) (m : Machine) (memory : Memory) (commands : Commands) where
+  abbrev first : ℕ
+  first = asked (question1 m ∷ question2 text m ∷ [])
+
+  abbrev all : Written
+  all = soundedFrom text by passes m memory commands
+
+  -- The four promises.
+  abbrev pub Writes : ℕ → List ℕ → ℕ → List ℕ → Type 0
+  Writes size out error line = (size ≡ length (all .output)) × ((take size out ≡ all .output) × ((error ≡ length (all .error)) × (take error line ≡ all .error)))
+
+  from-first : first ≢ 0 → all ≡ silent (refusalLine first)
+  unfolding soundedFrom
+  from-first h = rw (ne-eqb first 0 h)
+
+  from-heard : first ≡ 0 → all ≡ sounded (getD m nAt 0) (heard text by passes m memory commands)
+  unfolding soundedFrom
+  from-heard z = rw (eq-eqb first 0 z)
+
+  pub writes-refusal : {n : ℕ} (line out : List ℕ) {error : ℕ} {line' : List ℕ} → length line ≡ lineBytes → n ≡ first → n ≢ 0
+      → (error ≡ length (refusalsLine n 0)) × (line' ≡ sets line 0 (refusalsLine n 0)) → Writes 0 out error line'
+  writes-refusal {n} line out long e h put =
+      let q : refusalsLine n 0 ≡ refusalLine first = first-line n h ∙ ap refusalLine e in
+      rw (from-first (λ z. h (e ∙ z))) (refl, (refl, (put .0 ∙ ap length q, line-part n line long put ∙ q)))
+
+  pub writes-sound : {number size : ℕ} (line out : List ℕ) {error : ℕ} {line' : List ℕ} → length line ≡ lineBytes → first ≡ 0
+      → let h = heard text by passes m memory commands in (number ≡ h .number) × ((size ≡ length (waveFile (getD m nAt 0) h)) × (take size out ≡ waveFile (getD m nAt 0) h))
+      → (error ≡ length (refusalsLine number 0)) × (line' ≡ sets line 0 (refusalsLine number 0)) → Writes size out error line'
+  writes-sound {number} line out long z (en, (es, et)) put =
+      let h = heard text by passes m memory commands in
+      let q : refusalsLine number 0 ≡ sounded (getD m nAt 0) h .error = ap (λ (i : ℕ). refusalsLine i 0) en ∙ number-line (getD m nAt 0) h in
+      rw (from-heard z) (es, (et, (put .0 ∙ ap length q, line-part number line long put ∙ q)))
+
+-- A ringing begins with few passes.
+few-read : (file m room : List ℕ) → readOf file m room .passes ≤ mostPasses
+unfolding readOf
+few-read file m room = of-cond (λ (a : Answer). a .passes ≤ mostPasses) (eqb (fileRefusal file) 0) (few-passes file) (omega arith)
+
+pub few-begun : (file m room : List ℕ) {r : Ringing} → r ≡ begun (readOf file m room) → r .passes ≤ mostPasses
+few-begun file m room e = rw e (few-read file m room)
+
+-- By an ordering that is another one where T is in its range.
+from-alike : (text : Text) (by₁ by₂ : Ordering) (passes : ℕ) (m : Machine) (memory : Memory) (commands : Commands) → (ticksOf m ≤ generators → by₁ ≡ by₂)
+    → soundedFrom text by₁ passes m memory commands ≡ soundedFrom text by₂ passes m memory commands
+from-alike text by₁ by₂ passes m memory commands same = go (eqb (asked (question1 m ∷ question2 text m ∷ [])) 0) refl
+  where
+    go : (b : Bool) → eqb (asked (question1 m ∷ question2 text m ∷ [])) 0 ≡ b → soundedFrom text by₁ passes m memory commands ≡ soundedFrom text by₂ passes m memory commands
+    go true e = ap (λ (by : Ordering). soundedFrom text by passes m memory commands) (same (few-ticks text m [] (eqb-true (asked (question1 m ∷ question2 text m ∷ [])) 0 e)))
+    go false e =
+        let h = eqb-false (asked (question1 m ∷ question2 text m ∷ [])) 0 e in
+        from-first text by₁ passes m memory commands h ∙ sym (from-first text by₂ passes m memory commands h)
+
+module _ (by : By) (orderFile file : List ℕ) where
+  wave-refused : fileRefusal file ≢ 0 → waveOf by orderFile file ≡ silent (refusalLine (fileRefusal file))
   unfolding waveOf
-  output-is = refl
+  wave-refused h = rw (ne-eqb (fileRefusal file) 0 h)
 
-  heard-bad : fileRefusal file ≢ 0 → heardFile file ≡ heardRefused (fileRefusal file)
-  unfolding heardFile
-  heard-bad e = rw (ne-eqb (fileRefusal file) 0 e)
+  -- Something is refused before the ringing.
+  pub wave-silent : length (refusedLine by orderFile file) ≢ 0 → waveOf by orderFile file ≡ silent (refusedLine by orderFile file)
+  unfolding waveOf
+  wave-silent =
+      by-numbers (fileRefusal file) (orderRefusal by orderFile) (λ line. length line ≢ 0 → waveOf by orderFile file ≡ silent line) (λ h e. wave-refused h)
+      (λ z h e. rw (eq-eqb (fileRefusal file) 0 z, ne-eqb (orderRefusal by orderFile) 0 h)) (λ z y e. absurd (e refl))
 
-  heard-good : fileRefusal file ≡ 0 → heardFile file ≡ heardOf (fileOf file)
-  unfolding heardFile
-  heard-good e = rw (eq-eqb (fileRefusal file) 0 e)
+  pub told-refused : {size : ℕ} (line out : List ℕ) → size ≢ 0 → size ≡ length (refusedLine by orderFile file) → take size line ≡ refusedLine by orderFile file
+      → let w = waveOf by orderFile file in (0 ≡ length (w .output)) × ((take 0 out ≡ w .output) × ((size ≡ length (w .error)) × (take size line ≡ w .error)))
+  told-refused line out h es el = rw (wave-silent (λ z. h (es ∙ z))) (refl, (refl, (es, el)))
 
-  -- What is told of a file: the number, the file's length, and the file as the first part of a buffer.
-  abbrev pub Told : ℕ → ℕ → List ℕ → Type 0
-  Told number size out = (number ≡ heardFile file .number) × ((size ≡ length (waveOf file)) × (take size out ≡ waveOf file))
-
-  refused : {number : ℕ} (out : List ℕ) → number ≢ 0 → heardFile file ≡ heardRefused number → Told number 0 out
-  refused {number} out h e =
-      let n = getD (fileOf file .machine) nAt 0 in
-      let w : waveOf file ≡ [] = output-is ∙ ap (waveFile n) e ∙ silent n (heardRefused number) h in
-      (sym (ap (λ (x : Heard). x .number) e), (ap length (sym w), sym w))
-
-  module _ {number : ℕ} {text : Text} {passes count : ℕ} {m' room' : List ℕ}
-      (read : record { number = number; text = text; passes = passes; count = count; machine = m'; room = room' } ≡ readOf file m room) where
-    number-is : number ≡ fileRefusal file
-    number-is = ap (λ (a : Answer). a .number) read ∙ read-number file m room
-
-    -- It asks for few passes.
-    pub few-read : passes ≤ mostPasses
-    few-read = go (eqb (fileRefusal file) 0) refl
-      where
-        go : (b : Bool) → eqb (fileRefusal file) 0 ≡ b → passes ≤ mostPasses
-        go true e = omega (arith, ap (λ (a : Answer). a .passes) (read ∙ good (eqb-true (fileRefusal file) 0 e)), few-passes file)
-        go false e = omega (arith, ap (λ (a : Answer). a .passes) (read ∙ bad (eqb-false (fileRefusal file) 0 e)))
-
-    -- It is refused.
-    pub told-no : (out : List ℕ) → number ≢ 0 → Told number 0 out
-    told-no out h = refused out h (heard-bad (λ z. h (number-is ∙ z)) ∙ ap heardRefused (sym number-is))
-
-    -- It is not.
-    module _ (z : number ≡ 0) where
-      unrefused-file : fileRefusal file ≡ 0
-      unrefused-file = sym number-is ∙ z
-
-      as-read : record { number = number; text = text; passes = passes; count = count; machine = m'; room = room' } ≡ whole
-      as-read = read ∙ good unrefused-file
-
-      machine-is : m' ≡ fileOf file .machine
-      machine-is = ap (λ (a : Answer). a .machine) as-read
-
-      text-is : text ≡ textOf (fileOf file .title)
-      text-is = ap (λ (a : Answer). a .text) as-read
-
-      first-heard : asked (question1 m' ∷ question2 text m' ∷ []) ≢ 0 → heardFile file ≡ heardRefused (asked (question1 m' ∷ question2 text m' ∷ []))
-      unfolding heardOf
-      first-heard h = heard-good unrefused-file ∙ rw (← machine-is, ← text-is, ne-eqb (asked (question1 m' ∷ question2 text m' ∷ [])) 0 h)
-
-      -- Questions 1 and 2 refuse its machine.
-      pub told-questions : {first : ℕ} (out : List ℕ) → first ≡ asked (question1 m' ∷ question2 text m' ∷ []) → first ≢ 0 → Told first 0 out
-      told-questions out e h = refused out h (first-heard (λ q. h (e ∙ q)) ∙ ap heardRefused (sym e))
-
-      commands-are : length room ≡ commandPlaces → take (count - 0) room' ≡ fileOf file .commands
-      commands-are l =
+  module _ (m room : List ℕ) (l : length room ≡ commandPlaces) where
+    -- Nothing is refused before it.
+    module _ (none : length (refusedLine by orderFile file) ≡ 0) {text : Text} {r : Ringing} {used : Ordering} (et : text ≡ readOf file m room .text)
+        (er : r ≡ begun (readOf file m room)) (same : ticksOf (r .machine) ≤ generators → used ≡ orderingBy by orderFile (r .machine)) where
+      wave-from : waveOf by orderFile file ≡ soundedFrom text used (r .passes) (r .machine) (r .memory) (r .commands)
+      unfolding waveOf
+      wave-from =
+          let q = none-refused (fileRefusal file) (orderRefusal by orderFile) none in
           let reading = fileOf file in
-          let k : count - 0 ≡ length (reading .commands) = omega (arith, ap (λ (a : Answer). a .count) as-read) in
-          ap (λ (i : ℕ). take i room') k ∙ ap (take (length (reading .commands))) (ap (λ (a : Answer). a .room) as-read)
-          ∙ first-part (reading .commands) room (omega (arith, l, few-commands file (unrefused file unrefused-file)))
+          let whole = er ∙ begun-whole by orderFile file m room l (q .0) in
+          let title = et ∙ read-text by orderFile file m room l (q .0) in
+          rw (eq-eqb (fileRefusal file) 0 (q .0), eq-eqb (orderRefusal by orderFile) 0 (q .1))
+          (sym
+          (from-alike text used (orderingBy by orderFile (r .machine)) (r .passes) (r .machine) (r .memory) (r .commands) same
+          ∙ ap (λ (x : Ringing). soundedFrom text (orderingBy by orderFile (x .machine)) (x .passes) (x .machine) (x .memory) (x .commands)) whole
+          ∙ ap (λ (t : Text). soundedFrom t (orderingBy by orderFile (reading .machine)) (reading .passes) (reading .machine) memoryAtFirst (reading .commands)) title))
 
-      rung-heard : length room ≡ commandPlaces → asked (question1 m' ∷ question2 text m' ∷ []) ≡ 0 → heardFile file ≡ heard text passes m' memoryAtFirst (take (count - 0) room')
-      unfolding heardOf
-      rung-heard l q =
-          heard-good unrefused-file
-          ∙ rw (← machine-is, ← text-is, eq-eqb (asked (question1 m' ∷ question2 text m' ∷ [])) 0 q, ← (ap (λ (a : Answer). a .passes) as-read), ← (commands-are l))
-
-      -- It was rung.
-      pub told-rung : {result size : ℕ} (out : List ℕ) → length room ≡ commandPlaces → asked (question1 m' ∷ question2 text m' ∷ []) ≡ 0 → let h = heard text passes m' memoryAtFirst (take (count - 0) room') in
-          (result ≡ h .number) × ((size ≡ length (waveFile (getD m' nAt 0) h)) × (take size out ≡ waveFile (getD m' nAt 0) h)) → Told result size out
-      told-rung out l q (en, (es, et)) =
-          let e = rung-heard l q in
-          let w : waveOf file ≡ waveFile (getD m' nAt 0) (heard text passes m' memoryAtFirst (take (count - 0) room')) =
-          output-is ∙ ap (waveFile (getD (fileOf file .machine) nAt 0)) e
-          ∙ ap (λ (l' : List ℕ). waveFile (getD l' nAt 0) (heard text passes m' memoryAtFirst (take (count - 0) room'))) (sym machine-is) in
-          (en ∙ ap (λ (x : Heard). x .number) (sym e), (es ∙ ap length (sym w), et ∙ sym w))
+      -- With the ordering and the commands as the code hands them over.
+      pub told-rung : (line out : List ℕ) {size error : ℕ} {used' : Ordering} {commands : Commands} → used' ≡ used → commands ≡ r .commands
+          → Writes text used' (r .passes) (r .machine) (r .memory) commands size out error line
+          → let w = waveOf by orderFile file in (size ≡ length (w .output)) × ((take size out ≡ w .output) × ((error ≡ length (w .error)) × (take error line ≡ w .error)))
+      told-rung line out eu ec writes = rw wave-from (rw (eu, ec) at writes)

@@ -1,4 +1,4 @@
--- What program wav writes for every file: a RIFF/WAVE file of what is heard. A refused one has none.
+-- What program wav writes for every file: a RIFF/WAVE file of what is heard, or a refusal.
 -- Assumes nothing.
 use Prim.Native.Nat.{ℕ, _+_, _*_}
 use mathlib.Core.Bool.{cond}
@@ -6,25 +6,19 @@ use mathlib.Core.List.{List, [], _∷_, _++_}
 use lib.Dec.{eqb}
 use lib.ListN.{length, getD}
 use Rattle.layout.specs.Layout.{nAt}
+use Rattle.layout.specs.Machine.{Machine, Memory, Commands}
+use Rattle.texts.specs.declared.Text.{Text}
 use Rattle.questions.specs.Questions.{asked}
 use Rattle.machine.specs.Questions.{question1, question2}
 use Rattle.wave_format.specs.WaveFormat.{frameBytes, rateOf, header, headerBytes}
-use Rattle.bench_text.specs.Text.{lineBytes}
+use Rattle.bench_text.specs.Text.{lineBytes, refusalLine, orderRefusalLine}
 use Rattle.bench_lines.specs.Lines.{mostPasses}
-use Rattle.bench_file.specs.BenchFile.{Reading, fileOf, textOf, fileRefusal}
+use Rattle.bench_file.specs.BenchFile.{fileOf, textOf, fileRefusal}
+use Rattle.rung_order.specs.RungOrder.{orderingBy, orderRefusal}
+use Rattle.rung_order.specs.declared.By.{By}
+use Rattle.bench_pass.specs.BenchPass.{Ordering}
 use Rattle.bench_ringing.specs.Ringing.{memoryAtFirst}
-use Rattle.bench_ringing.specs.Heard.{Heard, heardRefused, heard, framesOf}
-
--- What is heard of a machine of a text and commands over a delay memory of zeros. Questions 1 and 2 are asked first, also where there is no pass, since N gives the rate.
-unfoldable pub heardOf : Reading → Heard
-heardOf reading =
-    let text = textOf (reading .title) in
-    let first = asked (question1 (reading .machine) ∷ question2 text (reading .machine) ∷ []) in
-    cond (eqb first 0) (heard text (reading .passes) (reading .machine) memoryAtFirst (reading .commands)) (heardRefused first)
-
--- What is heard of a file: its questions first.
-unfoldable pub heardFile : List ℕ → Heard
-heardFile file = let number = fileRefusal file in cond (eqb number 0) (heardOf (fileOf file)) (heardRefused number)
+use Rattle.bench_ringing.specs.Heard.{Heard, heard, framesOf}
 
 -- The file: the header, with the rate by N as the ringing begins, and the frames. A refusal makes no sound.
 unfoldable pub waveFile : ℕ → Heard → List ℕ
@@ -32,9 +26,36 @@ waveFile n h =
     let frames = framesOf (h .machines) in
     cond (eqb (h .number) 0) (header (rateOf n) (length frames) ++ frames) []
 
--- The file of a bench file.
-unfoldable pub waveOf : List ℕ → List ℕ
-waveOf file = waveFile (getD (fileOf file .machine) nAt 0) (heardFile file)
+-- What is written to standard output and to standard error.
+pub record Written : Type 0 where
+  pub output : List ℕ
+  pub error : List ℕ
+
+-- A refusal leaves standard output empty.
+abbrev pub silent : List ℕ → Written
+silent line = record { output = []; error = line }
+
+-- A sound, or the refusal that ended it.
+abbrev pub sounded : ℕ → Heard → Written
+sounded n h = record { output = waveFile n h; error = cond (eqb (h .number) 0) [] (refusalLine (h .number)) }
+
+-- The sound of so many passes by an ordering. Questions 1 and 2 are asked first, also where there is no pass, since N gives the rate.
+unfoldable pub soundedFrom : Text → Ordering → ℕ → Machine → Memory → Commands → Written
+soundedFrom text by passes m memory commands =
+    let first = asked (question1 m ∷ question2 text m ∷ []) in
+    cond (eqb first 0) (sounded (getD m nAt 0) (heard text by passes m memory commands)) (silent (refusalLine first))
+
+-- The program's whole output for every file, by number, by pitch or by an order file: the bench file's questions first, then that of the order file, then the sound.
+unfoldable pub waveOf : By → List ℕ → List ℕ → Written
+waveOf by orderFile file =
+    let reading = fileOf file in
+    let number = fileRefusal file in
+    let other = orderRefusal by orderFile in
+    cond (eqb number 0)
+    (cond (eqb other 0)
+    (soundedFrom (textOf (reading .title)) (orderingBy by orderFile (reading .machine)) (reading .passes) (reading .machine) memoryAtFirst (reading .commands))
+    (silent (orderRefusalLine other)))
+    (silent (refusalLine number))
 
 -- The room for the longest file: its header, a frame of each pass, and what a step asks to be free.
 abbrev pub waveRoom : ℕ

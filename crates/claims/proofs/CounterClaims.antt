@@ -15,5 +15,5 @@ counter-claims =
       commands-alike = command-alike;
       updates-alike = updated-alike;
       heard-alike = heard-alike;
-      heard-as-before = λ text passes m good. heard-narrow text passes m m (same-own m) good good;
+      heard-as-before = λ text by passes m good. heard-narrow text by passes m m (same-own m) good good;
     }

@@ -46,11 +46,11 @@ use Rattle.equal_ringings.proofs.WokenLater.{woken-agree, throughout-apart}
 use Rattle.order_pitch.proofs.Sorted.{by-pitch-sorted, by-pitch-passes, sorted-is-by-pitch}
 use Rattle.wave_format.proofs.Samples.{sample-exact}
 use Rattle.bell_passes.proofs.TwoBells.{two-bells}
+use Rattle.rung_alike.proofs.Files.{rung-claims}
 use Rattle.claims.proofs.OrderClaims.{order-claims}
 use Rattle.claims.proofs.PassClaims.{pass-claims}
 use Rattle.claims.proofs.TimerClaims.{timer-claims}
 use Rattle.bench_ringing.proofs.HeardPasses.{heard-passes, heard-all}
-use Rattle.bench_ringing.proofs.Printing.{printed-heard}
 use Rattle.bench_ringing.proofs.RungFile.{file-ticks, rung-file}
 use Rattle.bench_gathering.proofs.Gatherings.{gathered-file}
 use Rattle.claims.specs.Claims.{Claims}
@@ -103,6 +103,7 @@ claims =
       timer-claims = timer-claims;
       heard-passes = heard-passes;
       heard-all = heard-all;
+      rung = rung-claims;
       worked-examples = worked-examples;
       fresh-good = λ text. record { whole = fresh-length; is-sound = fresh-sound text };
       pass-keeps = pass-sound;
@@ -147,10 +148,9 @@ claims =
       older-entry = older-entry;
       older-exponential = older-exponential;
       older-table = older-table;
-      steps-are-output = rung-file;
+      steps-are-output = λ by orderFile file m room. rung-file file m room by orderFile;
       gathered-are-output = gathered-file;
       old-no-update = λ m commands. refl;
-      printed-heard = printed-heard;
       sample-exact = sample-exact;
       tables = table-claims;
       low-bits = low-bit-claims;

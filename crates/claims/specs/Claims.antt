@@ -6,7 +6,7 @@ use mathlib.Core.List.{List, [], _∷_}
 use mathlib.Core.Logic.{_↔_, _≢_}
 use mathlib.Core.Path.{_≡_}
 use lib.IntN.{pos, _*ℤ_}
-use lib.ListN.{length, getD, set}
+use lib.ListN.{length, getD, set, replicate}
 use Rattle.words.specs.Words.{signed}
 use Rattle.layout.specs.Layout.{counterAt, dxAt, lingeringAt, quadrantWords, generators, machineLength, updateTicksAt, generatorAt, GO, dacs}
 use Rattle.layout.specs.Machine.{Machine, Order, Items, Commands, Memory, ticksOf, updateTicks, updateTicksOf, lowCounter}
@@ -27,7 +27,7 @@ use Rattle.pass_model.specs.Generators.{generatorsOf, begun}
 use Rattle.pass_model.specs.Clipped.{noMarks, SumLeft}
 use Rattle.pass_model.specs.Pass.{unitQuestions, Call, plainCall, passOf}
 use Rattle.pass_laws.specs.Good.{Good}
-use Rattle.pass_laws.specs.Passes.{passesByNumber}
+use Rattle.pass_laws.specs.Passes.{noData, rungBy}
 use Rattle.pass_laws.specs.Settings.{SettingsKept}
 use Rattle.delay_passes.specs.DelayClaims.{DelayClaims}
 use Rattle.command_fields.specs.Fields.{dataOf}
@@ -62,6 +62,7 @@ use Rattle.chain_views.specs.Sees.{Sees}
 use Rattle.equal_ringings.specs.Ringings.{NoneWaits, EqualThroughout}
 use Rattle.equal_ringings.specs.WokenLater.{wokenLater, wokenFirst, wokenLast}
 use Rattle.bell_passes.specs.TwoBells.{TwoBells}
+use Rattle.rung_alike.specs.RungClaims.{RungClaims}
 use Rattle.claims.specs.OrderClaims.{OrderClaims}
 use Rattle.claims.specs.PassClaims.{PassClaims}
 use Rattle.claims.specs.TimerClaims.{TimerClaims}
@@ -69,8 +70,10 @@ use Rattle.bench_text.specs.Text.{lineBytes, decimal}
 use Rattle.bench_numbers.specs.Numbers.{decimalIn}
 use Rattle.bench_numbers.specs.declared.Number.the-variants.{Is}
 use Rattle.bench_file.specs.BenchFile.{commandPlaces, fileOf, readOf}
-use Rattle.bench_ringing.specs.Ringing.{updateAfter, printed, outputOf}
-use Rattle.bench_ringing.specs.Heard.{heard, linesHeard}
+use Rattle.bench_pass.specs.BenchPass.{Ordering}
+use Rattle.rung_order.specs.declared.By.{By}
+use Rattle.bench_ringing.specs.Heard.{updateAfter, heard}
+use Rattle.bench_ringing.specs.Ringing.{outputOf}
 use Rattle.bench_ringing.specs.Steps.{rungFrom}
 use Rattle.bench_gathering.specs.Gathering.{printedFrom}
 use Rattle.claims.specs.TableClaims.{TableClaims}
@@ -155,11 +158,13 @@ pub record Claims : Type 0 where
   pub pass-claims : PassClaims
   -- Overrun and the Linger pass.
   pub timer-claims : TimerClaims
-  -- What is heard without commands, from a machine that isn't lingering, are the machines of passes by number in sequence, up to the first refusal: where nothing is refused, as many as were asked for.
-  pub heard-passes : (text : Text) (n : ℕ) (m : Machine) (memory : Memory) → getD m lingeringAt 0 ≡ 0 → (k : ℕ) → k < length (heard text n m memory [] .machines)
-      → getD (heard text n m memory [] .machines) k [] ≡ passesByNumber text (suc k) m memory .machine
-  pub heard-all : (text : Text) (n : ℕ) (m : Machine) (memory : Memory) (commands : Commands) → heard text n m memory commands .number ≡ 0
-      → length (heard text n m memory commands .machines) ≡ n
+  -- What is heard without commands, from a machine that isn't lingering, are the machines of passes in sequence by the order for its T, up to the first refusal: where nothing is refused, as many as were asked for.
+  pub heard-passes : (text : Text) (by : Ordering) (n : ℕ) (m : Machine) (memory : Memory) → getD m lingeringAt 0 ≡ 0 → (k : ℕ) → k < length (heard text by n m memory [] .machines)
+      → getD (heard text by n m memory [] .machines) k [] ≡ rungBy text (by (ticksOf m)) m memory (replicate (suc k) noData) .machine
+  pub heard-all : (text : Text) (by : Ordering) (n : ℕ) (m : Machine) (memory : Memory) (commands : Commands) → heard text by n m memory commands .number ≡ 0
+      → length (heard text by n m memory commands .machines) ≡ n
+  -- A bench file rung by an order.
+  pub rung : RungClaims
   -- The twelve worked examples.
   pub worked-examples : WorkedExamples
   -- A fresh machine passes questions 1 and 2, and a pass, a command and an update keep them.
@@ -240,13 +245,13 @@ pub record Claims : Type 0 where
   pub older-entry : (f : ℕ) → exponentialEntry tableSize (4 * f) ≡ exponentialEntry olderSize f
   pub older-exponential : (h : ℕ) → exponential tableSize (4 * h) ≡ exponential olderSize h
   pub older-table : olderTable ≡ exponentialEntries olderSize
-  -- The steps of the bench program until no pass is left are its output, for every file; and so are they where they are gathered in a buffer that has room for a line.
-  pub steps-are-output : (file m room : List ℕ) → length room ≡ commandPlaces → rungFrom (readOf file m room) ≡ outputOf file
-  pub gathered-are-output : (size : ℕ) (file m room : List ℕ) → lineBytes ≤ size → length room ≡ commandPlaces → printedFrom size (readOf file m room) ≡ outputOf file
+  -- The steps of the bench program until no pass is left are its output, for every file, by number, by pitch or by an order file; and so are they where they are gathered in a buffer that has room for a line.
+  pub steps-are-output : (by : By) (orderFile file m room : List ℕ) → length room ≡ commandPlaces → rungFrom by orderFile (readOf file m room) ≡ outputOf by orderFile file
+  pub gathered-are-output : (size : ℕ) (by : By) (orderFile file m room : List ℕ) → lineBytes ≤ size → length room ≡ commandPlaces
+      → printedFrom size by orderFile (readOf file m room) ≡ outputOf by orderFile file
   -- No update follows a pass of the older text: what is heard of an old file is what its passes alone leave.
   pub old-no-update : (m : Machine) (commands : Commands) → updateAfter Old m commands ≡ record { number = 0; machine = m; rest = commands }
-  -- What is printed are the lines of the machines that are heard, and that of the refusal that ended them. A sample is its signed word times 16, exactly.
-  pub printed-heard : (text : Text) (passes : ℕ) (m : Machine) (memory : Memory) (commands : Commands) → printed text passes m memory commands ≡ linesHeard (heard text passes m memory commands)
+  -- A sample is its signed word times 16, exactly.
   pub sample-exact : (w : ℕ) → w < 2 ^ 20 → signed 24 (16 * w) ≡ pos 16 *ℤ signed 20 w
   -- The tables of the sine and of the exponential; low bits at any width; the counter of 32 bits; the machines of files; the sound of files.
   pub tables : TableClaims

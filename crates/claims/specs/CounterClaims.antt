@@ -10,6 +10,7 @@ use Rattle.pass_model.specs.Pass.{Call, passOf}
 use Rattle.pass_laws.specs.Good.{Good}
 use Rattle.command.specs.Command.{afterCommand}
 use Rattle.update.specs.Update.{updateOf}
+use Rattle.bench_pass.specs.BenchPass.{Ordering}
 use Rattle.bench_ringing.specs.Heard.{heard}
 use Rattle.counter_laws.specs.SameButHigh.{SameButHigh}
 use Rattle.counter_laws.specs.NarrowRinging.{heardNarrow}
@@ -24,8 +25,8 @@ pub record CounterClaims : Type 0 where
   pub commands-alike : (m n : Machine) → SameButHigh m n → (c : ℕ) → SameButHigh (afterCommand m c) (afterCommand n c)
   pub updates-alike : (m n : Machine) → SameButHigh m n → Good Of1978 m → Good Of1978 n → (commands : Commands) → UpdatedAlike (updateOf m commands) (updateOf n commands)
   -- So what is heard of the two is the same in every frame and in the number of the refusal, and what is printed in all but the counter.
-  pub heard-alike : (text : Text) (passes : ℕ) (m n : Machine) → SameButHigh m n → Good text m → Good text n → (memory : Memory) (commands : Commands)
-      → HeardAlike (heard text passes m memory commands) (heard text passes n memory commands)
+  pub heard-alike : (text : Text) (by : Ordering) (passes : ℕ) (m n : Machine) → SameButHigh m n → Good text m → Good text n → (memory : Memory) (commands : Commands)
+      → HeardAlike (heard text by passes m memory commands) (heard text by passes n memory commands)
   -- And so it is as it was while the counter had 20 bits.
-  pub heard-as-before : (text : Text) (passes : ℕ) (m : Machine) → Good text m → (memory : Memory) (commands : Commands)
-      → HeardAlike (heard text passes m memory commands) (heardNarrow text passes m memory commands)
+  pub heard-as-before : (text : Text) (by : Ordering) (passes : ℕ) (m : Machine) → Good text m → (memory : Memory) (commands : Commands)
+      → HeardAlike (heard text by passes m memory commands) (heardNarrow text by passes m memory commands)

@@ -16,9 +16,8 @@ use Rattle.pass_model.specs.Pass.{Outcome}
 use Rattle.pass_laws.specs.Good.{Good}
 use Rattle.pass_laws.proofs.PassSound.{pass-sound}
 use Rattle.update.specs.Update.{Outcome as Updated}
-use Rattle.bench_pass.specs.ByNumber.{benchCall, passed}
-use Rattle.bench_ringing.specs.Ringing.{updateAfter, lineAfter}
-use Rattle.bench_ringing.specs.Heard.{Heard, heardAfter, heardRefused, heard, frameAfter, framesOf}
+use Rattle.bench_pass.specs.BenchPass.{Ordering, benchCall, passed}
+use Rattle.bench_ringing.specs.Heard.{Heard, heardAfter, heardRefused, heard, updateAfter, lineAfter, frameAfter, framesOf}
 use Rattle.bench_ringing.proofs.Updates.{update-after-sound, update-after-length}
 use Rattle.counter_laws.specs.SameButHigh.{SameButHigh}
 use Rattle.counter_laws.specs.NarrowRinging.{narrow, heardNarrow}
@@ -80,40 +79,40 @@ after-pass-alike Old m n s first second cs = outcome-alike s 0 cs
 after-pass-good : (text : Text) (m : Machine) (cs : Commands) → Good text m → Good text (updateAfter text m cs .machine)
 after-pass-good text m cs good = record { whole = update-after-length text m cs ∙ good .whole; is-sound = update-after-sound text m cs (good .is-sound) }
 
-by-number-alike : (text : Text) (m n : Machine) → SameButHigh m n → Good text m → Good text n → (memory : Memory) → PassedAlike (passed text m memory) (passed text n memory)
-by-number-alike text m n s first second memory = rw (← (same-ticks s)) (passed-alike text m n s first second (benchCall m memory))
+by-order-alike : (text : Text) (by : Ordering) (m n : Machine) → SameButHigh m n → Good text m → Good text n → (memory : Memory) → PassedAlike (passed text by m memory) (passed text by n memory)
+by-order-alike text by m n s first second memory = rw (← (same-ticks s)) (passed-alike text m n s first second (benchCall by m memory))
 
-pub heard-alike : (text : Text) (k : ℕ) (m n : Machine) → SameButHigh m n → Good text m → Good text n → (memory : Memory) (cs : Commands)
-    → HeardAlike (heard text k m memory cs) (heard text k n memory cs)
+pub heard-alike : (text : Text) (by : Ordering) (k : ℕ) (m n : Machine) → SameButHigh m n → Good text m → Good text n → (memory : Memory) (cs : Commands)
+    → HeardAlike (heard text by k m memory cs) (heard text by k n memory cs)
 unfolding heard
-heard-alike text zero m n s first second memory cs = refused-alike 0
-heard-alike text (suc k) m n s first second memory cs =
-    let p = passed text m memory in
-    let q = passed text n memory in
-    let a = by-number-alike text m n s first second memory in
-    let pg = pass-sound text m (benchCall m memory) first in
-    let qg = pass-sound text n (benchCall n memory) second in
+heard-alike text by zero m n s first second memory cs = refused-alike 0
+heard-alike text by (suc k) m n s first second memory cs =
+    let p = passed text by m memory in
+    let q = passed text by n memory in
+    let a = by-order-alike text by m n s first second memory in
+    let pg = pass-sound text m (benchCall by m memory) first in
+    let qg = pass-sound text n (benchCall by n memory) second in
     let u = updateAfter text (p .machine) cs in
     let v = updateAfter text (q .machine) cs in
     let b = after-pass-alike text (p .machine) (q .machine) (a .machine) pg qg cs in
-    one-more p q u v a b (heard text k (u .machine)) (heard text k (v .machine))
-    (heard-alike text k (u .machine) (v .machine) (b .machine) (after-pass-good text (p .machine) cs pg) (after-pass-good text (q .machine) cs qg))
+    one-more p q u v a b (heard text by k (u .machine)) (heard text by k (v .machine))
+    (heard-alike text by k (u .machine) (v .machine) (b .machine) (after-pass-good text (p .machine) cs pg) (after-pass-good text (q .machine) cs qg))
 
 -- And what was heard while the counter had 20 bits: its high bits are cut off after each pass.
-pub heard-narrow : (text : Text) (k : ℕ) (m n : Machine) → SameButHigh m n → Good text m → Good text n → (memory : Memory) (cs : Commands)
-    → HeardAlike (heard text k m memory cs) (heardNarrow text k n memory cs)
+pub heard-narrow : (text : Text) (by : Ordering) (k : ℕ) (m n : Machine) → SameButHigh m n → Good text m → Good text n → (memory : Memory) (cs : Commands)
+    → HeardAlike (heard text by k m memory cs) (heardNarrow text by k n memory cs)
 unfolding heard heardNarrow
-heard-narrow text zero m n s first second memory cs = refused-alike 0
-heard-narrow text (suc k) m n s first second memory cs =
-    let p = passed text m memory in
-    let q = passed text n memory in
-    let a = by-number-alike text m n s first second memory in
-    let pg = pass-sound text m (benchCall m memory) first in
-    let qg = pass-sound text n (benchCall n memory) second in
+heard-narrow text by zero m n s first second memory cs = refused-alike 0
+heard-narrow text by (suc k) m n s first second memory cs =
+    let p = passed text by m memory in
+    let q = passed text by n memory in
+    let a = by-order-alike text by m n s first second memory in
+    let pg = pass-sound text m (benchCall by m memory) first in
+    let qg = pass-sound text n (benchCall by n memory) second in
     let ng = narrow-good text (q .machine) qg in
     let u = updateAfter text (p .machine) cs in
     let v = updateAfter text (narrow (q .machine)) cs in
     let cut = same-on (a .machine) (narrow-same (q .machine) (omega (arith, qg .whole))) in
     let b = after-pass-alike text (p .machine) (narrow (q .machine)) cut pg ng cs in
-    one-more p q u v a b (heard text k (u .machine)) (heardNarrow text k (v .machine))
-    (heard-narrow text k (u .machine) (v .machine) (b .machine) (after-pass-good text (p .machine) cs pg) (after-pass-good text (narrow (q .machine)) cs ng))
+    one-more p q u v a b (heard text by k (u .machine)) (heardNarrow text by k (v .machine))
+    (heard-narrow text by k (u .machine) (v .machine) (b .machine) (after-pass-good text (p .machine) cs pg) (after-pass-good text (narrow (q .machine)) cs ng))

@@ -8,8 +8,7 @@ use Rattle.layout.specs.Layout.{counterAt, dacAt}
 use Rattle.pass_model.specs.Pass.{Outcome}
 use Rattle.update.specs.Update.{Outcome as Updated}
 use Rattle.bench_text.specs.Text.{passLine}
-use Rattle.bench_ringing.specs.Ringing.{lineAfter}
-use Rattle.bench_ringing.specs.Heard.{Heard, framesOf}
+use Rattle.bench_ringing.specs.Heard.{Heard, lineAfter, framesOf}
 use Rattle.counter_laws.specs.SameButHigh.{SameButHigh}
 
 -- Two passes answer the same number, counts and marks and leave the same places and delay memory, and machines that differ in the counter's high bits alone.

@@ -56,7 +56,7 @@ module _ (text : Text) where
   enough-by m order memory d e = record { items = e .items; places = e .places; reads = e .reads; writes = e .writes }
 
   -- Settings one after the other.
-  settings-on : (l m n : Machine) → SameSettings text l m → SameSettings text m n → SameSettings text l n
+  pub settings-on : (l m n : Machine) → SameSettings text l m → SameSettings text m n → SameSettings text l n
   settings-on l m n a b =
       record {
         ticks = a .ticks ∙ b .ticks;
@@ -66,7 +66,7 @@ module _ (text : Text) where
         sending = λ g h. sending-on text l m n g (a .modes g h) (a .sending g h) (b .sending g h);
       }
 
-  none-waits-same : (m n : Machine) → SameSettings text m n → ticksOf m ≤ 256 → NoneWaits text m → NoneWaits text n
+  pub none-waits-same : (m n : Machine) → SameSettings text m n → ticksOf m ≤ 256 → NoneWaits text m → NoneWaits text n
   none-waits-same m n s few quiet g h =
       let l : g < ticksOf m = omega (arith, s .ticks) in
       let e = run-same text m n s g (omega arith) in
@@ -86,7 +86,7 @@ module _ (text : Text) where
             sym (pass-settings text m call .generator g h .gmode (q .0) (q .1))
         go false e = sym (untaken-mode text m call g (ltb-false g (ticksOf m) e) h)
 
-    settings-kept : SameSettings text m (passOf text m call .machine)
+    pub settings-kept : SameSettings text m (passOf text m call .machine)
     settings-kept =
         let kept = pass-settings text m call in
         record {

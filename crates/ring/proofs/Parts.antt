@@ -8,6 +8,7 @@ use native.Mathlib.Omega.{arith}
 use lib.Dec.{lit≤}
 use lib.ListN.{length}
 use lib.Seq.{sets, length-sets}
+use Rattle.bench_pass.specs.BenchPass.{Ordering}
 use Rattle.bench_ringing.specs.Steps.{Ringing}
 use Rattle.bench_gathering.specs.Gathering.{gathered}
 use Rattle.bench_gathering.proofs.Gatherings.{gathered-length, gathered-falls}
@@ -18,10 +19,10 @@ use Rattle.texts.specs.declared.Text.{Text}
 put-within : (line bytes : List ℕ) {size : ℕ} {after : List ℕ} → length bytes ≤ length line → size ≡ length bytes → after ≡ sets line 0 bytes → size ≤ length after
 put-within line bytes h es ea = omega (arith, es, ap length ea, length-sets line 0 bytes)
 
-pub gathered-within : (text : Text) (out : List ℕ) (r : Ringing) {size : ℕ} {after : List ℕ} → size ≡ length (gathered text Lines (length out) r .bytes)
-    → after ≡ sets out 0 (gathered text Lines (length out) r .bytes) → size ≤ length after
-gathered-within text out r es ea = put-within out (gathered text Lines (length out) r .bytes) (gathered-length text Lines (length out) r) es ea
+pub gathered-within : (text : Text) (by : Ordering) (out : List ℕ) (r : Ringing) {size : ℕ} {after : List ℕ} → size ≡ length (gathered text by Lines (length out) r .bytes)
+    → after ≡ sets out 0 (gathered text by Lines (length out) r .bytes) → size ≤ length after
+gathered-within text by out r es ea = put-within out (gathered text by Lines (length out) r .bytes) (gathered-length text by Lines (length out) r) es ea
 
 -- Each part leaves fewer passes.
-pub part-falls : (text : Text) (r : Ringing) {next : Ringing} → r .passes ≢ 0 → next ≡ gathered text Lines 65536 r .next → next .passes < r .passes
-part-falls text r n e = rw e (gathered-falls text Lines 65536 r (lit≤ tt) n)
+pub part-falls : (text : Text) (by : Ordering) (r : Ringing) {next : Ringing} → r .passes ≢ 0 → next ≡ gathered text by Lines 65536 r .next → next .passes < r .passes
+part-falls text by r n e = rw e (gathered-falls text by Lines 65536 r (lit≤ tt) n)

@@ -1,15 +1,15 @@
 // Program ring: rings the bench file on standard input and prints a line for each pass, or a refusal.
-// A read or a write that fails ends it with a line on standard error.
+// Without an argument each pass goes by number, with `-` by pitch, with another by the order file of that name.
+// A read or a write that fails, and a second argument, end it with a line on standard error.
 ghost use mathlib.Core.Path.{_≡_};
+ghost use Rattle.bench_pass.specs.BenchPass.{orderingOf};
 ghost use Rattle.bench_ringing.specs.Steps.{ringingAt};
 ghost use Rattle.bench_ringing.specs.declared.Output.the-variants.{Lines};
 ghost use Rattle.bench_gathering.specs.Gathering.{gathered};
 use bench_ringing::Output;
 use bench_ringing::Progress;
-use bench_streams::Input;
-use libc::STDERR_FILENO;
-use libc::STDIN_FILENO;
 use libc::STDOUT_FILENO;
+use rung_order::By;
 use texts::Text;
 
 // The buffer for lines that are printed together.
@@ -22,26 +22,47 @@ struct Part {
 }
 
 // Rings as many passes as the buffer has room for, and prints them; says whether they were written.
-fn ring_part(text: Text, at: Progress, m: &mut [u32], commands: &[u32], memory: &mut [u32]) -> Part
-    ensures { λ r. ⌜ ringingAt (r .next) (now (m .exit)) (now (memory .exit)) (now (commands .entry)) ≡ gathered text Lines 65536 (ringingAt at (now (m .entry)) (now (memory .entry)) (now (commands .entry))) .next ⌝ }
+fn ring_part(
+    text: Text,
+    at: Progress,
+    m: &mut [u32],
+    commands: &[u32],
+    memory: &mut [u32],
+    given: bool,
+    order: &[u32],
+) -> Part
+    ensures { λ r. ⌜ ringingAt (r .next) (now (m .exit)) (now (memory .exit)) (now (commands .entry)) ≡ gathered text (orderingOf given (now (order .entry))) Lines 65536 (ringingAt at (now (m .entry)) (now (memory .entry)) (now (commands .entry))) .next ⌝ }
 {
     let mut out = [0u8; OUTPUT_BYTES];
-    let next = bench_gathering::gather(text, Output::Lines, at, m, commands, memory, &mut out);
+    let next = bench_gathering::gather(
+        text,
+        Output::Lines,
+        at,
+        m,
+        commands,
+        memory,
+        given,
+        order,
+        &mut out,
+    );
     let length = next.length;
     let written = io::write_all(STDOUT_FILENO, &out[0..length]);
     Part { next, written }
 }
 
 // Rings until no pass is left or a write fails; says whether all was written.
-fn ring_all(text: Text, m: &mut [u32], commands: &[u32], memory: &mut [u32], passes: u32) -> bool {
-    let mut at = Progress {
-        passes,
-        taken: 0,
-        length: 0,
-        refused: 0,
-    };
+fn ring_all(
+    text: Text,
+    start: Progress,
+    m: &mut [u32],
+    commands: &[u32],
+    memory: &mut [u32],
+    given: bool,
+    order: &[u32],
+) -> bool {
+    let mut at = start;
     while at.passes != 0 {
-        let part = ring_part(text, at, m, commands, memory);
+        let part = ring_part(text, at, m, commands, memory, given, order);
         if !part.written {
             return false;
         }
@@ -51,30 +72,49 @@ fn ring_all(text: Text, m: &mut [u32], commands: &[u32], memory: &mut [u32], pas
     true
 }
 
-// Rings a file, over a delay memory of zeros; says whether all was written.
-fn ring(file: &[u8]) -> bool {
+// Rings a file from its beginning, or prints what is refused; says whether all was written.
+fn ring(file: &[u8], by: By, listing: &[u8]) -> bool {
     let mut m = [0u32; layout::MACHINE_LENGTH];
     let mut room = [0u32; bench_file::COMMAND_PLACES];
     let mut memory = [0u32; layout::MEMORY_WORDS];
-    let reading = bench_file::read(file, &mut m, &mut room);
-    if reading.number != 0 {
-        return bench_streams::refuse(STDOUT_FILENO, reading.number);
+    let start = bench_begin::begin(file, by, listing, &mut m, &mut room, &mut memory);
+    let length = start.length;
+    let line = start.line;
+    if length != 0 {
+        return io::write_all(STDOUT_FILENO, &line[0..length]);
     }
-    let count = reading.count;
-    let text = reading.text;
-    ring_all(text, &mut m, &room[0..count], &mut memory, reading.passes)
+    let text = start.text;
+    let at = start.at;
+    let count = start.count;
+    let given = start.given;
+    let entries = start.entries;
+    let order = start.order;
+    ring_all(
+        text,
+        at,
+        &mut m,
+        &room[0..count],
+        &mut memory,
+        given,
+        &order[0..entries],
+    )
 }
 
-// One byte more than a file may have is read, so that a longer one is told apart.
 fn main() {
-    let mut file = [0u8; bench_lines::FILE_BYTES + 1];
-    let input = bench_streams::read_all(STDIN_FILENO, &mut file);
-    let Input::Bytes(n) = input else {
-        io::write_all(STDERR_FILENO, b"ring: cannot read\n");
+    let mut order = [0u8; bench_streams::FILE_ROOM];
+    let request = bench_streams::read_arguments(b"ring", &mut order);
+    if !request.good {
         return;
-    };
-    let written = ring(&file[..n]);
-    if !written {
-        io::write_all(STDERR_FILENO, b"ring: cannot write\n");
+    }
+    let by = request.by;
+    let length = request.length;
+    let mut file = [0u8; bench_streams::FILE_ROOM];
+    let read = bench_streams::read_bench(b"ring", &mut file);
+    if !read.good {
+        return;
+    }
+    let n = read.length;
+    if !ring(&file[..n], by, &order[..length]) {
+        bench_streams::complain(b"ring", b": cannot write\n");
     }
 }

@@ -2,7 +2,7 @@
 -- Assumes nothing.
 use mathlib.Core.Path.{_≡_, refl, sym, ap, _∙_}
 use mathlib.Core.Logic.{_≢_}
-use mathlib.Core.Bool.{Bool, true, false}
+use mathlib.Core.Bool.{true}
 use mathlib.Core.List.{List}
 use Prim.Native.Nat.{ℕ, _-_, _≤_}
 use native.Mathlib.Omega.{arith}
@@ -21,14 +21,16 @@ use Rattle.order_pitch.specs.Pitch.{byPitch}
 use Rattle.order_pitch.proofs.Sorted.{by-pitch-sorted}
 use Rattle.order_file.specs.OrderFile.{Answer, isOrderFile, orderOf, noOrderFile, readOf}
 use Rattle.order_file.proofs.Answers.{number-zero, number-nine, count-within, entries-are}
+use Rattle.rung_order.specs.declared.By.{By}
+use Rattle.rung_order.specs.declared.By.the-variants.{Number, Pitch, File}
 use Rattle.bench_bytes.proofs.Puts.{first-part}
 use Rattle.bench_text.specs.Text.{refusalLine}
 use Rattle.bench_text.proofs.Lines.{refusal-line-length}
 use Rattle.bench_file.specs.BenchFile.{fileOf, textOf, fileRefusal, Answer as FileAnswer, readOf as fileReadOf}
 use Rattle.bench_file.proofs.WholeFile.{read-number}
-use Rattle.sorted_lines.specs.SortedLines.{orderRefusalLine}
-use Rattle.sorted_lines.proofs.Lines.{order-refusal-line-length}
-use Rattle.sorted_findings.specs.Findings.{comparedLines, byFileLines, findingsOf, findingsRoom}
+use Rattle.bench_text.specs.Text.{orderRefusalLine}
+use Rattle.bench_text.proofs.Lines.{order-refusal-line-length}
+use Rattle.sorted_findings.specs.Findings.{comparedLines, byFileLines, secondLines, findingsOf, findingsRoom}
 use Rattle.sorted_findings.proofs.Comparing.{compared-length}
 
 -- The order by pitch is the first T entries of what was filled.
@@ -77,9 +79,9 @@ module _ (file m room : List ℕ) {a : FileAnswer} (read : a ≡ fileReadOf file
   unfolding fileReadOf
   good e = rw (read, eq-eqb (fileRefusal file) 0 e) (refl, refl)
 
-  pub bench-refused : a .number ≢ 0 → (given : Bool) (orderFile : List ℕ) → findingsOf file given orderFile ≡ refusalLine (a .number)
+  pub bench-refused : a .number ≢ 0 → (by : By) (orderFile : List ℕ) → findingsOf file by orderFile ≡ refusalLine (a .number)
   unfolding findingsOf
-  bench-refused h given orderFile = rw (← number-is, ne-eqb (a .number) 0 h)
+  bench-refused h by orderFile = rw (← number-is, ne-eqb (a .number) 0 h)
 
   module _ (z : a .number ≡ 0) where
     none : eqb (fileRefusal file) 0 ≡ true
@@ -88,13 +90,9 @@ module _ (file m room : List ℕ) {a : FileAnswer} (read : a ≡ fileReadOf file
     as-read : (a .text ≡ textOf (fileOf file .title)) × (a .machine ≡ fileOf file .machine)
     as-read = good (sym number-is ∙ z)
 
-    pub bench-given : {given : Bool} → given ≡ true → (orderFile : List ℕ) → findingsOf file given orderFile ≡ byFileLines (a .text) (a .machine) orderFile
+    pub bench-found : (by : By) (orderFile : List ℕ) → findingsOf file by orderFile ≡ secondLines by (a .text) (a .machine) orderFile
     unfolding findingsOf
-    bench-given e orderFile = rw (none, e, as-read .0, as-read .1)
-
-    pub bench-sorted : {given : Bool} → given ≡ false → (orderFile : List ℕ) → findingsOf file given orderFile ≡ comparedLines (a .text) (a .machine) (byPitch (a .machine))
-    unfolding findingsOf
-    bench-sorted e orderFile = rw (none, e, as-read .0, as-read .1)
+    bench-found by orderFile = rw (none, as-read .0, as-read .1)
 
 -- All that is printed has room in its buffer.
 by-file-length : (text : Text) (m : Machine) (file : List ℕ) → length (byFileLines text m file) ≤ findingsRoom
@@ -102,16 +100,18 @@ unfolding byFileLines
 by-file-length text m file =
     of-cond (λ (l : List ℕ). length l ≤ findingsRoom) (isOrderFile file) (compared-length text m (orderOf file)) (omega (arith, order-refusal-line-length 9))
 
-findings-length : (file : List ℕ) (given : Bool) (order : List ℕ) → length (findingsOf file given order) ≤ findingsRoom
+second-length : (by : By) (text : Text) (m : Machine) (order : List ℕ) → length (secondLines by text m order) ≤ findingsRoom
+second-length Number text m order = compared-length text m (byPitch m)
+second-length Pitch text m order = compared-length text m (byPitch m)
+second-length File text m order = by-file-length text m order
+
+findings-length : (file : List ℕ) (by : By) (order : List ℕ) → length (findingsOf file by order) ≤ findingsRoom
 unfolding findingsOf
-findings-length file given order =
-    let m = fileOf file .machine in
-    let text = textOf (fileOf file .title) in
-    of-cond (λ (l : List ℕ). length l ≤ findingsRoom) (eqb (fileRefusal file) 0)
-    (of-cond (λ (l : List ℕ). length l ≤ findingsRoom) given (by-file-length text m order) (compared-length text m (byPitch m)))
+findings-length file by order =
+    of-cond (λ (l : List ℕ). length l ≤ findingsRoom) (eqb (fileRefusal file) 0) (second-length by (textOf (fileOf file .title)) (fileOf file .machine) order)
     (omega (arith, refusal-line-length (fileRefusal file)))
 
-pub findings-within : (file : List ℕ) (given : Bool) (order out : List ℕ) {size : ℕ} {after : List ℕ} → length out ≡ findingsRoom
-    → (size ≡ length (findingsOf file given order)) × (after ≡ sets out 0 (findingsOf file given order)) → size ≤ length after
-findings-within file given order out e (es, ea) =
-    omega (arith, e, es, ap length ea, length-sets out 0 (findingsOf file given order), findings-length file given order)
+pub findings-within : (file : List ℕ) (by : By) (order out : List ℕ) {size : ℕ} {after : List ℕ} → length out ≡ findingsRoom
+    → (size ≡ length (findingsOf file by order)) × (after ≡ sets out 0 (findingsOf file by order)) → size ≤ length after
+findings-within file by order out e (es, ea) =
+    omega (arith, e, es, ap length ea, length-sets out 0 (findingsOf file by order), findings-length file by order)

@@ -1,7 +1,7 @@
 -- What program sorted prints for every bench file, with or without a file of a second order.
 -- Assumes nothing.
 use Prim.Native.Nat.{ℕ, _+_, _*_}
-use mathlib.Core.Bool.{Bool, cond}
+use mathlib.Core.Bool.{cond}
 use mathlib.Core.List.{List, _++_}
 use lib.Dec.{eqb}
 use Rattle.lists.specs.Lists.{zeros}
@@ -11,11 +11,13 @@ use Rattle.texts.specs.declared.Text.{Text}
 use Rattle.order_lists.specs.Sequences.{byNumber}
 use Rattle.order_pitch.specs.Pitch.{byPitch}
 use Rattle.order_file.specs.OrderFile.{isOrderFile, orderOf}
+use Rattle.rung_order.specs.declared.By.{By}
+use Rattle.rung_order.specs.declared.By.the-variants.{Number, Pitch, File}
 use Rattle.parts.specs.Parts.{Parting, partsOf}
 use Rattle.parts_shown.specs.Shown.{differenceShown}
-use Rattle.bench_text.specs.Text.{lineBytes, refusalLine}
+use Rattle.bench_text.specs.Text.{lineBytes, refusalLine, orderRefusalLine}
 use Rattle.bench_file.specs.BenchFile.{fileOf, textOf, fileRefusal}
-use Rattle.sorted_lines.specs.SortedLines.{orderLines, equalLine, failingLine, orderRefusalLine, entryBytes}
+use Rattle.sorted_lines.specs.SortedLines.{orderLines, equalLine, failingLine, entryBytes}
 
 -- What parts the order by number from a second one. The run and the read list for the contents are zeros, and long enough.
 abbrev pub partingFrom : Text → Machine → Order → Parting
@@ -36,14 +38,18 @@ comparedLines text m order =
 unfoldable pub byFileLines : Text → Machine → List ℕ → List ℕ
 byFileLines text m orderFile = cond (isOrderFile orderFile) (comparedLines text m (orderOf orderFile)) (orderRefusalLine 9)
 
--- What is printed: the questions of the bench file; then what its machine, before any command, gives by the file's text with an order file if there is one, else with the order by pitch.
-unfoldable pub findingsOf : List ℕ → Bool → List ℕ → List ℕ
-findingsOf file given orderFile =
+-- What is printed of a machine with an order file, if that is asked for, else with the order by pitch.
+abbrev pub secondLines : By → Text → Machine → List ℕ → List ℕ
+secondLines Number text m orderFile = comparedLines text m (byPitch m)
+secondLines Pitch text m orderFile = comparedLines text m (byPitch m)
+secondLines File text m orderFile = byFileLines text m orderFile
+
+-- What is printed: the questions of the bench file; then what its machine, before any command, gives by the file's text.
+unfoldable pub findingsOf : List ℕ → By → List ℕ → List ℕ
+findingsOf file by orderFile =
     let reading = fileOf file in
-    let text = textOf (reading .title) in
-    let m = reading .machine in
     let number = fileRefusal file in
-    cond (eqb number 0) (cond given (byFileLines text m orderFile) (comparedLines text m (byPitch m))) (refusalLine number)
+    cond (eqb number 0) (secondLines by (textOf (reading .title)) (reading .machine) orderFile) (refusalLine number)
 
 -- The room for all that is printed: the lines of an order of 256 entries, and one line more.
 abbrev pub findingsRoom : ℕ

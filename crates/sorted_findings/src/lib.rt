@@ -10,12 +10,13 @@ ghost use Rattle.questions.specs.Questions.{asked};
 ghost use Rattle.machine.specs.Questions.{question1, question2};
 ghost use Rattle.order_lists.specs.Sequences.{byNumber};
 ghost use Rattle.order_pitch.specs.Pitch.{byPitch};
-ghost use Rattle.bench_text.specs.Text.{lineBytes, refusalLine};
-ghost use Rattle.sorted_lines.specs.SortedLines.{differencePlace, failingLine, orderRefusalLine};
+ghost use Rattle.bench_text.specs.Text.{lineBytes, refusalLine, orderRefusalLine};
+ghost use Rattle.sorted_lines.specs.SortedLines.{differencePlace, failingLine};
 ghost use Rattle.sorted_findings.specs.Findings.{foundLine, comparedLines, byFileLines, findingsOf, findingsRoom};
 use bench_text::LINE_BYTES;
 use parts::Parted;
 use parts_shown::Difference;
+use rung_order::By;
 use texts::Text;
 
 // The room for all that is printed: 17 bytes for each of 256 entries of an order, and a line of 64.
@@ -37,7 +38,7 @@ fn put_order_refusal(n: u32, out: &mut [u8; FINDINGS_ROOM]) -> usize
     ensures { λ _. ⌜ now (out .exit) ≡ sets (now (out .entry)) 0 (orderRefusalLine n) ⌝ }
 {
     let mut line = [0u8; LINE_BYTES];
-    let size = sorted_lines::order_refusal_line(&mut line, n);
+    let size = bench_text::order_refusal_line(&mut line, n);
     bench_bytes::put(out, 0, &line[0..size])
 }
 
@@ -148,10 +149,10 @@ fn by_file(text: Text, m: &[u32], file: &[u8], out: &mut [u8; FINDINGS_ROOM]) ->
     compared(text, m, &order[0..count], out)
 }
 
-// What is printed of a bench file, and of an order file if one is given: the first bytes of the buffer. Answers its length.
-pub fn findings(file: &[u8], given: bool, order: &[u8], out: &mut [u8; FINDINGS_ROOM]) -> usize
-    ensures { λ r. ⌜ r ≡ length (findingsOf (now (file .entry)) given (now (order .entry))) ⌝ }
-    ensures { λ _. ⌜ now (out .exit) ≡ sets (now (out .entry)) 0 (findingsOf (now (file .entry)) given (now (order .entry))) ⌝ }
+// What is printed of a bench file, and of an order file if one is asked for: the first bytes of the buffer. Answers its length.
+pub fn findings(file: &[u8], by: By, order: &[u8], out: &mut [u8; FINDINGS_ROOM]) -> usize
+    ensures { λ r. ⌜ r ≡ length (findingsOf (now (file .entry)) by (now (order .entry))) ⌝ }
+    ensures { λ _. ⌜ now (out .exit) ≡ sets (now (out .entry)) 0 (findingsOf (now (file .entry)) by (now (order .entry))) ⌝ }
 {
     let mut m = [0u32; layout::MACHINE_LENGTH];
     let mut room = [0u32; bench_file::COMMAND_PLACES];
@@ -160,8 +161,9 @@ pub fn findings(file: &[u8], given: bool, order: &[u8], out: &mut [u8; FINDINGS_
         return put_refusal(reading.number, out);
     }
     let text = reading.text;
-    if given {
-        return by_file(text, &m, order, out);
+    match by {
+        By::Number => by_pitch(text, &m, out),
+        By::Pitch => by_pitch(text, &m, out),
+        By::File => by_file(text, &m, order, out),
     }
-    by_pitch(text, &m, out)
 }

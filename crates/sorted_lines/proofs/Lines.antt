@@ -14,16 +14,12 @@ use Rattle.bench_text.proofs.Lines.{named-length}
 use Rattle.order_file.specs.OrderFile.{orderStart}
 use Rattle.parts_shown.specs.declared.Difference.{Difference}
 use Rattle.parts_shown.specs.declared.Difference.the-variants.{Word, Written}
-use Rattle.sorted_lines.specs.SortedLines.{entryLine, orderLines, pointText, placeText, wordText, writtenText, orderRefusedText, differenceText, failingLine, orderRefusalLine, entryBytes}
+use Rattle.sorted_lines.specs.SortedLines.{entryLine, orderLines, pointText, placeText, wordText, writtenText, differenceText, failingLine, entryBytes}
 
 -- How long each may be.
 pub entry-line-length : (g : ℕ) → length (entryLine g) ≤ entryBytes
 unfolding entryLine
 entry-line-length g = simp length-append (omega (arith, named-length orderStart g))
-
-pub order-refusal-line-length : (n : ℕ) → length (orderRefusalLine n) ≤ 25
-unfolding orderRefusalLine
-order-refusal-line-length n = simp length-append (omega (arith, named-length orderRefusedText n))
 
 pub difference-length : (d : Difference) → length (differenceText d) ≤ 19
 difference-length (Word w) = omega (arith, named-length wordText w)
@@ -48,11 +44,6 @@ pub put-entry : (d : List ℕ) (g : ℕ) {i₁ i₂ : ℕ} {d₁ d₂ : List ℕ
     → (i₂ ≡ length (entryLine g)) × (d₂ ≡ sets d 0 (entryLine g))
 unfolding entryLine
 put-entry d g p₁ p₂ = let q = then d 0 (named orderStart g) newline p₁ p₂ in (q .ends ∙ zero-add _, q .leaves)
-
-pub put-order-refusal : (d : List ℕ) (n : ℕ) {i₁ i₂ : ℕ} {d₁ d₂ : List ℕ} → Put d 0 (named orderRefusedText n) i₁ d₁ → Put d₁ i₁ newline i₂ d₂
-    → (i₂ ≡ length (orderRefusalLine n)) × (d₂ ≡ sets d 0 (orderRefusalLine n))
-unfolding orderRefusalLine
-put-order-refusal d n p₁ p₂ = let q = then d 0 (named orderRefusedText n) newline p₁ p₂ in (q .ends ∙ zero-add _, q .leaves)
 
 pub put-failing : (d : List ℕ) (point place : ℕ) (difference : Difference) {i₁ i₂ i₃ i₄ : ℕ} {d₁ d₂ d₃ d₄ : List ℕ}
     → Put d 0 (named pointText point) i₁ d₁

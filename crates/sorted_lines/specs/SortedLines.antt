@@ -33,9 +33,6 @@ wordText = ascii " word="
 abbrev pub writtenText : List ℕ
 writtenText = ascii " written="
 
-abbrev pub orderRefusedText : List ℕ
-orderRefusedText = ascii "order-refused="
-
 -- The name and the place of a difference.
 abbrev pub differenceText : Difference → List ℕ
 differenceText (Word w) = named wordText w
@@ -49,10 +46,6 @@ differencePlace (Written i) = i
 -- The line of a point that fails: its number, the place at which it fails, and the first word or written item by which passes from the contents differ.
 unfoldable pub failingLine : ℕ → ℕ → Difference → List ℕ
 failingLine point place difference = named pointText point ++ (named placeText place ++ (differenceText difference ++ newline))
-
--- The line of a text that is no order file.
-unfoldable pub orderRefusalLine : ℕ → List ℕ
-orderRefusalLine n = named orderRefusedText n ++ newline
 
 -- The room for the line of an entry, whatever its number.
 abbrev pub entryBytes : ℕ

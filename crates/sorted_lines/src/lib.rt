@@ -4,7 +4,7 @@ ghost use Prim.Native.Nat.{_+_, _*_, _^_, _≤_, _<_};
 ghost use lib.ListN.{length};
 ghost use lib.Seq.{sets};
 ghost use Rattle.bench_text.specs.Text.{lineBytes};
-ghost use Rattle.sorted_lines.specs.SortedLines.{entryLine, orderLines, differenceText, differencePlace, failingLine, orderRefusalLine, entryBytes};
+ghost use Rattle.sorted_lines.specs.SortedLines.{entryLine, orderLines, differenceText, differencePlace, failingLine, entryBytes};
 use bench_text::LINE_BYTES;
 use parts_shown::Difference;
 
@@ -14,15 +14,6 @@ pub fn entry_line(line: &mut [u8; LINE_BYTES], g: u32) -> usize
     ensures { λ _. ⌜ now (line .exit) ≡ sets (now (line .entry)) 0 (entryLine g) ⌝ }
 {
     let a = bench_text::put_named(line, 0, b"order=", g);
-    bench_bytes::put(line, a, b"\n")
-}
-
-// The line of a text that is no order file. Answers its length.
-pub fn order_refusal_line(line: &mut [u8; LINE_BYTES], n: u32) -> usize
-    ensures { λ r. ⌜ r ≡ length (orderRefusalLine n) ⌝ }
-    ensures { λ _. ⌜ now (line .exit) ≡ sets (now (line .entry)) 0 (orderRefusalLine n) ⌝ }
-{
-    let a = bench_text::put_named(line, 0, b"order-refused=", n);
     bench_bytes::put(line, a, b"\n")
 }
 

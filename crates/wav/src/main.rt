@@ -1,31 +1,38 @@
 // Program wav: the bench file on standard input as sound, a RIFF/WAVE file on standard output. A refusal leaves that empty and stands on standard error.
-// A read or a write that fails ends it with a line on standard error.
-use bench_streams::Input;
+// Without an argument each pass goes by number, with `-` by pitch, with another by the order file of that name.
+// A read or a write that fails, and a second argument, end it with a line on standard error.
 use libc::STDERR_FILENO;
-use libc::STDIN_FILENO;
 use libc::STDOUT_FILENO;
+use rung_order::By;
 
 // Writes the sound of a bench file, or its refusal; says whether all was written.
-fn sound(file: &[u8]) -> bool {
+fn sound(file: &[u8], by: By, order: &[u8]) -> bool {
     let mut out = [0u8; bench_wave::WAVE_ROOM];
-    let made = bench_wave::wave(file, &mut out);
-    if made.number != 0 {
-        return bench_streams::refuse(STDERR_FILENO, made.number);
-    }
+    let made = bench_wave::wave(file, by, order, &mut out);
     let length = made.length;
+    let error = made.error;
+    let line = made.line;
+    if !io::write_all(STDERR_FILENO, &line[0..error]) {
+        return false;
+    }
     io::write_all(STDOUT_FILENO, &out[0..length])
 }
 
-// One byte more than a file may have is read, so that a longer one is told apart.
 fn main() {
-    let mut file = [0u8; bench_lines::FILE_BYTES + 1];
-    let input = bench_streams::read_all(STDIN_FILENO, &mut file);
-    let Input::Bytes(n) = input else {
-        io::write_all(STDERR_FILENO, b"wav: cannot read\n");
+    let mut order = [0u8; bench_streams::FILE_ROOM];
+    let request = bench_streams::read_arguments(b"wav", &mut order);
+    if !request.good {
         return;
-    };
-    let written = sound(&file[..n]);
-    if !written {
-        io::write_all(STDERR_FILENO, b"wav: cannot write\n");
+    }
+    let by = request.by;
+    let length = request.length;
+    let mut file = [0u8; bench_streams::FILE_ROOM];
+    let read = bench_streams::read_bench(b"wav", &mut file);
+    if !read.good {
+        return;
+    }
+    let n = read.length;
+    if !sound(&file[..n], by, &order[..length]) {
+        bench_streams::complain(b"wav", b": cannot write\n");
     }
 }

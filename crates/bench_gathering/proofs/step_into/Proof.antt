@@ -1,6 +1,7 @@
 -- `bench_gathering::step_into` meets its contract: the step's line is the first part of its own buffer.
 -- Assumes nothing.
 use mathlib.Core.Path.{refl}
+use Rattle.bench_pass.specs.BenchPass.{orderingOf}
 use Rattle.bench_ringing.specs.Steps.{ringingAt}
 use Rattle.bench_gathering.proofs.Gatherings.{part-within, part-fits, part-put}
 use borrow.Author.Needs.{needs}
@@ -12,7 +13,7 @@ part-put-end c =
     let done = c .before .before .before .before .before .before in
     let known = done .before .before .before .before in
     let a = known .before .before .before .before .before .args in
-    part-within (a .text) (a .output) (ringingAt (a .at) (a .m .now) (a .memory .now) (a .commands .now)) _ refl (done .step .ensures .0) (done .step .ensures .1 .0)
+    part-within (a .text) (orderingOf (a .given) (a .order .now)) (a .output) (ringingAt (a .at) (a .m .now) (a .memory .now) (a .commands .now)) _ refl (done .step .ensures .0) (done .step .ensures .1 .0)
 
 put-requires : tie.Need-put-requires
 put-requires c κs =
@@ -21,7 +22,7 @@ put-requires c κs =
     let known = done .before .before .before .before in
     let start = known .before .before .before .before .before in
     let a = start .args in
-    part-fits (a .text) (a .output) (ringingAt (a .at) (a .m .now) (a .memory .now) (a .commands .now)) _ refl (done .step .ensures .0) (done .step .ensures .1 .0) (a .at .length) _ (start .pre .0)
+    part-fits (a .text) (orderingOf (a .given) (a .order .now)) (a .output) (ringingAt (a .at) (a .m .now) (a .memory .now) (a .commands .now)) _ refl (done .step .ensures .0) (done .step .ensures .1 .0) (a .at .length) _ (start .pre .0)
 
 returns : tie.Need-returns
 returns c =
@@ -30,7 +31,7 @@ returns c =
     let done = line .before .before .before .before .before .before in
     let known = done .before .before .before .before in
     let a = known .before .before .before .before .before .args in
-    part-put (a .text) (a .output) (ringingAt (a .at) (a .m .now) (a .memory .now) (a .commands .now)) _ refl (done .step .ensures .0) (done .step .ensures .1 .0) (a .at .length) _ (a .at .taken) (puts .put .ensures) (done .step .ensures .1 .1)
+    part-put (a .text) (orderingOf (a .given) (a .order .now)) (a .output) (ringingAt (a .at) (a .m .now) (a .memory .now) (a .commands .now)) _ refl (done .step .ensures .0) (done .step .ensures .1 .0) (a .at .length) _ (a .at .taken) (puts .put .ensures) (done .step .ensures .1 .1)
 
 pub step-into-spec : {M : Type 1} → statement M
 step-into-spec =

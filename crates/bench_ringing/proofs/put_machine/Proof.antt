@@ -1,7 +1,6 @@
 -- `bench_ringing::put_machine` meets its contract: the two words are those that a line and a frame ask for.
 -- Assumes nothing.
-use Rattle.bench_ringing.specs.Ringing.{lineAfter}
-use Rattle.bench_ringing.specs.Heard.{frameAfter}
+use Rattle.bench_ringing.specs.Heard.{lineAfter, frameAfter}
 use Rattle.bench_ringing.specs.Steps.{givenAfter}
 use borrow.Author.Needs.{needs}
 use Rattle.bench_ringing.proofs.put_machine.Statement.{statement}

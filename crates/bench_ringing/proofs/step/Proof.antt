@@ -3,6 +3,7 @@
 use native.Mathlib.Omega.{arith}
 use mathlib.Core.Path.{sym, _∙_}
 use lib.ListN.{drop}
+use Rattle.bench_pass.specs.BenchPass.{orderingOf}
 use Rattle.bench_ringing.specs.Steps.{ringingAt}
 use Rattle.bench_ringing.proofs.Turns.{taken-most, lined, step-refused, step-update-refused, step-goes}
 use Rattle.bench_ringing.proofs.Keeping.{refused-stays, last-passes}
@@ -16,15 +17,15 @@ returns c =
     let start = test .before .before .before .before .before in
     let a = start .args in
     let n = start .pre .1 .1 .0 in
-    let stays = refused-stays (a .text) (a .m .now) (a .memory .now) (λ e. test .if1 .taken (n ∙ e)) in
-    step-refused (a .text) (a .output) (ringingAt (a .at) (a .m .now) (a .memory .now) (a .commands .now)) (a .line .now) (a .at .taken) (start .pre .0) (start .pre .1 .1 .0) (stays .0) (stays .1) (test .if1 .taken) (c .put-refusal .ensures)
+    let stays = refused-stays (a .text) (orderingOf (a .given) (a .order .now)) (a .m .now) (a .memory .now) (λ e. test .if1 .taken (n ∙ e)) in
+    step-refused (a .text) (orderingOf (a .given) (a .order .now)) (a .output) (ringingAt (a .at) (a .m .now) (a .memory .now) (a .commands .now)) (a .line .now) (a .at .taken) (start .pre .0) (start .pre .1 .1 .0) (stays .0) (stays .1) (test .if1 .taken) (c .put-refusal .ensures)
 
 ring-update-requires : tie.Need-ring-update-requires
 ring-update-requires c κs =
     let ran = c .before .before .before .before .before .before in
     let passes = ran .before .before .before in
     let start = passes .before .before .before .before .before in
-    rw (ran .run .ensures .0) (last-passes _ (start .args .m .now) (start .args .memory .now) (sym (start .pre .1 .1 .0) ∙ passes .if1 .left))
+    rw (ran .run .ensures .0) (last-passes _ (orderingOf (start .args .given) (start .args .order .now)) (start .args .m .now) (start .args .memory .now) (sym (start .pre .1 .1 .0) ∙ passes .if1 .left))
 
 add-taken : tie.Need-add-taken
 add-taken c =
@@ -45,7 +46,7 @@ returns-2 c =
     let passes = ran .before .before .before in
     let start = passes .before .before .before .before .before in
     let a = start .args in
-    step-update-refused (a .text) (a .output) (ringingAt (a .at) (a .m .now) (a .memory .now) (a .commands .now)) (a .line .now) (a .at .taken) (start .pre .0) (start .pre .1 .1 .0) (ran .run .ensures .0) (ran .run .ensures .1) (passes .if1 .left) (updated .ring-update .ensures .1) (updated .ring-update .ensures .0) (test .if2 .taken) (c .put-refusal2 .ensures)
+    step-update-refused (a .text) (orderingOf (a .given) (a .order .now)) (a .output) (ringingAt (a .at) (a .m .now) (a .memory .now) (a .commands .now)) (a .line .now) (a .at .taken) (start .pre .0) (start .pre .1 .1 .0) (ran .run .ensures .0) (ran .run .ensures .1) (passes .if1 .left) (updated .ring-update .ensures .1) (updated .ring-update .ensures .0) (test .if2 .taken) (c .put-refusal2 .ensures)
 
 put-machine-requires : tie.Need-put-machine-requires
 put-machine-requires c κs =
@@ -56,7 +57,7 @@ put-machine-requires c κs =
     let passes = ran .before .before .before in
     let start = passes .before .before .before .before .before in
     let a = start .args in
-    lined (a .text) _ (drop (a .at .taken) (a .commands .now)) (rw (ran .run .ensures .0) (last-passes (a .text) (a .m .now) (a .memory .now) (sym (start .pre .1 .1 .0) ∙ passes .if1 .left))) (updated .ring-update .ensures .1)
+    lined (a .text) _ (drop (a .at .taken) (a .commands .now)) (rw (ran .run .ensures .0) (last-passes (a .text) (orderingOf (a .given) (a .order .now)) (a .m .now) (a .memory .now) (sym (start .pre .1 .1 .0) ∙ passes .if1 .left))) (updated .ring-update .ensures .1)
 
 returns-3 : tie.Need-returns-3
 returns-3 c =
@@ -68,7 +69,7 @@ returns-3 c =
     let passes = ran .before .before .before in
     let start = passes .before .before .before .before .before in
     let a = start .args in
-    step-goes (a .text) (a .output) (ringingAt (a .at) (a .m .now) (a .memory .now) (a .commands .now)) (a .line .now) (a .at .taken) (start .pre .0) (start .pre .1 .1 .0) (ran .run .ensures .0) (ran .run .ensures .1) (passes .if1 .left) (updated .ring-update .ensures .1) (updated .ring-update .ensures .0) (test .if2 .left) (line .put-machine .ensures)
+    step-goes (a .text) (orderingOf (a .given) (a .order .now)) (a .output) (ringingAt (a .at) (a .m .now) (a .memory .now) (a .commands .now)) (a .line .now) (a .at .taken) (start .pre .0) (start .pre .1 .1 .0) (ran .run .ensures .0) (ran .run .ensures .1) (passes .if1 .left) (updated .ring-update .ensures .1) (updated .ring-update .ensures .0) (test .if2 .left) (line .put-machine .ensures)
 
 pub step-spec : {M : Type 1} → statement M
 step-spec =

@@ -1,5 +1,6 @@
 -- `bench_wave::gather_frames` meets its contract: what is gathered in the part behind the header is in the buffer behind it.
 -- Assumes nothing.
+use Rattle.bench_pass.specs.BenchPass.{orderingOf}
 use Rattle.bench_ringing.specs.Steps.{ringingAt}
 use Rattle.bench_wave.proofs.Sounding.{behind-header}
 use borrow.Author.Needs.{needs}
@@ -10,9 +11,9 @@ returns : tie.Need-returns
 returns c =
     let called = c .before .before .before .before .before .before in
     let known = called .before .before .before .before in
-    let start = known .before .before .before .before in
+    let start = known .before .before .before .before .before in
     let a = start .args in
-    behind-header (a .text) (a .out .now) (ringingAt (a .at) (a .m .now) (a .memory .now) (a .commands .now)) (start .pre) (called .gather .ensures .0) (called .gather .ensures .1 .0) (called .gather .ensures .1 .1 .0)
+    behind-header (a .text) (orderingOf (a .given) (a .order .now)) (a .out .now) (ringingAt (a .at) (a .m .now) (a .memory .now) (a .commands .now)) (start .pre) (called .gather .ensures .0) (called .gather .ensures .1 .0) (called .gather .ensures .1 .1 .0)
 
 pub gather-frames-spec : {M : Type 1} → statement M
 gather-frames-spec =

@@ -2,6 +2,7 @@
 -- Assumes nothing.
 use mathlib.Core.Path.{_≡_, refl, _∙_}
 use lib.ListN.{length}
+use Rattle.bench_pass.specs.BenchPass.{orderingOf}
 use Rattle.bench_ringing.specs.Steps.{ringingAt}
 use Rattle.ring.proofs.Parts.{part-falls}
 use borrow.Author.Needs.{needs}
@@ -9,10 +10,10 @@ use Rattle.ring.proofs.ring_all.Statement.{statement}
 use Rattle.ring.proofs.ring_all.Tie as tie
 
 abbrev Inv-loop : tie.InvT-loop
-Inv-loop text m₀ commands memory₀ passes at₀ m memory at = (length m ≡ length m₀) × (length memory ≡ length memory₀)
+Inv-loop text m₀ commands memory₀ given order at₀ m memory at = (length m ≡ length m₀) × (length memory ≡ length memory₀)
 
 abbrev μ-loop : tie.MeasureT-loop
-μ-loop text m₀ commands memory₀ passes at₀ m memory at = at .passes
+μ-loop text m₀ commands memory₀ given order at₀ m memory at = at .passes
 
 loop-holds : tie.Need-loop-holds Inv-loop μ-loop
 loop-holds c = (refl, refl)
@@ -33,7 +34,8 @@ loop-less c =
     let part = next .before .before .before .before .before .before in
     let test = part .before .before .before in
     let turn = test .before .before in
-    part-falls (turn .before .before .before .before .args .text) (ringingAt (turn .loop .at) (turn .loop .m) (turn .loop .memory) (turn .before .before .before .before .args .commands .now)) (test .if1 .taken) (part .ring-part .ensures)
+    let a = turn .before .before .before .before .before .args in
+    part-falls (a .text) (orderingOf (a .given) (a .order .now)) (ringingAt (turn .loop .at) (turn .loop .m) (turn .loop .memory) (a .commands .now)) (test .if1 .taken) (part .ring-part .ensures)
 
 loop-again : tie.Need-loop-again Inv-loop μ-loop
 loop-again c =

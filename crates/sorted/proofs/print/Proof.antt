@@ -10,7 +10,7 @@ part-write-all-end : tie.Need-part-write-all-end
 part-write-all-end c =
     let found = c .before in
     let a = found .before .before .before .before .args in
-    findings-within (a .file .now) (a .given) (a .order .now) _ refl (found .findings .ensures)
+    findings-within (a .file .now) (a .by) (a .order .now) _ refl (found .findings .ensures)
 
 pub print-spec : {M : Type 1} → statement M
 print-spec =

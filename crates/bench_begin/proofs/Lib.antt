@@ -1,0 +1,4 @@
+pub mod Clearing
+pub mod AnyOrdering
+pub mod Begun
+pub mod Lengths

@@ -1,0 +1,1 @@
+// What is claimed of a bench file that is rung by an order: laws only.
