@@ -1,0 +1,1 @@
+// A ringing in blocks: definitions and laws only.
