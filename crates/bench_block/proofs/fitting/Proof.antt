@@ -1,28 +1,19 @@
+-- `bench_block::fitting` meets its contract: no room is asked for, there is room for all, or for so many.
+-- Assumes nothing.
+use native.Mathlib.Omega.{arith}
+use Rattle.bench_block.proofs.Frames.{fit-without, fit-all, fit-some}
 use borrow.Author.Needs.{needs}
 use Rattle.bench_block.proofs.fitting.Statement.{statement}
 use Rattle.bench_block.proofs.fitting.Tie as tie
-use Rattle.bench_block.proofs.fitting.Reads as reads
-use Rattle.bench_block.proofs.fitting.Lts as lts
 
--- src/lib.rt:34:9
 returns : tie.Need-returns
-returns c = ?
+returns c = fit-without _ _ _ (c .if1 .taken)
 
--- src/lib.rt:36:18
-div-frames : tie.Need-div-frames
-div-frames c = search needs
-
--- src/lib.rt:38:9
 returns-2 : tie.Need-returns-2
-returns-2 c = ?
+returns-2 c = let a = c .before .before .args in fit-all (a .width) (a .room) (a .passes) (c .before .if1 .left) (c .if2 .taken)
 
--- src/lib.rt:40:5
-cast-result : tie.Need-cast-result
-cast-result c = search needs
-
--- src/lib.rt:30:1
 returns-3 : tie.Need-returns-3
-returns-3 c = ?
+returns-3 c = let a = c .before .before .args in fit-some (a .width) (a .room) (a .passes) (c .before .if1 .left) (c .if2 .left)
 
 pub fitting-spec : {M : Type 1} → statement M
-fitting-spec = tie.close (tie.spec returns div-frames returns-2 cast-result returns-3)
+fitting-spec = tie.close (tie.spec returns (λ c. search needs) returns-2 (λ c. search needs) returns-3)

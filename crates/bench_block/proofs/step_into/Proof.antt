@@ -1,62 +1,39 @@
+-- `bench_block::step_into` meets its contract: a step, and its frame where it is not refused.
+-- Assumes nothing.
+use Rattle.bench_pass.specs.BenchPass.{orderingOf}
+use Rattle.bench_block.specs.Stages.{ringingAt}
+use Rattle.bench_block.proofs.Going.{turn-sounds, stage-refused, stage-goes}
 use borrow.Author.Needs.{needs}
 use Rattle.bench_block.proofs.step_into.Statement.{statement}
 use Rattle.bench_block.proofs.step_into.Tie as tie
-use Rattle.bench_block.proofs.step_into.Reads as reads
-use Rattle.bench_block.proofs.step_into.Lts as lts
-use Rattle.bench_block.proofs.put_frame.Reads as put-frame-reads
-use Rattle.bench_ringing.proofs.step.Reads as step-reads
 
--- src/lib.rt:102:9
-step-requires : tie.Need-step-requires
-step-requires c κs = search needs
-
--- src/lib.rt:120:9
-same-length : tie.Need-same-length
-same-length c = search needs
-
--- src/lib.rt:120:9
-same-length-2 : tie.Need-same-length-2
-same-length-2 c = search needs
-
--- src/lib.rt:120:9
 returns : tie.Need-returns
-returns c = ?
+returns c =
+    let stepped = c .before .before .before .before .before in
+    let a = stepped .before .before .before .before .before .before .before .before .before .before .args in
+    let stays = stage-refused (a .at .done) (a .at .place) _ (a .dacs .now) (a .frames .now) _ (c .if1 .taken) in
+    (stepped .step .ensures .1 .1 .0, (stepped .step .ensures .1 .1 .1, (stays .0, stays .1)))
 
--- src/lib.rt:128:9
 put-frame-requires : tie.Need-put-frame-requires
-put-frame-requires c κs = ?
+put-frame-requires c κs =
+    let test = c .before .before in
+    let stepped = test .before .before .before .before .before in
+    let start = stepped .before .before .before .before .before .before .before .before .before .before in
+    let a = start .args in
+    (start .pre .1 .0,
+    turn-sounds (a .text) (orderingOf (a .given) (a .order .now)) (ringingAt (a .at) (a .m .now) (a .memory .now) (a .commands .now)) (start .pre .0 .0) (stepped .step .ensures .1 .1 .0) (test .if1 .left))
 
--- src/lib.rt:131:15
-add-t33 : tie.Need-add-t33
-add-t33 c = search needs
-
--- src/lib.rt:69:1
-same-length-3 : tie.Need-same-length-3
-same-length-3 c = search needs
-
--- src/lib.rt:69:1
-same-length-4 : tie.Need-same-length-4
-same-length-4 c = search needs
-
--- src/lib.rt:69:1
-same-length-5 : tie.Need-same-length-5
-same-length-5 c = search needs
-
--- src/lib.rt:69:1
 returns-2 : tie.Need-returns-2
-returns-2 c = ?
+returns-2 c =
+    let puts = c .before .before in
+    let test = puts .before .before .before in
+    let stepped = test .before .before .before .before .before in
+    let a = stepped .before .before .before .before .before .before .before .before .before .before .args in
+    let goes = stage-goes (a .at .done) (a .at .place) _ (a .dacs .now) (a .frames .now) _ (test .if1 .left) (puts .put-frame .ensures) in
+    (stepped .step .ensures .1 .1 .0, (stepped .step .ensures .1 .1 .1, (goes .0, goes .1)))
 
 pub step-into-spec : {M : Type 1} → statement M
 step-into-spec =
     tie.close
-    (tie.spec
-    step-requires
-    same-length
-    same-length-2
-    returns
-    put-frame-requires
-    add-t33
-    same-length-3
-    same-length-4
-    same-length-5
-    returns-2)
+    (tie.spec (λ c κs. search needs) (λ c. search needs) (λ c. search needs) returns put-frame-requires
+    (λ c. search needs) (λ c. search needs) (λ c. search needs) (λ c. search needs) returns-2)
