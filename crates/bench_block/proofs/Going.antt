@@ -2,7 +2,7 @@
 -- Assumes nothing.
 use mathlib.Core.Path.{_≡_, refl, sym, ap, _∙_}
 use mathlib.Core.Logic.{_≢_}
-use mathlib.Core.Bool.{Bool, true, false, cond, not}
+use mathlib.Core.Bool.{Bool, true, false, cond, not, true≢false}
 use mathlib.Core.List.{List, [], _∷_, _++_, append-assoc, append-nil}
 use Prim.Native.Nat.{ℕ, suc, _+_, _*_, _-_, _≤_, _<_}
 use native.Mathlib.Nat.{zero-add, suc-mul}
@@ -26,7 +26,7 @@ use Rattle.bench_ringing.specs.Steps.{Ringing, Step, stepOf, commandsTaken}
 use Rattle.bench_ringing.specs.declared.Output.the-variants.{Frames}
 use Rattle.bench_ringing.proofs.Keeping.{then-passes}
 use Rattle.bench_ringing.proofs.Turns.{by-pass, by-update, by-both}
-use Rattle.bench_block.specs.Block.{Rung, ended, rungAfter, rung, orderingFor, dacsOf, framesOf, Block, blockFrom}
+use Rattle.bench_block.specs.Block.{Rung, ended, rungAfter, rung, orderingFor, dacsOf, framesOf, fitting, Call, Block, blockFrom, blockOf}
 use Rattle.bench_block.specs.Stages.{Sounding, ringingAt, doneBy, frameBy}
 use Rattle.bench_block.specs.declared.Stage.{Stage}
 use Rattle.bench_block.proofs.Frames.{dacs-length, frames-more}
@@ -294,3 +294,14 @@ module _ (text : Text) (by : Ordering) {dacs : List ℕ} {n : ℕ} {m₀ : Machi
 pub given-for : (order : Order) → orderingFor order ≡ orderingOf (not (eqb (length order) 0)) order
 given-for [] = refl
 given-for (g ∷ gs) = rw (ne-eqb (suc (length gs)) 0 (omega arith))
+
+-- Where none is given it is by number, whichever run stands in its place.
+pub none-given : (given : Bool) (numbers order : Order) → given ≡ false → orderingOf given numbers ≡ orderingOf given order
+none-given true numbers order e = absurd (true≢false e)
+none-given false numbers order e = refl
+
+-- A block with the call's ordering and as many passes as fit is the call's.
+pub as-called : (text : Text) (m : Machine) (call : Call) {by : Ordering} {n : ℕ} → by ≡ orderingFor (call .order) → n ≡ fitting (length (call .dacs)) (length (call .frames)) (call .passes)
+    → {b : Block} → b ≡ blockFrom (call .commands) (call .dacs) (call .frames) (rung text by n m (call .memory) (call .commands)) → b ≡ blockOf text m call
+unfolding blockOf
+as-called text m call eb en e = e ∙ rw (eb, en)

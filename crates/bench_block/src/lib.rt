@@ -210,12 +210,32 @@ pub fn ring(
     let given = order.len() != 0;
     if given {
         return ring_by(
-            text, m, memory, commands, given, order, fits, dacs, frames, &sine, &decay,
+            text,
+            m,
+            memory,
+            commands,
+            given,
+            order,
+            fits,
+            dacs,
+            frames,
+            &sine,
+            &decay,
         );
     }
     let mut numbers = [0u32; layout::GENERATORS];
     bench_pass::by_number(&mut numbers);
     ring_by(
-        text, m, memory, commands, given, &numbers, fits, dacs, frames, &sine, &decay,
+        text,
+        m,
+        memory,
+        commands,
+        given,
+        &numbers,
+        fits,
+        dacs,
+        frames,
+        &sine,
+        &decay,
     )
 }

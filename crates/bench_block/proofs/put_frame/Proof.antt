@@ -36,10 +36,12 @@ loop-again c =
     let a = test .before .before .before .before .before .args in
     let ds = a .dacs .now in
     let frame = dacsOf ds (a .m .now) in
-    let inside : l .i < length frame = omega (arith, test .loop-test .taken, dacs-length ds (a .m .now)) in
-    (omega arith, length-set (l .frames) _ _ ∙ l .inv .1,
-    ap (λ (v : ℕ). sets (set (l .frames) (a .at + l .i) v) (a .at + (l .i + 1)) (drop (l .i + 1) frame)) (c .extend20 .ensures ∙ sym (dac-at ds (a .m .now) (l .i) (test .loop-test .taken)))
-    ∙ sym (sets-next (l .frames) (a .at) frame (l .i) inside) ∙ l .inv .2)
+    let inside : l .i < length frame = omega (arith, test .loop-test .taken, dacs-length ds (a .m .now)) in (
+      omega arith,
+      length-set (l .frames) _ _ ∙ l .inv .1,
+      ap (λ (v : ℕ). sets (set (l .frames) (a .at + l .i) v) (a .at + (l .i + 1)) (drop (l .i + 1) frame)) (c .extend20 .ensures ∙ sym (dac-at ds (a .m .now) (l .i) (test .loop-test .taken)))
+          ∙ sym (sets-next (l .frames) (a .at) frame (l .i) inside) ∙ l .inv .2,
+    )
 
 returns : tie.Need-returns Inv-loop μ-loop
 returns c =

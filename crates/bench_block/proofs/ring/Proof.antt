@@ -1,90 +1,56 @@
+-- `bench_block::ring` meets its contract: as many passes as fit, by the order that is given, or by that by number, which is filled.
+-- Assumes nothing.
+use mathlib.Core.Path.{sym, _∙_, ap}
+use mathlib.Core.Bool.{true≢false}
+use lib.ListN.{length}
+use Rattle.order_lists.proofs.ByNumber.{by-number-length}
+use Rattle.bench_block.proofs.Frames.{fit-room}
+use Rattle.bench_block.proofs.Going.{given-for, none-given, as-called}
 use borrow.Author.Needs.{needs}
 use Rattle.bench_block.proofs.ring.Statement.{statement}
 use Rattle.bench_block.proofs.ring.Tie as tie
-use Rattle.bench_block.proofs.ring.Reads as reads
-use Rattle.bench_block.proofs.ring.Lts as lts
-use Rattle.bench_block.proofs.fitting.Reads as fitting-reads
-use Rattle.bench_block.proofs.ring_by.Reads as ring-by-reads
-use Rattle.bench_pass.proofs.by_number.Reads as by-number-reads
-use Rattle.exponential.proofs.table.Reads as table-reads
-use Rattle.sine.proofs.table.Reads as table-reads′
 
--- src/lib.rt:207:9
-fitting-requires : tie.Need-fitting-requires
-fitting-requires c κs = search needs
-
--- src/lib.rt:208:16
-table-requires : tie.Need-table-requires
-table-requires c κs = search needs
-
--- src/lib.rt:209:17
-table-requires-2 : tie.Need-table-requires-2
-table-requires-2 c κs = search needs
-
--- src/lib.rt:212:9
 ring-by-requires : tie.Need-ring-by-requires
-ring-by-requires c κs = ?
+ring-by-requires c κs =
+    let test = c .before .before .before .before .before in
+    let decay = test .before in
+    let sine = decay .before in
+    let fits = sine .before in
+    let a = fits .before .before .before .before .before .before .before .args in
+    (rw (fits .fitting .ensures) (fit-room (length (a .dacs .now)) (length (a .frames .now)) (a .passes)), (λ e. absurd (true≢false (sym (test .if1 .taken) ∙ e)), (sine .table .ensures, decay .table2 .ensures)))
 
--- src/lib.rt:212:9
-same-length : tie.Need-same-length
-same-length c = search needs
-
--- src/lib.rt:212:9
-same-length-2 : tie.Need-same-length-2
-same-length-2 c = search needs
-
--- src/lib.rt:212:9
-same-length-3 : tie.Need-same-length-3
-same-length-3 c = search needs
-
--- src/lib.rt:212:9
 returns : tie.Need-returns
-returns c = ?
+returns c =
+    let rung = c .before .before .before .before .before .before in
+    let fits = rung .before .before .before .before .before .before .before .before .before in
+    let a = fits .before .before .before .before .before .before .before .args in
+    as-called (a .text) (a .m .now) _ (sym (given-for (a .order .now))) (fits .fitting .ensures) (rung .ring-by .ensures)
 
--- src/lib.rt:217:5
-by-number-requires : tie.Need-by-number-requires
-by-number-requires c κs = search needs
-
--- src/lib.rt:219:43
 slice-aggregate-ring-by : tie.Need-slice-aggregate-ring-by
-slice-aggregate-ring-by c = ?
+slice-aggregate-ring-by c =
+    let filled = c .before .before .before in
+    sym (by-number-length 256) ∙ ap length (sym (filled .by-number .ensures))
 
--- src/lib.rt:218:5
 ring-by-requires-2 : tie.Need-ring-by-requires-2
-ring-by-requires-2 c κs = ?
+ring-by-requires-2 c κs =
+    let filled = c .before .before .before .before .before .before in
+    let decay = filled .before .before .before in
+    let sine = decay .before in
+    let fits = sine .before in
+    let a = fits .before .before .before .before .before .before .before .args in
+    (rw (fits .fitting .ensures) (fit-room (length (a .dacs .now)) (length (a .frames .now)) (a .passes)), (λ e. filled .by-number .ensures, (sine .table .ensures, decay .table2 .ensures)))
 
--- src/lib.rt:195:1
-same-length-4 : tie.Need-same-length-4
-same-length-4 c = search needs
-
--- src/lib.rt:195:1
-same-length-5 : tie.Need-same-length-5
-same-length-5 c = search needs
-
--- src/lib.rt:195:1
-same-length-6 : tie.Need-same-length-6
-same-length-6 c = search needs
-
--- src/lib.rt:195:1
 returns-2 : tie.Need-returns-2
-returns-2 c = ?
+returns-2 c =
+    let rung = c .before .before .before .before .before .before in
+    let test = rung .before .before .before .before .before .before .before .before .before in
+    let fits = test .before .before .before in
+    let a = fits .before .before .before .before .before .before .before .args in
+    as-called (a .text) (a .m .now) _ (none-given _ _ (a .order .now) (test .if1 .left) ∙ sym (given-for (a .order .now))) (fits .fitting .ensures) (rung .ring-by2 .ensures)
 
 pub ring-spec : {M : Type 1} → statement M
 ring-spec =
     tie.close
-    (tie.spec
-    fitting-requires
-    table-requires
-    table-requires-2
-    ring-by-requires
-    same-length
-    same-length-2
-    same-length-3
-    returns
-    by-number-requires
-    slice-aggregate-ring-by
-    ring-by-requires-2
-    same-length-4
-    same-length-5
-    same-length-6
-    returns-2)
+    (tie.spec (λ c κs. search needs) (λ c κs. search needs) (λ c κs. search needs) ring-by-requires (λ c. search needs)
+    (λ c. search needs) (λ c. search needs) returns (λ c κs. search needs) slice-aggregate-ring-by ring-by-requires-2
+    (λ c. search needs) (λ c. search needs) (λ c. search needs) returns-2)

@@ -62,8 +62,10 @@ loop-again c =
       stepped .step-into .kept .1 .1 .0 ∙ turn .loop .inv .0,
       (
         stepped .step-into .kept .1 .1 .1 .0 ∙ turn .loop .inv .1 .0,
-        (c .next-number .ensures,
-        going-goes _ _ (turn .loop .inv .1 .1 .1) (test .if1 .taken) (promised .0) (promised .1 .0) (promised .1 .1 .0 .0) (promised .1 .1 .0 .1) (promised .1 .1 .1)),
+        (
+          c .next-number .ensures,
+          going-goes _ _ (turn .loop .inv .1 .1 .1) (test .if1 .taken) (promised .0) (promised .1 .0) (promised .1 .1 .0 .0) (promised .1 .1 .0 .1) (promised .1 .1 .1),
+        ),
       ),
     )
 

@@ -19,9 +19,10 @@ put-frame-requires c κs =
     let test = c .before .before in
     let stepped = test .before .before .before .before .before in
     let start = stepped .before .before .before .before .before .before .before .before .before .before in
-    let a = start .args in
-    (start .pre .1 .0,
-    turn-sounds (a .text) (orderingOf (a .given) (a .order .now)) (ringingAt (a .at) (a .m .now) (a .memory .now) (a .commands .now)) (start .pre .0 .0) (stepped .step .ensures .1 .1 .0) (test .if1 .left))
+    let a = start .args in (
+      start .pre .1 .0,
+      turn-sounds (a .text) (orderingOf (a .given) (a .order .now)) (ringingAt (a .at) (a .m .now) (a .memory .now) (a .commands .now)) (start .pre .0 .0) (stepped .step .ensures .1 .1 .0) (test .if1 .left),
+    )
 
 returns-2 : tie.Need-returns-2
 returns-2 c =
