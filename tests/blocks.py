@@ -27,7 +27,8 @@ from reference.block import ring_block
 from reference.faults import switched_on
 from reference.machine import zero_memory
 from reference.ring import bench_file, first_machine
-from ring_files import LINGER_3, LINGER_4, NOT_BUILT, TICKS_257, TO_READ, TO_WRITE, drawn_bench
+from reference.words import low
+from ring_files import NOT_BUILT, TICKS_257, TO_READ, TO_WRITE, drawn_bench
 from texts import OLD_TEXT, Chance
 
 COUNT, SEED, SANITIZED = 300, 35, 40
@@ -36,18 +37,20 @@ UNWRITTEN = 0x5A5A5A5A
 WARNINGS = ("-Wall", "-Wextra", "-Wpedantic", "-Wconversion", "-Werror")
 SANITIZERS = ("-fsanitize=address,undefined", "-fno-sanitize-recover=all")
 MADE, SMALL = 2654435761, 1 << 20
+# Commands: a Linger without its pass; some that stop a ringing, there or in the next pass; GQ and GP of generators 0 and 1 set to 0.
+LINGER, STOPS, HARMLESS = 0x110, (NOT_BUILT, TICKS_257, TO_READ, TO_WRITE), (0x200, 0x201, 0x600, 0x601)
 
 # How often each kind is met at least, in COUNT ringings; and with --text old.
 PROMISED = {
-    "ringings": 300, "calls": 900, "passes": 2500, "whole": 100, "an order": 60, "by number": 150, "all DACs": 30, "no DACs": 15,
-    "a run too short": 60, "no room": 20, "commands taken": 100, "a Linger waits": 30, "refused after passes of its call": 25,
-    "joined with more than one block": 120, "delay memory changed": 20, "a command left out": 5,
-    **{f"refused by {number}": 3 for number in (1, 2, 3, 5, 6, 7, 10)},
+    "ringings": 300, "calls": 800, "passes": 1200, "whole": 100, "an order": 90, "by number": 140, "two DACs": 90, "all DACs": 30, "no DACs": 20,
+    "a run too short": 50, "no room": 40, "commands taken": 80, "a Linger waits": 60, "refused after passes of its call": 20,
+    "joined with more than one block": 60, "delay memory changed": 20, "a command left out": 8,
+    **{f"refused by {number}": 8 for number in (1, 2, 3, 4, 5, 6, 7, 8, 10, 11, 12)},
 }
 PROMISED_OLD = {
-    "ringings": 300, "calls": 900, "passes": 2500, "whole": 100, "an order": 60, "by number": 150, "all DACs": 30, "no DACs": 15,
-    "a run too short": 60, "no room": 20, "joined with more than one block": 120,
-    **{f"refused by {number}": 3 for number in (1, 2, 5, 6, 10)},
+    "ringings": 300, "calls": 800, "passes": 1600, "whole": 130, "an order": 90, "by number": 140, "two DACs": 90, "all DACs": 30, "no DACs": 20,
+    "a run too short": 50, "no room": 40, "joined with more than one block": 90,
+    **{f"refused by {number}": 8 for number in (1, 2, 5, 6, 7, 8, 10)},
 }
 
 
@@ -124,10 +127,10 @@ def order_for(chance, machine):
 
 def calls_for(chance, width):
     """Calls at random: so many passes each, most with room for their frames."""
-    left, made = chance.choice((1, 3, 5, 8, 13, 21)), []
+    left, made = chance.choice((3, 5, 8, 13, 21, 21)), []
     while left > 0:
-        passes = min(left, chance.choice((1, 1, 2, 3, 4, 8, 21)))
-        kind = chance.randrange(10)
+        passes = min(left, chance.choice((1, 2, 3, 4, 8, 21)))
+        kind = chance.randrange(14)
         room = chance.randrange(passes * width + 1) if kind == 0 else max(width - 1, 0) if kind == 1 else passes * width + chance.randrange(3)
         made.append((passes, room))
         left -= passes
@@ -136,17 +139,22 @@ def calls_for(chance, width):
     return made
 
 
-def with_stops(chance, commands):
-    """Commands with some that wait, stop a ringing or turn a generator to data among them."""
-    commands = list(commands)
-    for command in chance.sample((LINGER_3, LINGER_4, NOT_BUILT, TICKS_257, TO_READ, TO_WRITE), chance.randrange(3)):
-        commands.insert(chance.randrange(len(commands) + 1), command)
+def linger_after(machine, passes):
+    """A Linger that waits for so many passes."""
+    return low(machine[layout.COUNTER] + passes, 20) << 12 | LINGER
+
+
+def with_stops(chance, commands, machine):
+    """Commands, of which a few at least wait for a later pass, and then some that stop a ringing or turn a generator to data."""
+    commands = list(commands)[:chance.randrange(4)]
+    for passes in sorted(chance.sample(range(1, 15), chance.randrange(1, 4))):
+        commands += [linger_after(machine, passes), *chance.sample(STOPS, chance.randrange(2)), chance.choice(HARMLESS)]
     return commands
 
 
 def memory_for(chance):
     """A delay memory, mostly of zeros or of words of 20 bits; some of another length or with a wider word."""
-    kind = chance.randrange(25)
+    kind = chance.randrange(60)
     length = layout.MEMORY_WORDS - 1 if kind == 0 else 0 if kind == 1 else layout.MEMORY_WORDS
     others = [(chance.randrange(length), SMALL + chance.randrange(9))] if kind == 2 else []
     return length, chance.choice((0, 0, chance.randrange(1, 1 << 20))), others
@@ -158,7 +166,8 @@ def drawn(chance, number, text):
     machine = first_machine(read.words)
     if number % 29 == 7:
         machine = machine[:chance.choice((0, 1, layout.MACHINE_WORDS - 1))]
-    commands = with_stops(chance, read.commands) if chance.randrange(2) else list(read.commands)
+    waits = text is not OLD_TEXT and len(machine) == layout.MACHINE_WORDS and number % 3
+    commands = with_stops(chance, read.commands, machine) if waits else list(read.commands)
     dacs = dacs_for(chance)
     return Request(machine, commands, order_for(chance, machine), dacs, memory_for(chance), calls_for(chance, len(dacs)),
                    chance.randrange(2), f"ringing {number}")
