@@ -193,9 +193,9 @@
  *                if the unit has its turn in each of these passes and nothing else changes its words. The word is looked
  *                up at the modifier's turn: what lines of lower modifiers put there in the same pass is seen
  *
- * Machines of the older text: karvelorn_old_pass, karvelorn_old_compare and karvelorn_old_parts. They are the same runs
- * of words, and karvelorn_fresh makes them too: a fresh machine is good by both texts. No word tells which text a machine
- * follows; the call does. karvelorn_update, karvelorn_any_order, karvelorn_keep, karvelorn_change and karvelorn_join are
+ * Machines of the older text: karvelorn_old_pass, karvelorn_old_ring, karvelorn_old_compare and karvelorn_old_parts. They
+ * are the same runs of words, and karvelorn_fresh makes them too: a fresh machine is good by both texts. No word tells
+ * which text a machine follows; the call does. karvelorn_update, karvelorn_any_order, karvelorn_keep, karvelorn_change and karvelorn_join are
  * for machines of 1978 alone. What differs:
  *   Question 2  GMODE has 8 bits, with modes as below, and MMODE a function as below. All other words are asked as above
  *   GMODE       run mode (3 bits), each switched as a run mode of 1978: 000 inactive, 001 pause, 010 running (1111), 011
@@ -707,8 +707,8 @@ uint32_t karvelorn_update(uint32_t *machine, size_t words, const uint32_t *comma
 /* A block: up to so many passes, each followed by an update with the commands still left, and what DACs play after each
  * pass and its update, as audio programs want it. It is what karvelorn_pass, with no items and no places, and
  * karvelorn_update do by turns, in far less time: the questions of a pass are asked once a call, and again only after an
- * update that took commands. With 65536 words of delay memory to ask, one pass a call costs about what karvelorn_pass
- * costs; from some 16 passes a call on the questions hardly count.
+ * update that took commands. Asking, of 65536 words of delay memory too, takes about as long as two passes at T 256: in
+ * blocks of 64 it hardly counts, and one pass a call costs about what karvelorn_pass costs.
  *
  *   machine, words          the machine, and its length: KARVELORN_WORDS; it is changed in place
  *   memory, memory_words    delay memory, as karvelorn_pass has it; it is changed in place
@@ -728,7 +728,8 @@ uint32_t karvelorn_update(uint32_t *machine, size_t words, const uint32_t *comma
  * It stops when all passes are done, when there is no room for another whole frame, or at a refusal. Answers 0 in the
  * first two cases (done is less than passes where room ended it; with no passes or no room nothing is asked), else the
  * number that the refused pass or update answers:
- *   1, 2, 5 to 8, 10 to 12  the pass after the last done was refused; machine and delay memory are as before it
+ *   1, 2, 5 to 8,  the pass after the last done was refused. Machine and delay memory are as the update before it left
+ *   10 to 12       them
  *   3, 4           the pass after the last done was made and its update refused commands[taken]. Machine and delay
  *                  memory are as karvelorn_update leaves them: the pass and the commands before that one stay done. This
  *                  pass is not counted and has no frame, though its DAC words stand in the machine. To go on, the host

@@ -14,13 +14,12 @@ use Rattle.lists.proofs.Choices.{of-cond}
 use Rattle.layout.specs.Machine.{Machine, Memory, Commands}
 use Rattle.texts.specs.declared.Text.{Text}
 use Rattle.texts.specs.declared.Text.the-variants.{Of1978, Old}
-use Rattle.pass_model.specs.Pass.{Outcome as Pass}
 use Rattle.update.specs.Update.{Outcome}
 use Rattle.update.proofs.Updating.{left-within, tail-of}
 use Rattle.bench_pass.specs.BenchPass.{Ordering, passed}
-use Rattle.bench_ringing.specs.Heard.{Heard, updateAfter, heard}
+use Rattle.bench_ringing.specs.Heard.{Heard, updateAfter}
 use Rattle.bench_ringing.proofs.HeardPasses.{heard-all}
-use Rattle.bench_block.specs.Block.{Rung, ended, rungAfter, rung, thenRung, rungOn, orderingFor, framesOf, fitting, Call, Block, blockFrom, blockOf}
+use Rattle.bench_block.specs.Block.{Rung, rungAfter, rung, thenRung, rungOn, orderingFor, framesOf, fitting, Call, Block, blockFrom, blockOf}
 use Rattle.bench_block.proofs.Blocks.{rung-heard, blocks-join}
 use Rattle.block_joins.specs.InBlocks.{passesOf, inBlocks, callAfter, callOfBoth, blocksJoined}
 use Rattle.block_joins.proofs.Runs.{frames-append, frames-length, sets-first, sets-both, fit-enough, fit-more}

@@ -1,6 +1,5 @@
 -- `bench_block::fitting` meets its contract: no room is asked for, there is room for all, or for so many.
 -- Assumes nothing.
-use native.Mathlib.Omega.{arith}
 use Rattle.bench_block.proofs.Frames.{fit-without, fit-all, fit-some}
 use borrow.Author.Needs.{needs}
 use Rattle.bench_block.proofs.fitting.Statement.{statement}

@@ -1,10 +1,10 @@
 -- `bench_block::put_frame` meets its contract: the samples that are left, put at their places, make the whole frame put.
 -- Assumes nothing.
 use mathlib.Core.Path.{_≡_, refl, ap, sym, _∙_}
-use Prim.Native.Nat.{ℕ, _+_, _-_, _%_, _≤_, _<_}
+use Prim.Native.Nat.{ℕ, _+_, _-_, _≤_, _<_}
 use native.Mathlib.Omega.{arith}
 use native.Mathlib.Nat.{add-zero}
-use lib.ListN.{length, getD, set, drop, drop-of-length-le, length-set}
+use lib.ListN.{length, set, drop, drop-of-length-le, length-set}
 use lib.Seq.{sets}
 use Rattle.bench_bytes.proofs.Puts.{sets-next}
 use Rattle.bench_block.specs.Block.{dacsOf}
