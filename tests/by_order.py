@@ -208,7 +208,7 @@ def outside():
         for program, name in ((RING, b"ring"), (WAV, b"wav")):
             for path in (os.path.join(folder, "missing"), folder):
                 got = run(program, text, path)
-                wrong += got.printed != b"" or got.told != name + b": cannot read\n"
+                wrong += got.printed != b"" or got.told != name + b": cannot read the order file\n"
             with open("/dev/full", "wb") as full:
                 done = subprocess.run([program, BY_PITCH], input=text, stdout=full, stderr=subprocess.PIPE)
             wrong += done.stderr != name + b": cannot write\n"

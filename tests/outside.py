@@ -26,6 +26,7 @@ from typing import NamedTuple
 
 from library import ROOT
 from ring_files import EXAMPLE, EXAMPLE_PRINTED, PASSES_MOST, bench, file, sizes
+from reference.ring import FILE_MOST, ring
 from ringing import TIME_MOST, small_stack
 
 PROGRAM = sys.argv[1] if sys.argv[1:] else os.path.join(ROOT, "target", "bin", "ring")
@@ -310,7 +311,8 @@ def small_disk():
 
 # Arguments and lengths
 
-FILE_MOST = 65_536
+# 256 longest lines.
+LONGEST_ORDER = b"order=255\n" * 256
 # Sets T to 1.
 TICKS_1 = 0x00000180
 
@@ -318,7 +320,8 @@ TICKS_1 = 0x00000180
 def by_arguments(program, arguments, source):
     """What one of the three programs prints and tells of a file on standard input, with arguments."""
     path = os.path.join(ROOT, "target", "bin", program)
-    done = subprocess.run([path, *arguments], input=source, stdout=subprocess.PIPE, stderr=subprocess.PIPE, preexec_fn=small_stack, timeout=TIME_MOST)
+    done = subprocess.run([path, *arguments], input=source, stdout=subprocess.PIPE, stderr=subprocess.PIPE, timeout=TIME_MOST,
+                          preexec_fn=None if program == "wav" else small_stack)  # tests/wav.py has its stack
     return done.stdout, done.stderr
 
 
@@ -334,7 +337,7 @@ def order_arguments():
     with tempfile.TemporaryDirectory() as folder:
         named = {}
         for name, text in (("numbers", numbers), ("other", b"order=0\norder=01\n"), ("short", b"order=0\n"), ("twice", b"order=0\norder=0\n"),
-                           ("256", longest_order()), ("257", longest_order() + b"order=0\n"), ("empty", b""), ("no LF", numbers[:-1])):
+                           ("256", longest_order()), ("257", longest_order() + b"order=0\n"), ("longest", LONGEST_ORDER), ("longest and a byte", LONGEST_ORDER + b"\n"), ("empty", b""), ("no LF", numbers[:-1])):
             named[name] = os.path.join(folder, name)
             with open(named[name], "wb") as target:
                 target.write(text)
@@ -344,28 +347,29 @@ def order_arguments():
             yield f"{program} with no such file", by_arguments(program, [os.path.join(folder, "none")], two), (b"", program.encode() + b": cannot read the order file\n")
             yield f"{program} by the numbers", by_arguments(program, [named["numbers"]], two), plain[program]
             yield f"{program} by pitch, all of one pitch", by_arguments(program, ["-"], two), plain[program]
-        for name in ("other", "257", "empty", "no LF"):
+        for name in ("other", "257", "longest and a byte", "empty", "no LF"):
             yield f"ring, {name}", by_arguments("ring", [named[name]], two), (b"order-refused=9\n", b"")
             yield f"wav, {name}", by_arguments("wav", [named[name]], two), (b"", b"order-refused=9\n")
             yield f"sorted, {name}", by_arguments("sorted", [named[name]], two), (b"order-refused=9\n", b"")
             yield f"ring, {name} and no bench file", by_arguments("ring", [named[name]], NOT_FITTING), (b"refused=9\n", b"")
-        for name, number in (("short", 5), ("256", 5), ("twice", 6)):
+        for name, number in (("short", 5), ("256", 5), ("longest", 5), ("twice", 6)):
             yield f"ring, {name}", by_arguments("ring", [named[name]], two), (b"refused=%d\n" % number, b"")
             yield f"wav, {name}", by_arguments("wav", [named[name]], two), (b"", b"refused=%d\n" % number)
         full = bench(2, [(11 * g + 10, 962) for g in range(256)] + [(4113, 256)])
         yield "ring, 256 lines", by_arguments("ring", [named["256"]], full), by_arguments("ring", [], full)
+        yield "ring, 256 longest lines", by_arguments("ring", [named["longest"]], full), (b"refused=6\n", b"")
         # TICKS sets T to 1 after the first pass: the order has one entry too many from then on.
         fewer = bench(3, ((11 * 0 + 10, 962), (11 * 1 + 10, 962), (4113, 2)), (TICKS_1,))
         yield "ring, T made 1 by a command", by_arguments("ring", [named["numbers"]], fewer), (b"pass=1 left=0 right=0\nrefused=5\n", b"")
 
 
 def lengths():
-    """Files of 65,535 to 65,538 bytes that are good when cut: the longer ones are refused by each program, as a bench file and as an order file."""
+    """Files of 65,535 to 65,538 bytes that are good, or good when cut to 65,536: the longer ones are refused by each program."""
     line, start = b"word=0:1\n", b"passes=1\n"
     for length in range(FILE_MOST - 1, FILE_MOST + 3):
-        more, left = divmod(length - len(start), len(line))
-        text = start + line * (more - 1) + line[:-2] + b"1" * (1 + left) + b"\n"
-        assert len(text) == length
+        more, left = divmod(min(length, FILE_MOST) - len(start), len(line))
+        text = (start + line * (more - 1) + line[:-2] + b"1" * (1 + left) + b"\n").ljust(length, b"\n")
+        assert len(text) == length and ring(text[:FILE_MOST]) != b"refused=9\n"
         good = length <= FILE_MOST
         for program, refused in (("ring", (b"refused=9\n", b"")), ("wav", (b"", b"refused=9\n")), ("sorted", (b"refused=9\n", b""))):
             yield f"{program}, {length} bytes", by_arguments(program, [], text) != refused, good

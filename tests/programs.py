@@ -20,6 +20,7 @@ from typing import NamedTuple
 import ring_files
 import wav
 from library import ROOT
+from reference.by_order import ring_by
 from reference.ring import FILE_MOST, ring
 from reference.sorted import sorted_text
 
@@ -70,6 +71,11 @@ LONG = ring_files.bench(3600)
 # By the older text the example has a GMODE that is too wide.
 OLD = b"text=old\n" + ring_files.EXAMPLE
 ENTRIES = b"order=1\norder=0\n"
+# Both generators feed DAC 0: the last one holds.
+FEEDERS = ring_files.bench(3, ((0, 16), (9, 1), (10, 128), (20, 2), (21, 128), (3841, 3), (3905, 5), (3906, 7), (4113, 2)))
+assert ring_by(FEEDERS, ENTRIES) != ring(FEEDERS)
+# The longest order file, and one byte more.
+LONGEST = b"order=255\n" * 256
 CASES = {
     "ring, one byte too many": Case(CUT_GOOD, b"refused=9\n"),
     "wav, one byte too many": Case(CUT_GOOD, b""),
@@ -82,6 +88,10 @@ CASES = {
     "sorted, an order file": Case(ring_files.EXAMPLE, sorted_text(ring_files.EXAMPLE, ENTRIES).printed, ("A",), {"A": ENTRIES}),
     "ring, an order file": Case(ring_files.EXAMPLE, ring_files.EXAMPLE_PRINTED, ("A",), {"A": ENTRIES}),
     "wav, an order file": Case(ring_files.EXAMPLE, wav.expected(ring_files.EXAMPLE, ring_files.EXAMPLE_PRINTED)[0], ("A",), {"A": ENTRIES}),
+    "ring, an order that is heard": Case(FEEDERS, ring_by(FEEDERS, ENTRIES), ("A",), {"A": ENTRIES}),
+    "wav, an order that is heard": Case(FEEDERS, wav.expected(FEEDERS, ring_by(FEEDERS, ENTRIES))[0], ("A",), {"A": ENTRIES}),
+    "ring, the longest order file and one byte more": Case(FEEDERS, b"order-refused=9\n", ("A",), {"A": LONGEST + b"\n"}),
+    "sorted, the longest order file and one byte more": Case(FEEDERS, b"order-refused=9\n", ("A",), {"A": LONGEST + b"\n"}),
     "sorted, two order files": Case(ring_files.EXAMPLE, b"", ("A", "B"), {"A": ENTRIES, "B": ENTRIES}),
 }
 
@@ -93,6 +103,16 @@ ROOM = ((STREAMS, "FILE_ROOM: usize = bench_lines::FILE_BYTES + 1;", "FILE_ROOM:
 def one_byte_less(path):
     """Files are read without the byte more: by the function for all programs, or in main where it stands there."""
     return ROOM, ((path, "[0u8; bench_lines::FILE_BYTES + 1]", "[0u8; bench_lines::FILE_BYTES]"),)
+
+
+def order_cut(path):
+    """No more is taken of an order file than the longest has."""
+    return (((path, "    let length = request.length;\n", f"    let mut length = request.length;\n    if {len(LONGEST)} < length {{\n        length = {len(LONGEST)};\n    }}\n"),),)
+
+
+def by_number(path):
+    """The order file is read and not gone by."""
+    return (((path, "let by = request.by;", "let by = By::Number;"),),)
 
 
 WRONG = (
@@ -115,6 +135,10 @@ WRONG = (
     Wrong("sorted_files_exchanged", "sorted", "sorted, an order file", (
         ((SORTED, "print(&file[..n], by, &order[..length])", "print(&order[..length], by, &file[..n])"),),
         ((SORTED, "findings(file, given, order, &mut out)", "findings(order, given, file, &mut out)"),))),
+    Wrong("ring_ignores_its_order", "ring", "ring, an order that is heard", by_number(RING)),
+    Wrong("wav_ignores_its_order", "wav", "wav, an order that is heard", by_number(WAV)),
+    Wrong("ring_cuts_its_order_file", "ring", "ring, the longest order file and one byte more", order_cut(RING)),
+    Wrong("sorted_cuts_its_order_file", "sorted", "sorted, the longest order file and one byte more", order_cut(SORTED)),
     Wrong("ring_files_exchanged", "ring", "ring, an order file", (((RING, "ring(&file[..n], by, &order[..length])", "ring(&order[..length], by, &file[..n])"),),)),
     Wrong("wav_files_exchanged", "wav", "wav, an order file", (((WAV, "sound(&file[..n], by, &order[..length])", "sound(&order[..length], by, &file[..n])"),),)),
 )

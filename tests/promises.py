@@ -54,7 +54,7 @@ REACHABLE = {
 }
 
 # Calls that read and write: what a program reads or writes has no contract in the language.
-STREAMS = {("bench_streams", "request"), ("bench_streams", "read_bench"), ("bench_streams", "complain")}
+STREAMS = {("bench_streams", "read_arguments"), ("bench_streams", "read_bench"), ("bench_streams", "complain")}
 
 # The named forms: what it is, the crate, and a pattern that its source has.
 FORMS = (

@@ -1,6 +1,6 @@
 -- The parts of buffers that are read.
 -- Assumes nothing.
-use mathlib.Core.Path.{_≡_, refl, sym}
+use mathlib.Core.Path.{_≡_, sym}
 use mathlib.Core.List.{List}
 use Prim.Native.Nat.{ℕ, _+_, _-_, _≤_}
 use native.Mathlib.Omega.{arith}
@@ -21,9 +21,6 @@ pub more-within : (buffer rest : List ℕ) (at more : ℕ) → at ≤ length buf
     → more ≤ length rest → at + more ≤ length buffer
 more-within buffer rest at more h e l = omega (arith, simp (length-take, length-drop) at e)
 
--- As counts: of what was read, and of nothing.
+-- As counts.
 pub counts : (n : ℕ) (l : List ℕ) → n ≤ length l → Counts n l
 counts n l h = (h, sym (length-take-le n l h))
-
-pub none-counts : (l : List ℕ) → Counts 0 l
-none-counts l = (omega arith, refl)

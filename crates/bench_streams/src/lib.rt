@@ -150,7 +150,7 @@ fn request_named(program: &[u8], name: &[u8], file: &mut [u8; FILE_ROOM]) -> Req
 }
 
 // What the program's arguments ask for: none by number, one what it names. More, and one that cannot be read, are told on standard error.
-pub fn request(program: &[u8], file: &mut [u8; FILE_ROOM]) -> Request
+pub fn read_arguments(program: &[u8], file: &mut [u8; FILE_ROOM]) -> Request
     ensures { λ r. ⌜ Counts (r .length) (now (file .exit)) ⌝ }
 {
     let by = By::Number;

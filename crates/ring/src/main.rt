@@ -102,7 +102,7 @@ fn ring(file: &[u8], by: By, listing: &[u8]) -> bool {
 
 fn main() {
     let mut order = [0u8; bench_streams::FILE_ROOM];
-    let request = bench_streams::request(b"ring", &mut order);
+    let request = bench_streams::read_arguments(b"ring", &mut order);
     if !request.good {
         return;
     }

@@ -64,7 +64,8 @@ rung-alike by₁ by₂ f₁ f₂ file none quiet q₁ q₂ p₁ p₂ agree =
     let m = fileOf file .machine in
     let used₁ = orderingBy by₁ f₁ m in
     let used₂ = orderingBy by₂ f₂ m in
-    let without = λ (used : Ordering). ap (λ (cs : List ℕ). heard text used (fileOf file .passes) m memoryAtFirst cs) none in
+    let without : (used : Ordering) → heardOf file used ≡ heard text used (fileOf file .passes) m memoryAtFirst [] =
+    λ used. ap (λ (cs : List ℕ). heard text used (fileOf file .passes) m memoryAtFirst cs) none in
     let e : heardOf file used₁ ≡ heardOf file used₂ = without used₁ ∙ agreeing-heard text used₁ used₂ (fileOf file .passes) m memoryAtFirst quiet p₁ p₂ agree ∙ sym (without used₂) in
     (same-output by₁ by₂ f₁ f₂ file q₁ q₂ e, same-wave by₁ by₂ f₁ f₂ file q₁ q₂ e)
 

@@ -13,7 +13,7 @@ fn print(file: &[u8], by: By, order: &[u8]) -> bool {
 
 fn main() {
     let mut order = [0u8; bench_streams::FILE_ROOM];
-    let request = bench_streams::request(b"sorted", &mut order);
+    let request = bench_streams::read_arguments(b"sorted", &mut order);
     if !request.good {
         return;
     }

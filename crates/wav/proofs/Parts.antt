@@ -1,4 +1,4 @@
--- A file that is the first part of a buffer lies within it.
+-- What is the first part of a buffer lies within it.
 -- Assumes nothing.
 use mathlib.Core.Path.{_≡_, ap}
 use mathlib.Core.List.{List}

@@ -20,7 +20,7 @@ fn sound(file: &[u8], by: By, order: &[u8]) -> bool {
 
 fn main() {
     let mut order = [0u8; bench_streams::FILE_ROOM];
-    let request = bench_streams::request(b"wav", &mut order);
+    let request = bench_streams::read_arguments(b"wav", &mut order);
     if !request.good {
         return;
     }

@@ -10,10 +10,10 @@ use Rattle.ring.proofs.ring_all.Statement.{statement}
 use Rattle.ring.proofs.ring_all.Tie as tie
 
 abbrev Inv-loop : tie.InvT-loop
-Inv-loop text start m₀ commands memory₀ given order at₀ m memory at = (length m ≡ length m₀) × (length memory ≡ length memory₀)
+Inv-loop text m₀ commands memory₀ given order at₀ m memory at = (length m ≡ length m₀) × (length memory ≡ length memory₀)
 
 abbrev μ-loop : tie.MeasureT-loop
-μ-loop text start m₀ commands memory₀ given order at₀ m memory at = at .passes
+μ-loop text m₀ commands memory₀ given order at₀ m memory at = at .passes
 
 loop-holds : tie.Need-loop-holds Inv-loop μ-loop
 loop-holds c = (refl, refl)
