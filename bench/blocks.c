@@ -54,7 +54,8 @@ static uint32_t machines[SIDES][KARVELORN_WORDS], memories[SIDES][KARVELORN_MEMO
 static int32_t frames[SIDES][BLOCK_MOST * DACS_MOST];
 static ring_function *const sides[SIDES] = {karvelorn_ring, plain_ring, plain_ring_o3, plain_ring_native};
 
-/* Sines under exponential envelopes, sticky and free in turn, every eighth one to a DAC; T/2 mixing modifiers, of which some
+/* Sines under exponential envelopes, sticky and free in turn, every eighth one
+   the word of the one before it to a DAC; T/2 mixing modifiers, of which some
    invoke a delay line. */
 static void make_machine(uint32_t *m, uint32_t t, uint32_t lines) {
     karvelorn_fresh(m, KARVELORN_WORDS);
@@ -63,7 +64,7 @@ static void make_machine(uint32_t *m, uint32_t t, uint32_t lines) {
         uint32_t *g = m + GENERATOR_WORDS * i;
         const int feeds = i % 8 == 7;
         g[GO] = feeds ? i / 8 % 16 : draw(4), g[GJ] = draw(26), g[GK] = draw(20), g[GP] = LOW(0u - draw(12), 20);
-        g[GQ] = draw(24), g[GL] = draw(12), g[GSUM] = draw(6), g[GFM] = draw(7);
+        g[GQ] = draw(24), g[GL] = draw(12), g[GSUM] = draw(6), g[GFM] = feeds ? g[GSUM - GENERATOR_WORDS] : draw(7);
         g[GMODE] = feeds ? WRITE_DAC << 6 : (uint32_t)(i & 1 ? RUNNING_B : RUNNING_A) << 6 | 2 << 4;
     }
     for (uint32_t k = 0; k < t / 2; k++) {
