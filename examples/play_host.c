@@ -28,8 +28,7 @@ static const struct {
 
 /* What the callback has at hand: the machine with its delay memory, and the commands still to be taken. */
 typedef struct {
-    uint32_t machine[KARVELORN_WORDS], memory[KARVELORN_MEMORY_WORDS], order[KARVELORN_GENERATORS];
-    uint32_t commands[COMMANDS_MOST];
+    uint32_t machine[KARVELORN_WORDS], memory[KARVELORN_MEMORY_WORDS], commands[COMMANDS_MOST];
     size_t taken, count;
     uint32_t refused;
 } player;
@@ -71,7 +70,6 @@ static void put_bell(player *p, uint32_t t) {
     put_dac(p, LEFT, 0, 0);
     put_dac(p, RIGHT, 1, 1);
     for (uint32_t g = RIGHT + 1; g < t; g++) put_partial(p, g, 300 + 7.3 * g, 40, 1.0, 1);
-    for (uint32_t g = 0; g < t; g++) p->order[g] = g;
 }
 
 /* The second stroke: at its pass every partial's envelope begins again. An update takes as many commands as it has ticks,
@@ -84,20 +82,16 @@ static void put_stroke(player *p, double seconds) {
     }
 }
 
-/* The callback: so many frames, DAC 0 left and DAC 1 right. After a refusal there is silence. */
-static void callback(player *p, int32_t *frames, size_t count) {
-    for (size_t i = 0; i < count; i++) {
-        size_t read, written, taken = 0;
-        uint8_t clipped[KARVELORN_MARKS];
-        if (!p->refused)
-            p->refused = karvelorn_pass(p->machine, KARVELORN_WORDS, p->order, p->machine[KARVELORN_T], NULL, 0, NULL, 0,
-                                        p->memory, KARVELORN_MEMORY_WORDS, &read, &written, clipped);
-        if (!p->refused)
-            p->refused = karvelorn_update(p->machine, KARVELORN_WORDS, p->commands + p->taken, p->count - p->taken, &taken);
-        p->taken += taken;
-        frames[2 * i] = p->refused ? 0 : karvelorn_sample(p->machine[karvelorn_dac(0)]);
-        frames[2 * i + 1] = p->refused ? 0 : karvelorn_sample(p->machine[karvelorn_dac(1)]);
-    }
+/* The callback: so many frames, DAC 0 left and DAC 1 right, by one call. After a refusal there is silence. */
+static void callback(player *p, int32_t *frames, uint32_t count) {
+    static const uint32_t dacs[] = {0, 1};
+    uint32_t done = 0;
+    size_t taken = 0;
+    if (!p->refused)
+        p->refused = karvelorn_ring(p->machine, KARVELORN_WORDS, p->memory, KARVELORN_MEMORY_WORDS, p->commands + p->taken,
+                                    p->count - p->taken, NULL, 0, count, dacs, 2, frames, 2 * (size_t)count, &done, &taken);
+    p->taken += taken;
+    memset(frames + 2 * (size_t)done, 0, 2 * (size_t)(count - done) * sizeof frames[0]);
 }
 
 /* The driver, as an audio system would be: here it plays into a file and holds the time of each block to its deadline. */

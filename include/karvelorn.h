@@ -16,9 +16,9 @@
  * - each pointer is aligned for its type;
  * - a run has valid memory for its whole length, for reading, and for writing too where it is not const; with length 0
  *   the pointer may be NULL;
- * - a pointer that a call answers through (read, written, clipped, taken, equal, alike, point, place, text, passes,
- *   count) is not NULL and has valid memory for one, clipped for KARVELORN_MARKS. What was there before is not looked
- *   at, and the call always sets it, in a refusal too; numbers is not NULL and has valid memory for
+ * - a pointer that a call answers through (read, written, clipped, taken, done, equal, alike, point, place, text,
+ *   passes, count) is not NULL and has valid memory for one, clipped for KARVELORN_MARKS. What was there before is not
+ *   looked at, and the call always sets it, in a refusal too; numbers is not NULL and has valid memory for
  *   KARVELORN_MODIFIERS, and of these words a call sets those that it has numbers for; an array of KARVELORN_KEPT words
  *   has valid memory for all of them;
  * - what a call writes (the runs that are not const, delay memory too, and what it answers through) overlaps nothing
@@ -55,9 +55,9 @@
  * contents and 7 of the read list, and karvelorn_any_order and karvelorn_keep 1 and 2; karvelorn_change asks 1 and 2,
  * then of the change; karvelorn_join asks 1 and 2 of the first machine, 1 and 2 of the second, then 16, 17 and 18. These
  * seven ask none of 10 to 12. karvelorn_chain, which is handed no machine, asks 14 and then 15, karvelorn_read 9 and 13 of
- * the file, then 1 and 8 of the runs.
+ * the file, then 1 and 8 of the runs. karvelorn_ring asks what its passes and its updates ask.
  * A refused call leaves every run as it was, but for an update that refuses a command (3 or 4): what it did before that
- * command stays done.
+ * command stays done; and but for karvelorn_ring: what it did before the refusal stays done.
  *
  * The words of a machine. A signed one is kept as its two's-complement bits, in its own width: signed are GO, GJ, GK, GP,
  * M0, M1, L0, L1, sum memory, the DACs and delay memory, and no others:
@@ -235,9 +235,9 @@
  *                if the unit has its turn in each of these passes and nothing else changes its words. The word is looked
  *                up at the modifier's turn: what lines of lower modifiers put there in the same pass is seen
  *
- * Machines of the older text: karvelorn_old_pass, karvelorn_old_compare and karvelorn_old_parts. They are the same runs
- * of words, and karvelorn_fresh makes them too: a fresh machine is good by both texts. No word tells which text a machine
- * follows; the call does. karvelorn_update, karvelorn_any_order, karvelorn_keep, karvelorn_change and karvelorn_join are
+ * Machines of the older text: karvelorn_old_pass, karvelorn_old_ring, karvelorn_old_compare and karvelorn_old_parts. They
+ * are the same runs of words, and karvelorn_fresh makes them too: a fresh machine is good by both texts. No word tells
+ * which text a machine follows; the call does. karvelorn_update, karvelorn_any_order, karvelorn_keep, karvelorn_change and karvelorn_join are
  * for machines of 1978 alone. What differs:
  *   Question 2  GMODE has 8 bits, with modes as below, and MMODE a function as below. All other words are asked as above
  *   GMODE       run mode (3 bits), each switched as a run mode of 1978: 000 inactive, 001 pause, 010 running (1111), 011
@@ -753,6 +753,47 @@ uint32_t karvelorn_pass(uint32_t *machine, size_t words, const uint32_t *order, 
 uint32_t karvelorn_update(uint32_t *machine, size_t words, const uint32_t *commands, size_t commands_len,
                           size_t *taken);
 
+/* A block: up to so many passes, each followed by an update with the commands still left, and what DACs play after each
+ * pass and its update, as audio programs want it. It is what karvelorn_pass, with no items and no places, and
+ * karvelorn_update do by turns, in far less time: the questions of a pass are asked once a call, and again only after an
+ * update that took commands. Asking, of 65536 words of delay memory too, takes about as long as two passes at T 256: in
+ * blocks of 64 it hardly counts, and one pass a call costs about what karvelorn_pass costs.
+ *
+ *   machine, words          the machine, and its length: KARVELORN_WORDS; it is changed in place
+ *   memory, memory_words    delay memory, as karvelorn_pass has it; it is changed in place
+ *   commands, commands_len  the commands still to be taken; NULL and 0 where there are none
+ *   order, entries          the order in which generators are taken, the same in every pass; entries is T. NULL and 0:
+ *                           by number, 0 to T-1, also after commands that change T
+ *   passes                  how many passes at most
+ *   dacs, dacs_len          the DACs that a frame has, in its sequence: {0, 1} for a left and a right one, the numbers 0
+ *                           to 15 for all. Of each number the low 4 bits count, and a number may stand twice. With NULL
+ *                           and 0 nothing is written, and the passes need no room
+ *   frames, frames_len      gets a frame of dacs_len samples for each pass that is done, one after the other from the
+ *                           first on: -524288 to 524287. Room past them stays as it was. frames_len counts samples
+ *   done                    gets how many passes were done; of each its frame is there
+ *   taken                   gets how many commands were taken. The host hands the others to its next call:
+ *                           commands + taken, commands_len - taken
+ *
+ * It stops when all passes are done, when there is no room for another whole frame, or at a refusal. Answers 0 in the
+ * first two cases (done is less than passes where room ended it; with no passes or no room nothing is asked), else the
+ * number that the refused pass or update answers:
+ *   1, 2, 5 to 8,  the pass after the last done was refused. Machine and delay memory are as the update before it left
+ *   10 to 12       them
+ *   3, 4           the pass after the last done was made and its update refused commands[taken]. Machine and delay
+ *                  memory are as karvelorn_update leaves them: the pass and the commands before that one stay done. This
+ *                  pass is not counted and has no frame, though its DAC words stand in the machine. To go on, the host
+ *                  leaves the command out: commands + taken + 1
+ *
+ * Blocks join: any way of cutting passes into blocks, each call with the commands that the ones before left, gives the
+ * same frames, commands taken, machine and delay memory, and the same refusal. From a machine and commands of
+ * karvelorn_read, over a delay memory that is zero at first and without an order, the frames of DAC 0 and DAC 1 are what
+ * the program ring prints.
+ */
+uint32_t karvelorn_ring(uint32_t *machine, size_t words, uint32_t *memory, size_t memory_words,
+                        const uint32_t *commands, size_t commands_len, const uint32_t *order, size_t entries,
+                        uint32_t passes, const uint32_t *dacs, size_t dacs_len, int32_t *frames, size_t frames_len,
+                        uint32_t *done, size_t *taken);
+
 /* Whether two orders of the generators are equal, so that it makes no difference which one a pass goes by: on every
  * machine with the settings of this one, whatever its other words hold, and with any read items and any delay memory,
  * passes by the two orders leave the same value in each word of the machine and of delay memory and write the same
@@ -879,13 +920,19 @@ uint32_t karvelorn_parts(const uint32_t *machine, size_t words, const uint32_t *
  */
 uint32_t karvelorn_join(uint32_t *machine, size_t words, const uint32_t *second, size_t second_words);
 
-/* A pass, a compare and parts of a machine of the older text: as karvelorn_pass, karvelorn_compare and karvelorn_parts,
- * with the differences listed above. A pass answers 0, 1, 2, 5, 6, 7, 8 or 10.
+/* A pass, a block, a compare and parts of a machine of the older text: as karvelorn_pass, karvelorn_ring,
+ * karvelorn_compare and karvelorn_parts, with the differences listed above. A pass answers 0, 1, 2, 5, 6, 7, 8 or 10. In
+ * a block no update follows a pass: the commands are not looked at, and taken gets 0.
  */
 uint32_t karvelorn_old_pass(uint32_t *machine, size_t words, const uint32_t *order, size_t entries,
                             const uint32_t *items, size_t items_len, uint32_t *places, size_t places_len,
                             uint32_t *memory, size_t memory_words, size_t *read, size_t *written,
                             uint8_t clipped[KARVELORN_MARKS]);
+
+uint32_t karvelorn_old_ring(uint32_t *machine, size_t words, uint32_t *memory, size_t memory_words,
+                            const uint32_t *commands, size_t commands_len, const uint32_t *order, size_t entries,
+                            uint32_t passes, const uint32_t *dacs, size_t dacs_len, int32_t *frames, size_t frames_len,
+                            uint32_t *done, size_t *taken);
 
 uint32_t karvelorn_old_compare(const uint32_t *machine, size_t words, const uint32_t *first, size_t first_entries,
                                const uint32_t *second, size_t second_entries, uint32_t *equal);
@@ -924,9 +971,9 @@ uint32_t karvelorn_chain(const uint32_t *entries, size_t entries_len, const uint
  *   word=PLACE:VALUE        then words of the machine as it begins, on a fresh one: places 0 to 4342, values below 2^32. Of
  *                           two for one place the later holds
  *   command=XXXXXXXX        then commands, eight hexadecimal capitals; none in a file of the older text
- * A host then rings it as the program ring does: so many passes by number
- * (karvelorn_pass, or karvelorn_old_pass for KARVELORN_TEXT_OLD) over a delay memory that is zero at first, each followed
- * by karvelorn_update with the commands still left, but by none for KARVELORN_TEXT_OLD.
+ * A host then rings it as the program ring does, over a delay memory that is zero at first: so many passes by
+ * karvelorn_ring, or karvelorn_old_ring for KARVELORN_TEXT_OLD; or each by karvelorn_pass by number, followed by
+ * karvelorn_update with the commands still left, or by karvelorn_old_pass alone.
  *
  *   file, bytes             the file's bytes, and how many they are
  *   machine, words          a run for a machine, and its length: KARVELORN_WORDS. It gets a fresh machine with the words of

@@ -6,6 +6,9 @@
     sound = bell.ring(20000)             # DAC 0 and DAC 1 of 20,000 passes: an array of int32, 20 bits each
     heard = karvelorn.floats(sound)      # the same from -1 to 1
 
+    for block in bell.machine.blocks(64, bell.commands, dtype=np.float32):   # blocks for an audio program, without end
+        play(block)
+
 A machine is its run of words, a numpy array of uint32, with names for its parts that stand over the same memory:
 
     machine = karvelorn.Machine()
@@ -151,6 +154,11 @@ def floats(samples):
     return np.asarray(samples) / FULL
 
 
+def _samples(frames, dtype):
+    """Frames as they are, or as floats from -1 to 1 where a type of floats is asked for."""
+    return floats(frames).astype(dtype) if np.issubdtype(dtype, np.floating) else frames.astype(dtype, copy=False)
+
+
 def gmode(run, envelope, oscillator):
     """GMODE, by the names of RUN, ENVELOPE and OSCILLATOR."""
     return RUN[run] << 6 | ENVELOPE[envelope] << 4 | OSCILLATOR[oscillator]
@@ -173,6 +181,12 @@ class Pass(NamedTuple):
     read: int
     written: np.ndarray
     clipped: np.ndarray
+
+
+class Block(NamedTuple):
+    """What a block answers: the frames, a row a pass, and how many commands were taken."""
+    frames: np.ndarray
+    taken: int
 
 
 class Parts(NamedTuple):
@@ -240,20 +254,38 @@ class Machine:
         _answered(number, taken.value)
         return taken.value
 
-    def ring(self, passes, commands=(), dacs=(0, 1), order=None):
-        """So many passes, each followed by an update with the commands still left (by the older text by none), and what the DACs play
-        after each: an array of int32, a row a pass. A refusal has the rows before it (`done`)."""
-        commands, rung, rows = _words(commands), np.zeros((passes, len(dacs)), np.int32), self.dacs
-        chosen = np.asarray(dacs, dtype=np.intp)
-        for i in range(passes):
+    def block(self, passes, commands=(), dacs=(0, 1), order=None, dtype=np.int32):
+        """Up to so many passes in one call of the library, by number where no order is given, each followed by an update with the commands
+        still left (by the older text by none): what the DACs play after each, and how many commands were taken. A Refused has the same
+        of what was done before it (`done`)."""
+        frames, done, taken = np.zeros((passes, len(dacs)), np.int32), _NUMBER(), ctypes.c_size_t()
+        number = _call(self._name("ring"), self.words, self.memory, _words(commands), _words(() if order is None else order), passes,
+                       _words(dacs), frames, ctypes.byref(done), ctypes.byref(taken))
+        block = Block(_samples(frames[:done.value], dtype), taken.value)
+        _answered(number, block)
+        return block
+
+    def blocks(self, size, commands=(), dacs=(0, 1), order=None, dtype=np.int32):
+        """Blocks of so many passes each, one after the other without end, as audio programs want them: for frames in machine.blocks(64).
+        At a refusal the last block is as short as it came to be (none if nothing was done), and then Refused is raised."""
+        commands = _words(commands)
+        while True:
             try:
-                self.pass_(order)
-                if self.text == TEXT_1978:
-                    commands = commands[self.update(commands):]
+                block = self.block(size, commands, dacs, order, dtype)
             except Refused as refused:
-                raise Refused(refused.number, rung[:i]) from None
-            rung[i] = signed(rows[chosen], 20)
-        return rung
+                if len(refused.done.frames):
+                    yield refused.done.frames
+                raise
+            commands = commands[block.taken:]
+            yield block.frames
+
+    def ring(self, passes, commands=(), dacs=(0, 1), order=None, dtype=np.int32):
+        """So many passes, each followed by an update with the commands still left (by the older text by none), and what the DACs play
+        after each: an array of int32, or of floats from -1 to 1, a row a pass. A refusal has the rows before it (`done`)."""
+        try:
+            return self.block(passes, commands, dacs, order, dtype).frames
+        except Refused as refused:
+            raise Refused(refused.number, refused.done.frames) from None
 
     def compare(self, first, second):
         """Whether two orders are equal."""
@@ -297,9 +329,9 @@ class Bench(NamedTuple):
     passes: int
     commands: np.ndarray
 
-    def ring(self, passes=None, dacs=(0, 1), order=None):
+    def ring(self, passes=None, dacs=(0, 1), order=None, dtype=np.int32):
         """Rings it from its beginning, as many passes as it asks for or as are given, and leaves it as it was."""
-        return self.machine.copy().ring(self.passes if passes is None else passes, self.commands, dacs, order)
+        return self.machine.copy().ring(self.passes if passes is None else passes, self.commands, dacs, order, dtype)
 
 
 def read(file):

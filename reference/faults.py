@@ -169,6 +169,16 @@ class Faults:
         self.rung_order_asked_first = False
         self.order_asked_first = False
         self.order_asked_after_2 = False
+        # Blocks of passes.
+        self.block_order_ignored = False
+        self.block_order_of_first_t = False
+        self.block_dac_by_its_number = False
+        self.block_sign_lost = False
+        self.block_part_frame = False
+        self.block_commands_again = False
+        self.block_memory_anew = False
+        self.block_refused_update_goes_on = False
+        self.block_refused_pass_counted = False
 
 
 faults = Faults()

@@ -6,13 +6,13 @@ Run from the repository root as: python3 -m reference.selftest
 import sys
 from time import process_time
 
-from reference.cases import (any_orders, benches, by_orders, chains, clipped, commands, comparisons, delays,
+from reference.cases import (any_orders, benches, blocks, by_orders, chains, clipped, commands, comparisons, delays,
                              examples, generators, joins, keeps, modifiers, old_files, old_orders,
                              old_passes, old_turns, parts, passes, questions, sortings)
 from reference.faults import NAMES, switched_on
 
 MODULES = (examples, generators, modifiers, passes, clipped, questions, commands, comparisons,
-           any_orders, parts, delays, benches, sortings, by_orders, old_turns, old_passes, old_orders,
+           any_orders, parts, delays, benches, sortings, by_orders, blocks, old_turns, old_passes, old_orders,
            old_files, chains, joins, keeps)
 GROUPS = [group for module in MODULES for group in module.GROUPS]
 # How long each group took.

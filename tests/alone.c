@@ -18,6 +18,8 @@ void _start(void)
     karvelorn_pass(machine, KARVELORN_WORDS, &word, 1, 0, 0, 0, 0, memory, KARVELORN_MEMORY_WORDS, &count, &count,
                    clipped);
     karvelorn_update(machine, KARVELORN_WORDS, 0, 0, &count);
+    karvelorn_ring(machine, KARVELORN_WORDS, memory, KARVELORN_MEMORY_WORDS, 0, 0, 0, 0, 1, 0, 0, 0, 0, &word, &count);
+    karvelorn_old_ring(machine, KARVELORN_WORDS, memory, KARVELORN_MEMORY_WORDS, 0, 0, 0, 0, 1, 0, 0, 0, 0, &word, &count);
     karvelorn_compare(machine, KARVELORN_WORDS, &word, 1, &word, 1, &word);
     karvelorn_any_order(machine, KARVELORN_WORDS, &word);
     karvelorn_parts(machine, KARVELORN_WORDS, &word, 1, &word, 1, contents, KARVELORN_WORDS, 0, 0, &point, &place);

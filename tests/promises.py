@@ -31,6 +31,7 @@ REACHABLE = {
     ("bench_gathering", "gather"): "gathered",
     ("bench_begin", "begin"): "outputOf",
     ("bench_wave", "wave"): "waveOf",
+    ("bench_block", "ring"): "blockOf",
     ("sorted_findings", "findings"): "findingsOf",
     ("karvelorn", "karvelorn_fresh"): "freshRun",
     ("karvelorn", "karvelorn_pass"): "passOf",
@@ -48,6 +49,8 @@ REACHABLE = {
     ("karvelorn", "karvelorn_old_parts"): "partsOf",
     ("karvelorn", "karvelorn_chain"): "chainOf",
     ("karvelorn", "karvelorn_read"): "readInto",
+    ("karvelorn", "karvelorn_ring"): "blockOf",
+    ("karvelorn", "karvelorn_old_ring"): "blockOf",
 }
 
 # Calls that read and write: what a program reads or writes has no contract in the language.

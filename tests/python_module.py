@@ -12,8 +12,10 @@ import re
 import subprocess
 import sys
 import tempfile
-from itertools import chain
+from itertools import chain, islice
 from pathlib import Path
+
+import numpy as np
 
 from library import ROOT, library_is_new
 
@@ -126,7 +128,30 @@ def calls(karvelorn):
     tone.generators.GMODE[:2], tone.generators.GL[0] = [karvelorn.gmode("sticky", "linear plus", "square"), karvelorn.gmode("dac", "linear minus", "sine")], 4095
     heard = tone.ring(3, dacs=(0, 5))
     assert heard.tolist() == [[0, 0], [131040, 0], [131040, 0]] and heard.dtype == "int32" and karvelorn.floats(heard)[1, 0] == 131040 / 524288
+    blocks(karvelorn)
     return "every call and its refusals"
+
+
+def blocks(karvelorn):
+    """Blocks one after another are the whole ringing, as integers and as floats; a refusal has what was done before it."""
+    bench = karvelorn.read((HOME / "examples" / "two_strokes.txt").read_bytes())
+    whole, one = bench.ring(100, dacs=range(16)), bench.machine.copy()
+    cut = list(islice(one.blocks(32, bench.commands, dacs=range(16)), 3))
+    assert whole.any() and np.array_equal(np.concatenate(cut), whole[:96]) and whole.shape == (100, 16)
+    by_passes, commands = bench.machine.copy(), bench.commands
+    for row in whole:
+        by_passes.pass_()
+        commands = commands[by_passes.update(commands):]
+        assert np.array_equal(karvelorn.signed(by_passes.dacs, 20), row)
+    heard = bench.ring(100, dtype=np.float32)
+    assert heard.dtype == np.float32 and np.array_equal(heard * karvelorn.FULL, whole[:, :2])
+    block = bench.machine.copy().block(5, [0x00003110, 0x00004020], dacs=())
+    assert block.frames.shape == (5, 0) and block.taken == 2
+    refused = refusal(karvelorn, 3, bench.machine.copy().block, 5, [0x00003110, 0x00000001])
+    assert len(refused.done.frames) == 2 and refused.done.taken == 1
+    last = bench.machine.copy().blocks(4, [0x00003110, 0x00000001])
+    assert len(next(last)) == 2 and refusal(karvelorn, 3, next, last).done.taken == 1
+    refusal(karvelorn, 5, bench.machine.copy().ring, 1, order=[0])
 
 
 def names(karvelorn):

@@ -47,6 +47,7 @@ use Rattle.order_pitch.proofs.Sorted.{by-pitch-sorted, by-pitch-passes, sorted-
 use Rattle.wave_format.proofs.Samples.{sample-exact}
 use Rattle.bell_passes.proofs.TwoBells.{two-bells}
 use Rattle.rung_alike.proofs.Files.{rung-claims}
+use Rattle.block_joins.proofs.Proved.{block-claims}
 use Rattle.claims.proofs.OrderClaims.{order-claims}
 use Rattle.claims.proofs.PassClaims.{pass-claims}
 use Rattle.claims.proofs.TimerClaims.{timer-claims}
@@ -104,6 +105,7 @@ claims =
       heard-passes = heard-passes;
       heard-all = heard-all;
       rung = rung-claims;
+      blocks = block-claims;
       worked-examples = worked-examples;
       fresh-good = λ text. record { whole = fresh-length; is-sound = fresh-sound text };
       pass-keeps = pass-sound;

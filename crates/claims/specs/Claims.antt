@@ -63,6 +63,7 @@ use Rattle.equal_ringings.specs.Ringings.{NoneWaits, EqualThroughout}
 use Rattle.equal_ringings.specs.WokenLater.{wokenLater, wokenFirst, wokenLast}
 use Rattle.bell_passes.specs.TwoBells.{TwoBells}
 use Rattle.rung_alike.specs.RungClaims.{RungClaims}
+use Rattle.block_joins.specs.BlockClaims.{BlockClaims}
 use Rattle.claims.specs.OrderClaims.{OrderClaims}
 use Rattle.claims.specs.PassClaims.{PassClaims}
 use Rattle.claims.specs.TimerClaims.{TimerClaims}
@@ -165,6 +166,8 @@ pub record Claims : Type 0 where
       → length (heard text by n m memory commands .machines) ≡ n
   -- A bench file rung by an order.
   pub rung : RungClaims
+  -- Blocks of passes are what is heard, and they join.
+  pub blocks : BlockClaims
   -- The twelve worked examples.
   pub worked-examples : WorkedExamples
   -- A fresh machine passes questions 1 and 2, and a pass, a command and an update keep them.

@@ -13,6 +13,7 @@ ghost use Rattle.join_model.specs.Join.{joinOf};
 ghost use Rattle.texts.specs.declared.Text.the-variants.{Of1978, Old};
 ghost use Rattle.chain.specs.Chain.{chainOf};
 ghost use Rattle.bench_read.specs.Read.{readInto};
+ghost use Rattle.bench_block.specs.Block.{blockOf};
 use chain_numbers::Numbers;
 use order_sums::Kept;
 use sums::Clipped;
@@ -280,4 +281,83 @@ pub extern "C" fn karvelorn_read(
     *passes = answer.passes;
     *count = answer.count;
     answer.number
+}
+
+// A block of passes of a machine of a text. The answer is the number of the refusing question or 0; done gets how many passes were done, taken how many commands were taken.
+fn ring(
+    text: Text,
+    m: &mut [u32],
+    memory: &mut [u32],
+    commands: &[u32],
+    order: &[u32],
+    passes: u32,
+    dacs: &[u32],
+    frames: &mut [u32],
+    done: &mut u32,
+    taken: &mut usize,
+) -> u32
+    ensures { λ r. ⌜ record { number = r; done = now (done .exit); taken = now (taken .exit); machine = now (m .exit); memory = now (memory .exit); frames = now (frames .exit) } ≡ blockOf text (now (m .entry)) (record { memory = now (memory .entry); commands = now (commands .entry); order = now (order .entry); passes = passes; dacs = now (dacs .entry); frames = now (frames .entry) }) ⌝ }
+{
+    let block = bench_block::ring(text, m, memory, commands, order, passes, dacs, frames);
+    *done = block.done;
+    *taken = block.taken;
+    block.number
+}
+
+// A block of passes.
+#[no_mangle]
+pub extern "C" fn karvelorn_ring(
+    m: &mut [u32],
+    memory: &mut [u32],
+    commands: &[u32],
+    order: &[u32],
+    passes: u32,
+    dacs: &[u32],
+    frames: &mut [u32],
+    done: &mut u32,
+    taken: &mut usize,
+) -> u32
+    ensures { λ r. ⌜ record { number = r; done = now (done .exit); taken = now (taken .exit); machine = now (m .exit); memory = now (memory .exit); frames = now (frames .exit) } ≡ blockOf Of1978 (now (m .entry)) (record { memory = now (memory .entry); commands = now (commands .entry); order = now (order .entry); passes = passes; dacs = now (dacs .entry); frames = now (frames .entry) }) ⌝ }
+{
+    ring(
+        Text::Of1978,
+        m,
+        memory,
+        commands,
+        order,
+        passes,
+        dacs,
+        frames,
+        done,
+        taken,
+    )
+}
+
+// A block of passes of a machine of the older text, which no updates follow.
+#[no_mangle]
+pub extern "C" fn karvelorn_old_ring(
+    m: &mut [u32],
+    memory: &mut [u32],
+    commands: &[u32],
+    order: &[u32],
+    passes: u32,
+    dacs: &[u32],
+    frames: &mut [u32],
+    done: &mut u32,
+    taken: &mut usize,
+) -> u32
+    ensures { λ r. ⌜ record { number = r; done = now (done .exit); taken = now (taken .exit); machine = now (m .exit); memory = now (memory .exit); frames = now (frames .exit) } ≡ blockOf Old (now (m .entry)) (record { memory = now (memory .entry); commands = now (commands .entry); order = now (order .entry); passes = passes; dacs = now (dacs .entry); frames = now (frames .entry) }) ⌝ }
+{
+    ring(
+        Text::Old,
+        m,
+        memory,
+        commands,
+        order,
+        passes,
+        dacs,
+        frames,
+        done,
+        taken,
+    )
 }

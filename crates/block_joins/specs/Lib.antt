@@ -1,0 +1,2 @@
+pub mod InBlocks
+pub mod BlockClaims

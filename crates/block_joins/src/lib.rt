@@ -1,0 +1,1 @@
+// Blocks beside what is heard, and blocks joined: definitions and laws only.
