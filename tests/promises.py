@@ -80,7 +80,7 @@ FORMS = (
 )
 
 # Records of equations that contracts of inner functions use.
-EQUATIONS = ("≡", "Word ", "Wave ")
+EQUATIONS = ("≡", "Word ", "Wave ", "RunsOf ")
 
 FUNCTION = re.compile(r"^ *pub (?:extern \"C\" )?fn (\w+).*?^ *\{$", re.M | re.S)
 

@@ -26,6 +26,7 @@ is-traceable text m e =
       reaches = reaches m (passed .0);
       ticks = sound-controls text m (passed .1) .tHigh;
       gsums = λ g h. sound-generator text m (passed .1) g h .gsum;
+      gmodes = record { gmodes = λ g h. sound-generator text m (passed .1) g h .gmode };
     }
 
 -- The questions by pairs.

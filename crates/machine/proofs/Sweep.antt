@@ -17,7 +17,7 @@ use Rattle.machine_sweep.specs.Columns.{everyWord}
 use Rattle.machine_sweep.proofs.Words.{word-from}
 use Rattle.machine_sweep.proofs.EveryColumn.{everyColumn, limitTests, word-and}
 use Rattle.machine.specs.Questions.{bits, goodGmode, goodAddress, goodMmode, test, delayMode, generatorRegisters, modifierRegisters, delayRegisters, regions, testAt, wordPasses, sound}
-use Rattle.machine.specs.Loops.{limitsOf, runField, oscillatorField, oldField, functionField, delayField, modesBuilt, generatorsWithin, modifiersWithin, controlsWithin, delaysWithin, ticksCounted}
+use Rattle.machine.specs.Loops.{limitsOf, modesField, functionField, delayField, modesBuilt, functionsBuilt, generatorsWithin, modifiersWithin, controlsWithin, delaysWithin, ticksCounted}
 use Rattle.machine.proofs.Words.{gmode-is, old-gmode-is, address-and, mmode-is, delay-mode-is}
 use Rattle.machine.proofs.Limits.{region-swept}
 use Rattle.machine.proofs.Regions.{wordsOf, region, everyRegion, regions-columns}
@@ -40,29 +40,13 @@ sound-columns text m =
     ∙ ap (λ (b : Bool). b && ticksCounted m)
     (by-region text m ∙ ap (allBelow (λ i. testAt (regions text) i (getD m i 0))) (sym (regions-cover text)) ∙ regions-columns (regions text) m)
 
--- The further tests of GMODE, of n generators.
-abbrev modesTested : Text → List ℕ → ℕ → Bool
-modesTested Of1978 m n = everyWord runField m 0 11 10 n && everyWord oscillatorField m 0 11 10 n
-modesTested Old m n = everyWord oldField m 0 11 10 n
-
-modes-tested : (text : Text) (m : List ℕ) → modesBuilt text m ≡ modesTested text m 256
-unfolding modesBuilt
-modes-tested Of1978 m = rw (word-from runField m 0 11 10 256, word-from oscillatorField m 0 11 10 256)
-modes-tested Old m = word-from oldField m 0 11 10 256
-
 -- A region's widths and its further tests are its registers' tests.
 generators-are : (text : Text) (m : List ℕ) (n : ℕ)
-    → (everyColumn (limitTests (limitsOf (generatorRegisters text))) m 0 11 0 n && modesTested text m n)
+    → (everyColumn (limitTests (limitsOf (generatorRegisters text))) m 0 11 0 n && everyWord (modesField text) m 0 11 10 n)
     ≡ everyColumn (region (regions text) 0 .tests) m 0 11 0 n
 unfolding regions limitTests
-generators-are Of1978 m n =
-    simp (
-      word-and (bits 10) (λ x. runField x && oscillatorField x) (goodGmode Of1978) gmode-is,
-      word-and runField oscillatorField (λ x. runField x && oscillatorField x) (λ x. refl),
-      and-assoc,
-      and-true,
-    )
-generators-are Old m n = simp (word-and (bits 8) oldField (goodGmode Old) old-gmode-is, and-assoc, and-true)
+generators-are Of1978 m n = simp (word-and (bits 10) (modesField Of1978) (goodGmode Of1978) gmode-is, and-assoc, and-true)
+generators-are Old m n = simp (word-and (bits 8) (modesField Old) (goodGmode Old) old-gmode-is, and-assoc, and-true)
 
 -- Two further tests are asked after the widths and stand beside their own.
 apart : (a b c d e f g h x y z : Bool)
@@ -110,16 +94,16 @@ delays-are text m n =
     w j k = everyWord (bits k) m 4119 7 j n
 
 generators-swept : (text : Text) (m : List ℕ) → generatorsWithin text m ≡ everyColumn (region (regions text) 0 .tests) m 0 11 0 256
-unfolding generatorsWithin
+unfolding generatorsWithin modesBuilt
 generators-swept text m =
     rw (
       region-swept (generatorRegisters text) m 0 44 8 256 (lit< tt) (lit< tt) (λ i. omega arith) refl,
-      modes-tested text m,
+      word-from (modesField text) m 0 11 10 256,
     )
     (generators-are text m 256)
 
 modifiers-swept : (text : Text) (m : List ℕ) → modifiersWithin text m ≡ everyColumn (region (regions text) 1 .tests) m 2816 8 0 128
-unfolding modifiersWithin
+unfolding modifiersWithin functionsBuilt
 modifiers-swept text m =
     rw (
       region-swept (modifierRegisters text) m 2816 16 8 128 (lit< tt) (lit< tt) (λ i. omega arith) refl,

@@ -1,18 +1,18 @@
 -- The tests of one word.
 -- Assumes nothing.
 use mathlib.Core.Path.{_≡_, refl, sym, ap, _∙_}
-use mathlib.Core.Bool.{Bool, true, false, cond, not, _&&_}
-use Prim.Native.Nat.{ℕ, _+_, _/_, _%_, _^_, _<_, _≤_}
+use mathlib.Core.Bool.{Bool, true, false, not, _&&_}
+use Prim.Native.Nat.{ℕ, _/_, _%_, _^_, _<_, _≤_}
 use native.Mathlib.Omega.{arith}
 use native.Mathlib.Nat.{mod-eq-of-lt}
 use borrow.Author.Tests.{ltb-true, ltb-false, lt-ltb, eq-eqb, ne-eqb}
 use lib.Dec.{eqb, ltb}
 use Rattle.lists.proofs.Below.{and-first, and-second, and-both}
 use Rattle.modes.specs.Modes.{builtRun, builtOscillator}
-use Rattle.old_modes.specs.OldModes.{oldRun, oldOscillator, oldBuiltModes}
+use Rattle.old_modes.specs.OldModes.{oldBuiltModes}
 use Rattle.built_codes.specs.BuiltCodes.{builtFunction, oldBuiltFunction, builtMode}
 use Rattle.machine.specs.Questions.{bits, builtModes, goodGmode, builtSource, goodAddress, builtMmode, goodMmode, test, delayMode}
-use Rattle.machine.specs.Loops.{runField, oscillatorField, oldField, functionField, delayField}
+use Rattle.machine.specs.Loops.{modesField, functionField, delayField}
 use Rattle.texts.specs.declared.Text.{Text}
 use Rattle.texts.specs.declared.Text.the-variants.{Of1978, Old}
 
@@ -40,35 +40,18 @@ address-and x = by-width (bits 8 x) refl where
   by-width false e = refl
   by-width true e = sym (address-is x ∙ rw e)
 
--- In a word of 10 bits the run mode is the bits from 2^6 on, and in one of 9 bits the function is the bits from 2^4 on.
-pub gmode-is : (x : ℕ) → goodGmode Of1978 x ≡ (bits 10 x && (runField x && oscillatorField x))
-gmode-is x = by-width (bits 10 x) refl where
-  by-width : (b : Bool) → bits 10 x ≡ b → (b && builtModes x) ≡ (b && (runField x && oscillatorField x))
+-- In a word within its width the modes are the whole word.
+within : (w : ℕ) (p : ℕ → Bool) (x : ℕ) → (ltb x w && p x) ≡ (ltb x w && p (x % w))
+within w p x = by-width (ltb x w) refl where
+  by-width : (b : Bool) → ltb x w ≡ b → (b && p x) ≡ (b && p (x % w))
   by-width false e = refl
-  by-width true e =
-      let h : x < 1024 = ltb-true x 1024 e in
-      let low : x / 2 ^ 0 % 32 % 16 ≡ x % 16 = omega arith in
-      rw (mod-eq-of-lt {n = x / 64} {m = 32} (omega arith), low)
+  by-width true e = ap p (sym (mod-eq-of-lt (ltb-true x w e)))
 
--- In a word of 8 bits of the older text the modes of run mode 000 are those below 32; in every other one the modes that are built are the same.
-from-32 : (x : ℕ) → 32 ≤ x → x < 256 → oldBuiltModes x ≡ oldBuiltModes (32 + x % 32)
-unfolding oldBuiltModes
-from-32 x h l =
-    let oscillator : oldOscillator (32 + x % 32) ≡ oldOscillator x = omega arith in
-    let one : (32 + x % 32) / 2 ^ 5 ≡ 1 = omega arith in
-    let here : oldRun (32 + x % 32) ≡ 1 = ap (λ (r : ℕ). r % 2 ^ 3) one in
-    let run : oldRun x ≡ x / 2 ^ 5 = mod-eq-of-lt {n = x / 2 ^ 5} {m = 2 ^ 3} (omega arith) in
-    rw (oscillator, here, run, ne-eqb (x / 2 ^ 5) 0 (λ e. omega arith)) refl
+pub gmode-is : (x : ℕ) → goodGmode Of1978 x ≡ (bits 10 x && modesField Of1978 x)
+gmode-is x = within 1024 builtModes x
 
-pub old-gmode-is : (x : ℕ) → goodGmode Old x ≡ (bits 8 x && oldField x)
-old-gmode-is x = by-width (bits 8 x) refl where
-  by-run : x < 256 → (b : Bool) → ltb x 32 ≡ b → oldBuiltModes x ≡ cond b (oldBuiltModes (x % 32)) (oldBuiltModes (32 + x % 32))
-  by-run l true e = ap oldBuiltModes (sym (mod-eq-of-lt (ltb-true x 32 e)))
-  by-run l false e = from-32 x (ltb-false x 32 e) l
-
-  by-width : (b : Bool) → bits 8 x ≡ b → (b && oldBuiltModes x) ≡ (b && oldField x)
-  by-width false e = refl
-  by-width true e = by-run (ltb-true x 256 e) (ltb x 32) refl
+pub old-gmode-is : (x : ℕ) → goodGmode Old x ≡ (bits 8 x && modesField Old x)
+old-gmode-is x = within 256 oldBuiltModes x
 
 -- A good GMODE has at most 10 bits, a good MMODE 9.
 pub gmode-low : (text : Text) (x : ℕ) → goodGmode text x ≡ true → x < 2 ^ 10

@@ -1,12 +1,11 @@
 -- Question 2 as the code asks it: the widths of a region's registers by the or-ing sweep, then the further tests, field by field.
 -- Readers need only `sound`, to which a law joins these. Assumes nothing.
 use Prim.Native.Nat.{ℕ, _+_, _/_, _%_, _^_}
-use mathlib.Core.Bool.{Bool, cond, _&&_}
+use mathlib.Core.Bool.{Bool, _&&_}
 use mathlib.Core.List.{List, [], _∷_}
 use lib.Dec.{eqb, leb, ltb}
 use lib.ListN.{length, getD}
 use Rattle.lists.specs.Lists.{tabulate}
-use Rattle.modes.specs.Modes.{builtRun, builtOscillator}
 use Rattle.old_modes.specs.OldModes.{oldBuiltModes}
 use Rattle.built_codes.specs.BuiltCodes.{builtFunction, oldBuiltFunction, builtMode}
 use Rattle.layout.specs.Layout.{generatorWords, GMODE, modifierAt, modifierWords, MIN, MRM, MMODE, dxAt, tAt, nAt, counterAt, lingeringAt, lingerPassAt, overrunAt, delayAt, delayWords, delayP, updateTicksAt}
@@ -15,7 +14,7 @@ use Rattle.layout.specs.Widths.{wordBits, counterBits, lingerBits}
 use Rattle.texts.specs.declared.Text.{Text}
 use Rattle.texts.specs.declared.Text.the-variants.{Of1978, Old}
 use Rattle.machine_sweep.specs.Columns.{everyWord, swept}
-use Rattle.machine.specs.Questions.{Register, width, bits, between, generatorRegisters, modifierRegisters, delayRegisters}
+use Rattle.machine.specs.Questions.{Register, width, bits, between, builtModes, generatorRegisters, modifierRegisters, delayRegisters}
 
 -- What the words of registers are below.
 abbrev pub limitsOf : List Register → List ℕ
@@ -26,12 +25,10 @@ limitsOf (r ∷ rs) = 2 ^ width r ∷ limitsOf rs
 unfoldable pub repeated : List ℕ → ℕ → List ℕ
 repeated ls n = tabulate (λ i. getD ls (i % length ls) 0) 0 n
 
--- The run mode, the oscillator mode, the function and a delay unit's mode by five bits of a word: all that its width leaves.
-abbrev pub runField : ℕ → Bool
-runField x = builtRun (x / 2 ^ 6 % 32)
-
-abbrev pub oscillatorField : ℕ → Bool
-oscillatorField x = builtOscillator (x / 2 ^ 0 % 32 % 16)
+-- The modes, the function and a delay unit's mode by the bits of a word that its width leaves, or by more.
+abbrev pub modesField : Text → ℕ → Bool
+modesField Of1978 x = builtModes (x % 1024)
+modesField Old x = oldBuiltModes (x % 256)
 
 abbrev pub built : Text → ℕ → Bool
 built Of1978 = builtFunction
@@ -43,24 +40,23 @@ functionField text x = built text (x / 2 ^ 4 % 32)
 abbrev pub delayField : ℕ → Bool
 delayField x = builtMode (x / 2 ^ 0 % 32 % 16)
 
--- The modes of the older text by the right five bits of GMODE: those of run mode 000, where it is below 32, and those of any other.
-abbrev pub oldField : ℕ → Bool
-oldField x = cond (ltb x 32) (oldBuiltModes (x % 32)) (oldBuiltModes (32 + x % 32))
-
 -- The modes of all generators, within the width of GMODE.
 unfoldable pub modesBuilt : Text → List ℕ → Bool
-modesBuilt Of1978 m = everyWord runField m GMODE generatorWords 0 256 && everyWord oscillatorField m GMODE generatorWords 0 256
-modesBuilt Old m = everyWord oldField m GMODE generatorWords 0 256
+modesBuilt text m = everyWord (modesField text) m GMODE generatorWords 0 256
 
 -- The words of all generators, in rows of four generators.
 unfoldable pub generatorsWithin : Text → List ℕ → Bool
 generatorsWithin text m = swept (repeated (limitsOf (generatorRegisters text)) 44) m 0 8 && modesBuilt text m
 
+-- The functions of all modifiers.
+unfoldable pub functionsBuilt : Text → List ℕ → Bool
+functionsBuilt text m = everyWord (functionField text) m (modifierAt 0 + MMODE) modifierWords 0 128
+
 -- The words of all modifiers, in rows of two modifiers.
 unfoldable pub modifiersWithin : Text → List ℕ → Bool
 modifiersWithin text m =
     swept (repeated (limitsOf (modifierRegisters text)) 16) m (modifierAt 0) 8 && everyWord (λ x. ltb x 192) m (modifierAt 0 + MIN) modifierWords 0 128
-    && everyWord (λ x. ltb x 192) m (modifierAt 0 + MRM) modifierWords 0 128 && everyWord (functionField text) m (modifierAt 0 + MMODE) modifierWords 0 128
+    && everyWord (λ x. ltb x 192) m (modifierAt 0 + MRM) modifierWords 0 128 && functionsBuilt text m
 
 -- DX, T, N, the counter, lingering, the Linger pass and overrun are within their ranges.
 abbrev pub controlsWithin : List ℕ → Bool

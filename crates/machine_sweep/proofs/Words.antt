@@ -1,19 +1,19 @@
 -- Columns word by word: one word more, a column from another place, and fields that a table of flags tells.
 -- Assumes nothing.
 use mathlib.Core.Path.{_≡_, refl, _∙_}
-use mathlib.Core.Bool.{Bool, false, cond, _&&_, Bool·beq}
+use mathlib.Core.Bool.{Bool, false, _&&_, Bool·beq}
 use mathlib.Core.List.{List}
 use Prim.Native.Nat.{ℕ, zero, suc, _+_, _*_, _-_, _/_, _%_, _^_, _<_}
-use native.Mathlib.Nat.{add-zero, mul-le-mul-left}
+use native.Mathlib.Nat.{add-zero, mul-le-mul-left, mod-lt}
 use native.Mathlib.Numerals.{add-one}
 use native.Mathlib.Omega.{arith}
-use lib.Dec.{T, eqb, ltb}
-use lib.ListN.{getD, set, replicate}
+use lib.Dec.{T, eqb}
+use lib.ListN.{length, getD, set, replicate}
 use Rattle.lists.specs.Lists.{allBelow, tabulate}
 use Rattle.lists.proofs.Below.{below-same}
-use Rattle.lists.proofs.Tables.{tabulate-at}
+use Rattle.lists.proofs.Tables.{tabulate-at, tabulate-length}
 use Rattle.lists.proofs.Masks.{bit-tests}
-use Rattle.machine_sweep.specs.Columns.{everyWord, flagOf, flagsOf, flaggedBy}
+use Rattle.machine_sweep.specs.Columns.{everyWord, flagOf, flagsOf}
 
 -- The word of unit k is inside the run where that of the last unit is.
 pub word-inside : (at step k n size : ℕ) → k < n → at + step * n < size + step → at + step * k < size
@@ -65,14 +65,11 @@ fields-tested t p tells shift m at step n r flagged =
     ∙ below-same (λ k. getD t (getD m (at + step * k + 0) 0 / 2 ^ shift % 32) false) (λ k. p (getD m (at + step * k + 0) 0 / 2 ^ shift % 32)) n
     (λ k l. tells (getD m (at + step * k + 0) 0 / 2 ^ shift % 32) (omega arith))
 
--- The same of words by two lists of flags.
-pub words-tested : (low high : List Bool) (p q : ℕ → Bool) → ((i : ℕ) → i < 32 → getD low i false ≡ p i) → ((i : ℕ) → i < 32 → getD high i false ≡ q i)
-    → (limit : ℕ) (m : List ℕ) (at step n : ℕ) (r : Bool)
-    → r ≡ everyWord (flaggedBy low high limit) m at step 0 n → r ≡ everyWord (λ x. cond (ltb x limit) (p (x % 32)) (q (x % 32))) m at step 0 n
-unfolding everyWord flaggedBy
-words-tested low high p q lows highs limit m at step n r flagged =
+-- The same of words by a table of flags, one for each number below w.
+pub words-tested : (t : List Bool) (p : ℕ → Bool) (w : ℕ) → 0 < w → t ≡ tabulate p 0 w → (m : List ℕ) (at step n : ℕ) (r : Bool)
+    → r ≡ everyWord (λ x. getD t (x % length t) false) m at step 0 n → r ≡ everyWord (λ x. p (x % w)) m at step 0 n
+unfolding everyWord
+words-tested t p w some table m at step n r flagged =
     flagged
-    ∙ below-same (λ k. flaggedBy low high limit (getD m (at + step * k + 0) 0)) (λ k. cond (ltb (getD m (at + step * k + 0) 0) limit) (p (getD m (at + step * k + 0) 0 % 32)) (q (getD m (at + step * k + 0) 0 % 32))) n
-    (λ k l.
-    let x = getD m (at + step * k + 0) 0 in
-    rw (lows (x % 32) (omega arith), highs (x % 32) (omega arith)))
+    ∙ below-same (λ k. getD t (getD m (at + step * k + 0) 0 % length t) false) (λ k. p (getD m (at + step * k + 0) 0 % w)) n
+    (λ k l. rw (table, tabulate-length p 0 w) (tabulate-at p w (getD m (at + step * k + 0) 0 % w) false (mod-lt (getD m (at + step * k + 0) 0) some)))

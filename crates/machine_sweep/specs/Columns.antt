@@ -1,7 +1,7 @@
 -- Columns of a run of words, as the code goes over them: word j of every unit, the units being so many words long.
 -- Assumes nothing.
 use Prim.Native.Nat.{ℕ, zero, suc, _+_, _*_, _/_, _%_, _^_}
-use mathlib.Core.Bool.{Bool, false, cond}
+use mathlib.Core.Bool.{Bool}
 use mathlib.Core.List.{List}
 use lib.Dec.{eqb, ltb}
 use lib.Bits.{bitOr}
@@ -31,7 +31,3 @@ flagOf mask k = eqb (mask / 2 ^ k % 2) 1
 
 unfoldable pub flagsOf : ℕ → List Bool
 flagsOf mask = tabulate (flagOf mask) 0 32
-
--- The flag of a word's right five bits, by one list below a limit and by another from it on.
-unfoldable pub flaggedBy : List Bool → List Bool → ℕ → ℕ → Bool
-flaggedBy low high limit x = cond (ltb x limit) (getD low (x % 32) false) (getD high (x % 32) false)

@@ -4,7 +4,7 @@ ghost use mathlib.Core.Bool.{false};
 ghost use Prim.Native.Nat.{_+_, _*_, _/_, _%_, _^_, _<_, _≤_};
 ghost use lib.Dec.{ltb};
 ghost use lib.ListN.{length, getD};
-ghost use Rattle.machine_sweep.specs.Columns.{everyWord, rowsBelow, swept, flagsOf, flaggedBy};
+ghost use Rattle.machine_sweep.specs.Columns.{everyWord, rowsBelow, swept, flagsOf};
 
 // Eight rows of words, one for each limit. The limits are powers of two, so that the or of a column's eight words tells of them all.
 fn rows_below(limits: &[u32], m: &[u32], at: usize) -> bool
@@ -96,35 +96,16 @@ pub fn fields_flagged(
     ok
 }
 
-// The flag of a word's right five bits, by one list for a word below a limit and by another for all others.
-fn flagged(low: &[bool; 32], high: &[bool; 32], x: u32, limit: u32) -> bool
-    ensures { λ r. ⌜ r ≡ flaggedBy (now (low .entry)) (now (high .entry)) limit x ⌝ }
-{
-    let i = (x % 32) as usize;
-    if x < limit {
-        return low[i];
-    }
-    high[i]
-}
-
-// The right five bits of one word of each of n units: each has its flag, by one list for words below a limit and by another for all others.
-pub fn words_flagged(
-    low: &[bool; 32],
-    high: &[bool; 32],
-    m: &[u32],
-    at: usize,
-    step: usize,
-    n: usize,
-    limit: u32,
-) -> bool
-    requires { ⌜ at + step * n < length (now m) + step ⌝ }
-    ensures { λ r. ⌜ r ≡ everyWord (flaggedBy (now (low .entry)) (now (high .entry)) limit) (now (m .entry)) at step 0 n ⌝ }
+// One word of each of n units, by as many of its right bits as there are flags: each has its flag.
+pub fn words_flagged(t: &[bool], m: &[u32], at: usize, step: usize, n: usize) -> bool
+    requires { ⌜ (0 < length (now t)) × (at + step * n < length (now m) + step) ⌝ }
+    ensures { λ r. ⌜ r ≡ everyWord (λ x. getD (now (t .entry)) (x % length (now (t .entry))) false) (now (m .entry)) at step 0 n ⌝ }
 {
     let mut ok = true;
     let mut k: usize = 0;
     while k < n {
-        let flag = flagged(low, high, m[at + step * k], limit);
-        ok = flag & ok;
+        let i = m[at + step * k] as usize % t.len();
+        ok = t[i] & ok;
         k += 1;
     }
     ok

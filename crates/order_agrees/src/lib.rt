@@ -5,8 +5,10 @@ ghost use Rattle.layout.specs.Machine.{ticksOf};
 ghost use Rattle.order.specs.Order.{IsOrder};
 ghost use Rattle.order_agreement.specs.Agreement.{settingsOf};
 ghost use Rattle.order_agreement.specs.Points.{failingWord, firstPoint, agrees};
+ghost use Rattle.order_roles.specs.Runs.{RunsOf};
 ghost use Rattle.order_traces.specs.Traces.{Traceable, traceOf};
 ghost use Rattle.order_points.specs.Loops.{sidesOf};
+use order_roles::Runs;
 use order_traces::Feeders;
 use order_traces::GeneratorPlaces;
 use order_traces::SumWords;
@@ -25,6 +27,7 @@ pub struct Failing {
 fn failing_word(
     text: Text,
     m: &[u32],
+    runs: &Runs,
     first: &[u32],
     second: &[u32],
     place1: &GeneratorPlaces,
@@ -34,7 +37,7 @@ fn failing_word(
     among1: &SumWords,
     among2: &SumWords,
 ) -> Failing
-    requires { ⌜ Traceable (now m) ⌝ }
+    requires { ⌜ Traceable (now m) × RunsOf text (now m) (now runs) ⌝ }
     requires { ⌜ IsOrder (ticksOf (now m)) (now first) × IsOrder (ticksOf (now m)) (now second) ⌝ }
     requires { ⌜ record { first = now place1; second = now place2 } ≡ sidesOf text (now m) (now first) (now second) ⌝ }
     requires { ⌜ (record { last = now last1; among = now among1 } ≡ traceOf text (now m) (now first) .replaced) × (record { last = now last2; among = now among2 } ≡ traceOf text (now m) (now second) .replaced) ⌝ }
@@ -43,6 +46,7 @@ fn failing_word(
     let w = order_points::word_point(
         text,
         m,
+        runs,
         first,
         second,
         place1,
@@ -83,6 +87,7 @@ fn failing_word(
 fn first_failing(
     text: Text,
     m: &[u32],
+    runs: &Runs,
     first: &[u32],
     second: &[u32],
     place1: &GeneratorPlaces,
@@ -97,7 +102,7 @@ fn first_failing(
     among2: &SumWords,
     n: usize,
 ) -> Failing
-    requires { ⌜ Traceable (now m) ⌝ }
+    requires { ⌜ Traceable (now m) × RunsOf text (now m) (now runs) ⌝ }
     requires { ⌜ IsOrder (ticksOf (now m)) (now first) × IsOrder (ticksOf (now m)) (now second) ⌝ }
     requires { ⌜ record { first = now place1; second = now place2 } ≡ sidesOf text (now m) (now first) (now second) ⌝ }
     requires { ⌜ (now fed1 ≡ traceOf text (now m) (now first) .fed) × (now fed2 ≡ traceOf text (now m) (now second) .fed) ⌝ }
@@ -106,7 +111,7 @@ fn first_failing(
     requires { ⌜ n ≡ traceOf text (now m) (now first) .counts .writes ⌝ }
     ensures { λ r. ⌜ record { point = r .point; place = r .place; sounding = r .sounding } ≡ firstPoint (settingsOf text (now (m .entry))) (now (first .entry)) (now (second .entry)) ⌝ }
 {
-    let g = order_points::neighbour_point(text, m, first, second, place1, place2);
+    let g = order_points::neighbour_point(text, m, runs, first, second, place1, place2);
     let t = layout::ticks(m);
     if g != t {
         return Failing {
@@ -134,6 +139,7 @@ fn first_failing(
     failing_word(
         text,
         m,
+        runs,
         first,
         second,
         place1,
@@ -151,6 +157,7 @@ pub fn first_point(text: Text, m: &[u32], first: &[u32], second: &[u32]) -> Fail
     requires { ⌜ IsOrder (ticksOf (now m)) (now first) × IsOrder (ticksOf (now m)) (now second) ⌝ }
     ensures { λ r. ⌜ record { point = r .point; place = r .place; sounding = r .sounding } ≡ firstPoint (settingsOf text (now (m .entry))) (now (first .entry)) (now (second .entry)) ⌝ }
 {
+    let runs = order_roles::runs(text, m);
     let mut place1 = [0u8; layout::GENERATORS];
     let mut place2 = [0u8; layout::GENERATORS];
     let mut fed1 = [0u32; layout::DACS];
@@ -164,6 +171,7 @@ pub fn first_point(text: Text, m: &[u32], first: &[u32], second: &[u32]) -> Fail
     let done = order_traces::trace(
         text,
         m,
+        &runs,
         first,
         &mut place1,
         &mut fed1,
@@ -174,6 +182,7 @@ pub fn first_point(text: Text, m: &[u32], first: &[u32], second: &[u32]) -> Fail
     order_traces::trace(
         text,
         m,
+        &runs,
         second,
         &mut place2,
         &mut fed2,
@@ -184,6 +193,7 @@ pub fn first_point(text: Text, m: &[u32], first: &[u32], second: &[u32]) -> Fail
     first_failing(
         text,
         m,
+        &runs,
         first,
         second,
         &place1,

@@ -2,17 +2,28 @@
 -- Assumes nothing.
 use mathlib.Core.Path.{_≡_, refl}
 use mathlib.Core.Logic.{_≢_}
-use mathlib.Core.Bool.{true, false}
+use mathlib.Core.Bool.{Bool, true, false, _&&_}
 use mathlib.Core.List.{List}
 use Prim.Native.Nat.{ℕ, _-_}
+use lib.Dec.{eqb, leb}
 use lib.ListN.{getD, set}
 use borrow.Author.Tests.{eq-eqb, ne-eqb}
-use Rattle.modes.specs.Modes.{adds}
+use Rattle.modes.specs.Modes.{wait, free, adds}
 use Rattle.layout.specs.Machine.{Machine, gsumAt}
 use Rattle.texts.specs.Texts.{runModeAt, distanceOf}
 use Rattle.texts.specs.declared.Text.{Text}
 use Rattle.order_agreement.specs.Agreement.{settingsOf, awaits}
 use Rattle.order_points.specs.Loops.{Sides, sideBy, neighbourBy, adderBy, markedBy}
+
+-- One that doesn't wait awaits nothing.
+pub not-waiting : (text : Text) (m : Machine) (g : ℕ) {run : ℕ} → run ≡ runModeAt text m g → run ≢ wait → awaits (settingsOf text m) g ≡ false
+not-waiting text m g {run} is h =
+    let e : eqb (runModeAt text m g) wait ≡ false = rw (← is) (ne-eqb run wait h) in
+    rw e (go (leb (distanceOf text) g) (free (runModeAt text m (g - distanceOf text))))
+  where
+    go : (b c : Bool) → ((b && false) && c) ≡ false
+    go true c = refl
+    go false c = refl
 
 -- The first point at g, where it awaits nothing and where it does.
 module _ (text : Text) (m : Machine) (sides : Sides) (g : ℕ) where

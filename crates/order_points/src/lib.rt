@@ -10,8 +10,10 @@ ghost use Rattle.order_lists.specs.Sequences.{firstFailing};
 ghost use Rattle.order.specs.Order.{IsOrder};
 ghost use Rattle.order_agreement.specs.Agreement.{settingsOf};
 ghost use Rattle.order_agreement.specs.Points.{neighbourPoint, feederPoint, writerPoint, wordPoint};
+ghost use Rattle.order_roles.specs.Runs.{RunsOf};
 ghost use Rattle.order_traces.specs.Traces.{Traceable, traceOf};
 ghost use Rattle.order_points.specs.Loops.{sidesOf, sideBy, neighbourBy, sameAt, LastsWithin, markedBy, marksOf, wordBy};
+use order_roles::Runs;
 use order_traces::Feeders;
 use order_traces::GeneratorPlaces;
 use order_traces::SumWords;
@@ -33,14 +35,19 @@ pub fn same_side(place1: &GeneratorPlaces, place2: &GeneratorPlaces, g: usize, h
 fn neighbour_same(
     text: Text,
     m: &[u32],
+    runs: &Runs,
     place1: &GeneratorPlaces,
     place2: &GeneratorPlaces,
     g: usize,
 ) -> bool
     requires { ⌜ Reaches (now m) ⌝ }
-    requires { ⌜ g < generators ⌝ }
+    requires { ⌜ RunsOf text (now m) (now runs) ⌝ }
+    requires { ⌜ (g < ticksOf (now m)) × (ticksOf (now m) ≤ generators) ⌝ }
     ensures { λ r. ⌜ r ≡ neighbourBy text (now (m .entry)) (record { first = now (place1 .entry); second = now (place2 .entry) }) g ⌝ }
 {
+    if order_roles::run_at(text, m, runs, g) != modes::WAIT {
+        return true;
+    }
     if !order_roles::awaits(text, m, g) {
         return true;
     }
@@ -52,12 +59,13 @@ fn neighbour_same(
 pub fn neighbour_point(
     text: Text,
     m: &[u32],
+    runs: &Runs,
     first: &[u32],
     second: &[u32],
     place1: &GeneratorPlaces,
     place2: &GeneratorPlaces,
 ) -> usize
-    requires { ⌜ Traceable (now m) ⌝ }
+    requires { ⌜ Traceable (now m) × RunsOf text (now m) (now runs) ⌝ }
     requires { ⌜ IsOrder (ticksOf (now m)) (now first) × IsOrder (ticksOf (now m)) (now second) ⌝ }
     requires { ⌜ record { first = now place1; second = now place2 } ≡ sidesOf text (now m) (now first) (now second) ⌝ }
     ensures { λ r. ⌜ r ≡ neighbourPoint (settingsOf text (now (m .entry))) (now (first .entry)) (now (second .entry)) ⌝ }
@@ -65,7 +73,7 @@ pub fn neighbour_point(
     let t = layout::ticks(m);
     let mut g: usize = 0;
     while g < t {
-        if !neighbour_same(text, m, place1, place2, g) {
+        if !neighbour_same(text, m, runs, place1, place2, g) {
             return g;
         }
         g += 1;
@@ -128,17 +136,18 @@ pub fn writer_point(
 fn adder(
     text: Text,
     m: &[u32],
+    runs: &Runs,
     place1: &GeneratorPlaces,
     place2: &GeneratorPlaces,
     last: &SumWords,
     marks: &mut Marks,
     g: usize,
 )
-    requires { ⌜ Traceable (now m) ⌝ }
-    requires { ⌜ LastsWithin (now last) × (g < generators) ⌝ }
+    requires { ⌜ Traceable (now m) × RunsOf text (now m) (now runs) ⌝ }
+    requires { ⌜ LastsWithin (now last) × (g < ticksOf (now m)) ⌝ }
     ensures { λ r. ⌜ now (marks .exit) ≡ markedBy text (now (m .entry)) (record { first = now (place1 .entry); second = now (place2 .entry) }) (now (last .entry)) g (now (marks .entry)) ⌝ }
 {
-    if !order_roles::adding(texts::run_mode(text, m, g)) {
+    if !order_roles::adding(order_roles::run_at(text, m, runs, g)) {
         return;
     }
     let w = layout::gsum(m, g);
@@ -156,12 +165,13 @@ fn adder(
 fn adders(
     text: Text,
     m: &[u32],
+    runs: &Runs,
     place1: &GeneratorPlaces,
     place2: &GeneratorPlaces,
     last: &SumWords,
     marks: &mut Marks,
 )
-    requires { ⌜ Traceable (now m) ⌝ }
+    requires { ⌜ Traceable (now m) × RunsOf text (now m) (now runs) ⌝ }
     requires { ⌜ LastsWithin (now last) ⌝ }
     requires { ⌜ now marks ≡ zeros quadrantWords ⌝ }
     ensures { λ r. ⌜ now (marks .exit) ≡ marksOf text (now (m .entry)) (record { first = now (place1 .entry); second = now (place2 .entry) }) (now (last .entry)) (ticksOf (now (m .entry))) ⌝ }
@@ -169,7 +179,7 @@ fn adders(
     let t = layout::ticks(m);
     let mut g: usize = 0;
     while g < t {
-        adder(text, m, place1, place2, last, marks, g);
+        adder(text, m, runs, place1, place2, last, marks, g);
         g += 1;
     }
 }
@@ -214,6 +224,7 @@ fn words(
 pub fn word_point(
     text: Text,
     m: &[u32],
+    runs: &Runs,
     first: &[u32],
     second: &[u32],
     place1: &GeneratorPlaces,
@@ -223,13 +234,13 @@ pub fn word_point(
     among1: &SumWords,
     among2: &SumWords,
 ) -> usize
-    requires { ⌜ Traceable (now m) ⌝ }
+    requires { ⌜ Traceable (now m) × RunsOf text (now m) (now runs) ⌝ }
     requires { ⌜ IsOrder (ticksOf (now m)) (now first) × IsOrder (ticksOf (now m)) (now second) ⌝ }
     requires { ⌜ record { first = now place1; second = now place2 } ≡ sidesOf text (now m) (now first) (now second) ⌝ }
     requires { ⌜ (record { last = now last1; among = now among1 } ≡ traceOf text (now m) (now first) .replaced) × (record { last = now last2; among = now among2 } ≡ traceOf text (now m) (now second) .replaced) ⌝ }
     ensures { λ r. ⌜ r ≡ wordPoint (settingsOf text (now (m .entry))) (now (first .entry)) (now (second .entry)) ⌝ }
 {
     let mut marks = [0u8; layout::QUADRANT_WORDS];
-    adders(text, m, place1, place2, last1, &mut marks);
+    adders(text, m, runs, place1, place2, last1, &mut marks);
     words(last1, last2, among1, among2, &marks)
 }

@@ -13,12 +13,14 @@ use Rattle.texts.specs.declared.Text.{Text}
 use Rattle.texts.specs.Texts.{sourceAt}
 use Rattle.modes.specs.Modes.{readData, writeData, writeDAC}
 use Rattle.order.specs.declared.Counts.{Counts}
+use Rattle.order_roles.specs.Runs.{Within}
 
 -- A machine of which a trace can be made; one that passes questions 1 and 2 is.
 pub record Traceable (m : Machine) : Type 0 where
   pub reaches : Reaches m
   pub ticks : ticksOf m ≤ generators
   pub gsums : (g : ℕ) → g < generators → gsumAt m g < quadrantWords
+  pub gmodes : Within m
 
 -- Of each sum word one more than its last 0111, and the place of that one among all 0111s; 0 where there is none.
 pub record Replaced : Type 0 where

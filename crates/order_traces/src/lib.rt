@@ -4,8 +4,10 @@ ghost use Prim.Native.Nat.{_<_};
 ghost use Rattle.layout.specs.Layout.{generators};
 ghost use Rattle.layout.specs.Machine.{ticksOf};
 ghost use Rattle.order.specs.Order.{IsOrder};
+ghost use Rattle.order_roles.specs.Runs.{RunsOf};
 ghost use Rattle.order_traces.specs.Traces.{Traceable, untraced, replacedBy, traceStep, traceOf};
 use order::Counts;
+use order_roles::Runs;
 use texts::Text;
 
 // A number for each generator: its place in an order.
@@ -35,6 +37,7 @@ fn replace(m: &[u32], last: &mut SumWords, among: &mut SumWords, n: usize, g: us
 fn step(
     text: Text,
     m: &[u32],
+    runs: &Runs,
     place: &mut GeneratorPlaces,
     fed: &mut Feeders,
     written: &mut Writers,
@@ -45,11 +48,12 @@ fn step(
     g: usize,
 ) -> Counts
     requires { ⌜ Traceable (now m) ⌝ }
+    requires { ⌜ RunsOf text (now m) (now runs) × (g < ticksOf (now m)) ⌝ }
     requires { ⌜ (i < generators) × (g < generators) × (done .reads < generators) × (done .writes < generators) ⌝ }
     ensures { λ r. ⌜ record { place = now (place .exit); fed = now (fed .exit); written = now (written .exit); replaced = record { last = now (last .exit); among = now (among .exit) }; counts = r } ≡ traceStep text (now (m .entry)) i g (record { place = now (place .entry); fed = now (fed .entry); written = now (written .entry); replaced = record { last = now (last .entry); among = now (among .entry) }; counts = done }) ⌝ }
 {
     place[g] = i as u8;
-    let run = texts::run_mode(text, m, g);
+    let run = order_roles::run_at(text, m, runs, g);
     if run == modes::WRITE_DAC {
         let d = texts::dac_number(text, m, g);
         fed[d] = texts::source(text, m, g);
@@ -78,6 +82,7 @@ fn step(
 pub fn trace(
     text: Text,
     m: &[u32],
+    runs: &Runs,
     order: &[u32],
     place: &mut GeneratorPlaces,
     fed: &mut Feeders,
@@ -85,7 +90,7 @@ pub fn trace(
     last: &mut SumWords,
     among: &mut SumWords,
 ) -> Counts
-    requires { ⌜ Traceable (now m) ⌝ }
+    requires { ⌜ Traceable (now m) × RunsOf text (now m) (now runs) ⌝ }
     requires { ⌜ IsOrder (ticksOf (now m)) (now order) ⌝ }
     requires { ⌜ record { place = now place; fed = now fed; written = now written; replaced = record { last = now last; among = now among }; counts = record { reads = 0; writes = 0 } } ≡ untraced ⌝ }
     ensures { λ r. ⌜ record { place = now (place .exit); fed = now (fed .exit); written = now (written .exit); replaced = record { last = now (last .exit); among = now (among .exit) }; counts = r } ≡ traceOf text (now (m .entry)) (now (order .entry)) ⌝ }
@@ -97,7 +102,7 @@ pub fn trace(
     let mut i: usize = 0;
     while i < order.len() {
         let g = layout::wide(order[i]);
-        let next = step(text, m, place, fed, written, last, among, done, i, g);
+        let next = step(text, m, runs, place, fed, written, last, among, done, i, g);
         done = next;
         i += 1;
     }

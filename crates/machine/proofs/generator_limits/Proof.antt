@@ -3,17 +3,12 @@
 use mathlib.Core.Path.{refl}
 use Rattle.lists.specs.Lists.{tabulate}
 use Rattle.machine.specs.Loops.{repeated}
-use borrow.Author.Needs.{needs}
 use Rattle.machine.proofs.generator_limits.Statement.{statement}
 use Rattle.machine.proofs.generator_limits.Tie as tie
 
 returns : tie.Need-returns
 unfolding repeated tabulate
-returns c = rw (c .enum-told .given .1) refl
-
-returns-2 : tie.Need-returns-2
-unfolding repeated tabulate
-returns-2 c = rw (c .enum-told2 .given .1) refl
+returns c = refl
 
 pub generator-limits-spec : {M : Type 1} → statement M
-generator-limits-spec = tie.close (tie.spec (λ c. search needs) (λ c. search needs) returns returns-2)
+generator-limits-spec = tie.close (tie.spec returns)

@@ -1,62 +1,79 @@
 -- `machine_sweep::words_flagged` meets its contract: the units passed have flagged words.
 -- Assumes nothing.
 use mathlib.Core.Path.{_≡_, refl}
-use Prim.Native.Nat.{_≤_, _-_}
+use mathlib.Core.Bool.{false}
+use Prim.Native.Nat.{_≤_, _-_, _+_, _*_, _%_}
 use native.Mathlib.Omega.{arith}
-use lib.ListN.{length}
-use Rattle.machine_sweep.specs.Columns.{everyWord, flaggedBy}
+use native.Mathlib.Nat.{mod-lt}
+use lib.ListN.{length, getD}
+use Rattle.machine_sweep.specs.Columns.{everyWord}
 use Rattle.machine_sweep.proofs.Words.{word-inside, word-next}
 use Rattle.machine_sweep.proofs.words_flagged.Statement.{statement}
 use Rattle.machine_sweep.proofs.words_flagged.Tie as tie
 
 abbrev Inv-loop : tie.InvT-loop
-Inv-loop low high m at step n limit ok₀ k₀ ok k = (k ≤ n) × (ok ≡ everyWord (flaggedBy low high limit) m at step 0 k)
+Inv-loop t m at step n ok₀ k₀ ok k = (k ≤ n) × (ok ≡ everyWord (λ x. getD t (x % length t) false) m at step 0 k)
 
 abbrev μ-loop : tie.MeasureT-loop
-μ-loop low high m at step n limit ok₀ k₀ ok k = n - k
+μ-loop t m at step n ok₀ k₀ ok k = n - k
 
 loop-holds : tie.Need-loop-holds Inv-loop μ-loop
 unfolding everyWord
 loop-holds c = (omega arith, refl)
 
-mul-flagged : tie.Need-mul-flagged Inv-loop μ-loop
-mul-flagged c =
+mul-i : tie.Need-mul-i Inv-loop μ-loop
+mul-i c =
     let z = c .before in
-    let a = z .before .before .args in
-    omega (arith, word-inside (a .at) (a .step) (z .loop .k) (a .n) (length (a .m .now)) (omega arith) (z .before .before .pre))
+    let a = z .before .args in
+    omega (arith, word-inside (a .at) (a .step) (z .loop .k) (a .n) (length (a .m .now)) (omega arith) (z .before .pre .1))
 
-add-flagged : tie.Need-add-flagged Inv-loop μ-loop
-add-flagged c =
+add-i : tie.Need-add-i Inv-loop μ-loop
+add-i c =
     let z = c .before in
-    let a = z .before .before .args in
-    omega (arith, word-inside (a .at) (a .step) (z .loop .k) (a .n) (length (a .m .now)) (omega arith) (z .before .before .pre))
+    let a = z .before .args in
+    omega (arith, word-inside (a .at) (a .step) (z .loop .k) (a .n) (length (a .m .now)) (omega arith) (z .before .pre .1))
 
-mul-flagged-2 : tie.Need-mul-flagged-2 Inv-loop μ-loop
-mul-flagged-2 c =
+mul-i-2 : tie.Need-mul-i-2 Inv-loop μ-loop
+mul-i-2 c =
     let z = c .before in
-    let a = z .before .before .args in
-    omega (arith, word-inside (a .at) (a .step) (z .loop .k) (a .n) (length (a .m .now)) (omega arith) (z .before .before .pre))
+    let a = z .before .args in
+    omega (arith, word-inside (a .at) (a .step) (z .loop .k) (a .n) (length (a .m .now)) (omega arith) (z .before .pre .1))
 
-shared-slice-read-flagged : tie.Need-shared-slice-read-flagged Inv-loop μ-loop
-shared-slice-read-flagged c =
+shared-slice-read-i : tie.Need-shared-slice-read-i Inv-loop μ-loop
+shared-slice-read-i c =
     let z = c .before .before in
-    let a = z .before .before .args in
-    omega (arith, word-inside (a .at) (a .step) (z .loop .k) (a .n) (length (a .m .now)) (omega arith) (z .before .before .pre))
+    let a = z .before .args in
+    omega (arith, word-inside (a .at) (a .step) (z .loop .k) (a .n) (length (a .m .now)) (omega arith) (z .before .pre .1))
+
+cast-i : tie.Need-cast-i Inv-loop μ-loop
+cast-i c =
+    let z = c .before .before in
+    let a = z .before .args in
+    omega (arith, c .shared-slice-known .given (a .at + a .step * z .loop .k))
+
+rem-i : tie.Need-rem-i Inv-loop μ-loop
+rem-i c = omega (arith, c .before .before .before .pre .0)
+
+shared-slice-read-ok : tie.Need-shared-slice-read-ok Inv-loop μ-loop
+shared-slice-read-ok c =
+    let z = c .before .before .before in
+    let a = z .before .args in
+    mod-lt (getD (a .m .now) (a .at + a .step * z .loop .k) 0) (z .before .pre .0)
 
 loop-again : tie.Need-loop-again Inv-loop μ-loop
 loop-again c =
     let z = c .before .before .before in
-    let a = z .before .before .args in
-    (omega arith, rw (c .flagged .ensures, z .loop .inv .1) (word-next (flaggedBy (a .low .now) (a .high .now) (a .limit)) (a .m .now) (a .at) (a .step) (z .loop .k)))
+    let a = z .before .args in
+    (omega arith, rw (z .loop .inv .1) (word-next (λ x. getD (a .t .now) (x % length (a .t .now)) false) (a .m .now) (a .at) (a .step) (z .loop .k)))
 
 returns : tie.Need-returns Inv-loop μ-loop
 returns c =
     let z = c .before in
-    let e : z .loop .k ≡ z .before .before .args .n = omega arith in
+    let e : z .loop .k ≡ z .before .args .n = omega arith in
     rw (← e) (z .loop .inv .1)
 
 pub words-flagged-spec : {M : Type 1} → statement M
 words-flagged-spec =
     tie.close
-    (tie.spec Inv-loop μ-loop loop-holds mul-flagged add-flagged mul-flagged-2 shared-slice-read-flagged (λ c κs. tt)
-    (λ c. omega arith) (λ c. omega arith) loop-again returns)
+    (tie.spec Inv-loop μ-loop loop-holds mul-i add-i mul-i-2 shared-slice-read-i cast-i rem-i
+    shared-slice-read-ok (λ c. omega arith) (λ c. omega arith) loop-again returns)

@@ -19,10 +19,10 @@ sounding-requires c κs =
     let a = b .args in
     let p = b .pre .1 in
     let held = p .1 in
-    (b .pre .0, (p .0, (held .0, (held .1, failing-at (a .text) (a .m .now) (a .first .now) (a .second .now) (word .word-point .ensures) (c .if1 .left)))))
+    (b .pre .0 .0, (p .0, (held .0, (held .1, failing-at (a .text) (a .m .now) (a .first .now) (a .second .now) (word .word-point .ensures) (c .if1 .left)))))
 
-cast-t14 : tie.Need-cast-t14
-cast-t14 c =
+cast-t15 : tie.Need-cast-t15
+cast-t15 c =
     let word = c .before .before in
     let a = word .before .before .before .before .args in
     omega (arith, failing-at (a .text) (a .m .now) (a .first .now) (a .second .now) (word .word-point .ensures) (c .before .if1 .left) .0)
@@ -35,4 +35,4 @@ returns-2 c =
     some-word (a .text) (a .m .now) (a .first .now) (a .second .now) (word .word-point .ensures) (fails .if1 .left) (c .sounding .ensures)
 
 pub failing-word-spec : {M : Type 1} → statement M
-failing-word-spec = tie.close (tie.spec (λ c κs. search needs) returns sounding-requires cast-t14 returns-2)
+failing-word-spec = tie.close (tie.spec (λ c κs. search needs) returns sounding-requires cast-t15 returns-2)

@@ -6,13 +6,13 @@ use Rattle.order_agrees.proofs.Agreeing.{neighbour-within, first-fails,
 use Rattle.order_agrees.proofs.first_failing.Statement.{statement}
 use Rattle.order_agrees.proofs.first_failing.Tie as tie
 
-cast-t21 : tie.Need-cast-t21
-cast-t21 c =
+cast-t22 : tie.Need-cast-t22
+cast-t22 c =
     let ticks = c .before in
     let neighbour = ticks .before in
     let b = neighbour .before .before .before .before in
     let a = b .args in
-    omega (arith, b .pre .0 .ticks, ticks .ticks .ensures, neighbour-within (a .text) (a .m .now) (a .first .now) (a .second .now) (neighbour .neighbour-point .ensures) (ticks .ticks .ensures))
+    omega (arith, b .pre .0 .0 .ticks, ticks .ticks .ensures, neighbour-within (a .text) (a .m .now) (a .first .now) (a .second .now) (neighbour .neighbour-point .ensures) (ticks .ticks .ensures))
 
 returns : tie.Need-returns
 returns c =
@@ -22,8 +22,8 @@ returns c =
     let a = b .args in
     first-fails (a .text) (a .m .now) (a .first .now) (a .second .now) (neighbour .neighbour-point .ensures) (ticks .ticks .ensures) (c .if1 .taken)
 
-cast-t22 : tie.Need-cast-t22
-cast-t22 c =
+cast-t23 : tie.Need-cast-t23
+cast-t23 c =
     let feeder = c .before in
     let first = feeder .before in
     let ticks = first .before in
@@ -49,10 +49,10 @@ writer-point-requires c κs =
     let ticks = first .before in
     let b = ticks .before .before .before .before .before in
     let p = b .pre .1 .1 in
-    (b .pre .0, (b .pre .1 .0, (p .1 .1 .0, p .1 .1 .1 .1)))
+    (b .pre .0 .0, (b .pre .1 .0, (p .1 .1 .0, p .1 .1 .1 .1)))
 
-cast-t23 : tie.Need-cast-t23
-cast-t23 c =
+cast-t24 : tie.Need-cast-t24
+cast-t24 c =
     let writer = c .before in
     let second = writer .before in
     let feeder = second .before in
@@ -61,13 +61,13 @@ cast-t23 c =
     let neighbour = ticks .before in
     let b = neighbour .before .before .before .before in
     let a = b .args in
-    let are = writers-are (a .text) (a .m .now) (a .first .now) (a .second .now) (b .pre .0) (b .pre .1 .0 .0) (b .pre .1 .1 .1 .1 .1 .1) in
+    let are = writers-are (a .text) (a .m .now) (a .first .now) (a .second .now) (b .pre .0 .0) (b .pre .1 .0 .0) (b .pre .1 .1 .1 .1 .1 .1) in
     omega (
       arith,
       are,
-      writers-few (a .text) (a .m .now) (a .first .now) (a .second .now) (b .pre .0),
+      writers-few (a .text) (a .m .now) (a .first .now) (a .second .now) (b .pre .0 .0),
       writer-within (a .text) (a .m .now) (a .first .now) (a .second .now) (neighbour .neighbour-point .ensures) (ticks .ticks .ensures) (first .if1 .left) (feeder .feeder-point .ensures) (second .if2 .left) (writer .writer-point .ensures)
-          (writers-are (a .text) (a .m .now) (a .first .now) (a .second .now) (b .pre .0) (b .pre .1 .0 .0) (b .pre .1 .1 .1 .1 .1 .1)),
+          (writers-are (a .text) (a .m .now) (a .first .now) (a .second .now) (b .pre .0 .0) (b .pre .1 .0 .0) (b .pre .1 .1 .1 .1 .1 .1)),
     )
 
 returns-3 : tie.Need-returns-3
@@ -81,7 +81,7 @@ returns-3 c =
     let b = neighbour .before .before .before .before in
     let a = b .args in
     third-fails (a .text) (a .m .now) (a .first .now) (a .second .now) (neighbour .neighbour-point .ensures) (ticks .ticks .ensures) (first .if1 .left) (feeder .feeder-point .ensures) (second .if2 .left) (writer .writer-point .ensures)
-    (writers-are (a .text) (a .m .now) (a .first .now) (a .second .now) (b .pre .0) (b .pre .1 .0 .0) (b .pre .1 .1 .1 .1 .1 .1)) (c .if3 .taken)
+    (writers-are (a .text) (a .m .now) (a .first .now) (a .second .now) (b .pre .0 .0) (b .pre .1 .0 .0) (b .pre .1 .1 .1 .1 .1 .1)) (c .if3 .taken)
 
 failing-word-requires : tie.Need-failing-word-requires
 failing-word-requires c κs =
@@ -108,10 +108,10 @@ returns-4 c =
     let b = neighbour .before .before .before .before in
     let a = b .args in
     fourth (a .text) (a .m .now) (a .first .now) (a .second .now) (neighbour .neighbour-point .ensures) (ticks .ticks .ensures) (first .if1 .left) (feeder .feeder-point .ensures) (second .if2 .left) (writer .writer-point .ensures)
-    (writers-are (a .text) (a .m .now) (a .first .now) (a .second .now) (b .pre .0) (b .pre .1 .0 .0) (b .pre .1 .1 .1 .1 .1 .1)) (third .if3 .left) (c .failing-word .ensures)
+    (writers-are (a .text) (a .m .now) (a .first .now) (a .second .now) (b .pre .0 .0) (b .pre .1 .0 .0) (b .pre .1 .1 .1 .1 .1 .1)) (third .if3 .left) (c .failing-word .ensures)
 
 pub first-failing-spec : {M : Type 1} → statement M
 first-failing-spec =
     tie.close
-    (tie.spec (λ c κs. search needs) (λ c κs. search needs) cast-t21 returns (λ c κs. search needs) cast-t22 returns-2
-    writer-point-requires cast-t23 returns-3 failing-word-requires returns-4)
+    (tie.spec (λ c κs. search needs) (λ c κs. search needs) cast-t22 returns (λ c κs. search needs) cast-t23 returns-2
+    writer-point-requires cast-t24 returns-3 failing-word-requires returns-4)

@@ -10,13 +10,13 @@ use Rattle.order_points.proofs.adders.Statement.{statement}
 use Rattle.order_points.proofs.adders.Tie as tie
 
 abbrev Inv-loop : tie.InvT-loop
-Inv-loop text m place1 place2 last marks₀ t g₀ marks g = (g ≤ t) × (marks ≡ marksOf text m (record { first = place1; second = place2 }) last g)
+Inv-loop text m runs place1 place2 last marks₀ t g₀ marks g = (g ≤ t) × (marks ≡ marksOf text m (record { first = place1; second = place2 }) last g)
 
 abbrev μ-loop : tie.MeasureT-loop
-μ-loop text m place1 place2 last marks₀ t g₀ marks g = t - g
+μ-loop text m runs place1 place2 last marks₀ t g₀ marks g = t - g
 
 ticks-requires : tie.Need-ticks-requires Inv-loop μ-loop
-ticks-requires c κs = c .before .pre .0 .reaches
+ticks-requires c κs = c .before .pre .0 .0 .reaches
 
 loop-holds : tie.Need-loop-holds Inv-loop μ-loop
 loop-holds c =
@@ -29,7 +29,7 @@ adder-requires : tie.Need-adder-requires Inv-loop μ-loop
 adder-requires c κs =
     let z = c .before .before in
     let b = z .before .before .before in
-    (b .pre .0, (b .pre .1 .0, omega (arith, z .before .ticks .ensures, b .pre .0 .ticks)))
+    (b .pre .0, (b .pre .1 .0, omega (arith, z .before .ticks .ensures)))
 
 loop-again : tie.Need-loop-again Inv-loop μ-loop
 loop-again c =

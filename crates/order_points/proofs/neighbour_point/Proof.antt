@@ -13,13 +13,13 @@ use Rattle.order_points.proofs.neighbour_point.Statement.{statement}
 use Rattle.order_points.proofs.neighbour_point.Tie as tie
 
 abbrev Inv-loop : tie.InvT-loop
-Inv-loop text m first second place1 place2 t g₀ g = (g ≤ t) × (firstFailing (neighbourBy text m (record { first = place1; second = place2 })) g ≡ g)
+Inv-loop text m runs first second place1 place2 t g₀ g = (g ≤ t) × (firstFailing (neighbourBy text m (record { first = place1; second = place2 })) g ≡ g)
 
 abbrev μ-loop : tie.MeasureT-loop
-μ-loop text m first second place1 place2 t g₀ g = t - g
+μ-loop text m runs first second place1 place2 t g₀ g = t - g
 
 ticks-requires : tie.Need-ticks-requires Inv-loop μ-loop
-ticks-requires c κs = c .before .before .before .pre .0 .reaches
+ticks-requires c κs = c .before .before .before .pre .0 .0 .reaches
 
 loop-holds : tie.Need-loop-holds Inv-loop μ-loop
 loop-holds c = (omega arith, failing-zero _)
@@ -28,7 +28,7 @@ neighbour-same-requires : tie.Need-neighbour-same-requires Inv-loop μ-loop
 neighbour-same-requires c κs =
     let z = c .before in
     let b = z .before .before .before .before .before in
-    (b .pre .0 .reaches, omega (arith, z .before .ticks .ensures, b .pre .0 .ticks))
+    (b .pre .0 .0 .reaches, (b .pre .0 .1, (omega (arith, z .before .ticks .ensures), b .pre .0 .0 .ticks)))
 
 returns : tie.Need-returns Inv-loop μ-loop
 returns c =
@@ -38,7 +38,7 @@ returns c =
     let sides : Sides = record { first = a .place1 .now; second = a .place2 .now } in
     sym (failing-here (neighbourBy (a .text) (a .m .now) sides) (z .loop .g) (ticksOf (a .m .now)) (omega (arith, z .before .ticks .ensures)) (z .loop .inv .1)
     (sym (c .before .neighbour-same .ensures) ∙ not-true _ (c .if1 .taken)))
-    ∙ neighbours-held (a .text) (a .m .now) (a .first .now) (a .second .now) (b .pre .0) (b .pre .1 .0) (b .pre .1 .1)
+    ∙ neighbours-held (a .text) (a .m .now) (a .first .now) (a .second .now) (b .pre .0 .0) (b .pre .1 .0) (b .pre .1 .1)
 
 loop-again : tie.Need-loop-again Inv-loop μ-loop
 loop-again c =
@@ -57,7 +57,7 @@ returns-2 c =
     let sides : Sides = record { first = a .place1 .now; second = a .place2 .now } in
     let e : z .loop .g ≡ ticksOf (a .m .now) = omega (arith, z .before .ticks .ensures) in
     sym (z .loop .inv .1) ∙ ap (firstFailing (neighbourBy (a .text) (a .m .now) sides)) e
-    ∙ neighbours-held (a .text) (a .m .now) (a .first .now) (a .second .now) (b .pre .0) (b .pre .1 .0) (b .pre .1 .1)
+    ∙ neighbours-held (a .text) (a .m .now) (a .first .now) (a .second .now) (b .pre .0 .0) (b .pre .1 .0) (b .pre .1 .1)
 
 pub neighbour-point-spec : {M : Type 1} → statement M
 neighbour-point-spec =

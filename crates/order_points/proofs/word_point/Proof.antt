@@ -14,7 +14,7 @@ unfolding zeros
 adders-requires c κs =
     let b = c .before .before .before .before in
     let a = b .args in
-    (b .pre .0, (lasts-within (a .text) (a .m .now) (a .first .now) (b .pre .0) (b .pre .1 .0 .0) (b .pre .1 .1 .1 .0), refl))
+    (b .pre .0, (lasts-within (a .text) (a .m .now) (a .first .now) (b .pre .0 .0) (b .pre .1 .0 .0) (b .pre .1 .1 .1 .0), refl))
 
 returns : tie.Need-returns
 returns c =
@@ -25,7 +25,7 @@ returns c =
     let first : Replaced = record { last = a .last1 .now; among = a .among1 .now } in
     let second : Replaced = record { last = a .last2 .now; among = a .among2 .now } in
     c .words .ensures
-    ∙ words-held (a .text) (a .m .now) (a .first .now) (a .second .now) (b .pre .0) (b .pre .1 .0) sides first second
+    ∙ words-held (a .text) (a .m .now) (a .first .now) (a .second .now) (b .pre .0 .0) (b .pre .1 .0) sides first second
     (b .pre .1 .1 .0) (b .pre .1 .1 .1) (marked .adders .ensures)
 
 pub word-point-spec : {M : Type 1} → statement M

@@ -13,7 +13,7 @@ returns c =
     let mode = taken .before in
     let a = mode .before .before .args in
     let t : Trace = record { place = a .place .now; fed = a .fed .now; written = a .written .now; replaced = record { last = a .last .now; among = a .among .now }; counts = a .done } in
-    step-feeds (a .text) (a .m .now) (a .i) (a .g) t (mode .run-mode .ensures) (taken .if1 .taken) (dac .dac-number .ensures .0) (c .source .ensures)
+    step-feeds (a .text) (a .m .now) (a .i) (a .g) t (mode .run-at .ensures) (taken .if1 .taken) (dac .dac-number .ensures .0) (c .source .ensures)
 
 returns-2 : tie.Need-returns-2
 returns-2 c =
@@ -21,7 +21,7 @@ returns-2 c =
     let mode = taken .before .before in
     let a = mode .before .before .args in
     let t : Trace = record { place = a .place .now; fed = a .fed .now; written = a .written .now; replaced = record { last = a .last .now; among = a .among .now }; counts = a .done } in
-    step-writes (a .text) (a .m .now) (a .i) (a .g) t (mode .run-mode .ensures) (taken .if2 .taken) (c .source2 .ensures)
+    step-writes (a .text) (a .m .now) (a .i) (a .g) t (mode .run-at .ensures) (taken .if2 .taken) (c .source2 .ensures)
 
 returns-3 : tie.Need-returns-3
 returns-3 c =
@@ -29,7 +29,7 @@ returns-3 c =
     let mode = taken .before .before .before in
     let a = mode .before .before .args in
     let t : Trace = record { place = a .place .now; fed = a .fed .now; written = a .written .now; replaced = record { last = a .last .now; among = a .among .now }; counts = a .done } in
-    step-replaces (a .text) (a .m .now) (a .i) (a .g) t (mode .run-mode .ensures) (taken .if3 .taken) (c .replace .ensures)
+    step-replaces (a .text) (a .m .now) (a .i) (a .g) t (mode .run-at .ensures) (taken .if3 .taken) (c .replace .ensures)
 
 returns-4 : tie.Need-returns-4
 returns-4 c =
@@ -38,7 +38,7 @@ returns-4 c =
     let mode = first .before in
     let a = mode .before .before .args in
     let t : Trace = record { place = a .place .now; fed = a .fed .now; written = a .written .now; replaced = record { last = a .last .now; among = a .among .now }; counts = a .done } in
-    step-past (a .text) (a .m .now) (a .i) (a .g) t (mode .run-mode .ensures) (first .if1 .left) (second .if2 .left) (c .if3 .left)
+    step-past (a .text) (a .m .now) (a .i) (a .g) t (mode .run-at .ensures) (first .if1 .left) (second .if2 .left) (c .if3 .left)
 
 pub step-spec : {M : Type 1} → statement M
 step-spec =

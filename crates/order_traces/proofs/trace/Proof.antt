@@ -10,7 +10,7 @@ use Rattle.order_traces.proofs.trace.Statement.{statement}
 use Rattle.order_traces.proofs.trace.Tie as tie
 
 abbrev Inv-loop : tie.InvT-loop
-Inv-loop text m order place₀ fed₀ written₀ last₀ among₀ done₀ i₀ place fed written last among done i =
+Inv-loop text m runs order place₀ fed₀ written₀ last₀ among₀ done₀ i₀ place fed written last among done i =
     (i ≤ length order)
     × (traceFrom text m i (drop i order) (record { place = place; fed = fed; written = written; replaced = record { last = last; among = among }; counts = done })
     ≡ traceOf text m order)
@@ -18,7 +18,7 @@ Inv-loop text m order place₀ fed₀ written₀ last₀ among₀ done₀ i₀ p
     × (done .writes ≤ i)
 
 abbrev μ-loop : tie.MeasureT-loop
-μ-loop text m order place₀ fed₀ written₀ last₀ among₀ done₀ i₀ place fed written last among done i = length order - i
+μ-loop text m runs order place₀ fed₀ written₀ last₀ among₀ done₀ i₀ place fed written last among done i = length order - i
 
 loop-holds : tie.Need-loop-holds Inv-loop μ-loop
 loop-holds c =
@@ -30,13 +30,17 @@ step-requires c κs =
     let entry = c .before .before .before .before .before in
     let z = entry .before .before .before in
     let b = z .before .before .before in
+    let able = b .pre .0 .0 in
     let low = b .pre .1 .0 .below (z .loop .i) (omega arith) in (
-      b .pre .0,
+      able,
       (
-        omega (arith, b .pre .0 .ticks, b .pre .1 .0 .entries),
-        omega (arith, entry .wide .ensures, low, b .pre .0 .ticks),
-        omega (arith, z .loop .inv .2, b .pre .0 .ticks, b .pre .1 .0 .entries),
-        omega (arith, z .loop .inv .3, b .pre .0 .ticks, b .pre .1 .0 .entries),
+        (b .pre .0 .1, omega (arith, entry .wide .ensures, low)),
+        (
+          omega (arith, able .ticks, b .pre .1 .0 .entries),
+          omega (arith, entry .wide .ensures, low, able .ticks),
+          omega (arith, z .loop .inv .2, able .ticks, b .pre .1 .0 .entries),
+          omega (arith, z .loop .inv .3, able .ticks, b .pre .1 .0 .entries),
+        ),
       ),
     )
 

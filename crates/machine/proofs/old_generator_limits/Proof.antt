@@ -1,0 +1,14 @@
+-- `machine::old_generator_limits` meets its contract: antt computes the limits from the list of registers.
+-- Assumes nothing.
+use mathlib.Core.Path.{refl}
+use Rattle.lists.specs.Lists.{tabulate}
+use Rattle.machine.specs.Loops.{repeated}
+use Rattle.machine.proofs.old_generator_limits.Statement.{statement}
+use Rattle.machine.proofs.old_generator_limits.Tie as tie
+
+returns : tie.Need-returns
+unfolding repeated tabulate
+returns c = refl
+
+pub old-generator-limits-spec : {M : Type 1} → statement M
+old-generator-limits-spec = tie.close (tie.spec returns)
