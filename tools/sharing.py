@@ -30,8 +30,11 @@ def linked(library, to):
     if not compiler:
         raise Ending("to make the shared library a C compiler is needed: apt install gcc", Status.MISSING)
     made, exports = f"{to}.{os.getpid()}", f"{to}.{os.getpid()}.exports"
-    with open(exports, "w", encoding="utf-8") as file:
-        file.write(EXPORTS)
+    try:
+        with open(exports, "w", encoding="utf-8") as file:
+            file.write(EXPORTS)
+    except OSError as error:
+        raise Ending(f"the shared library can't be linked: {to}: {error.strerror}", Status.UNWRITTEN) from None
     flags = ["-Wl,-soname," + soname(), "-Wl,-z,text", "-Wl,-z,defs", "-Wl,-z,now", "-Wl,--version-script=" + exports]
     done = subprocess.run([compiler, "-shared", "-nostdlib", *flags, "-Wl,--whole-archive", str(library), "-Wl,--no-whole-archive", "-lc", "-o", made],
                           stdout=subprocess.PIPE, stderr=subprocess.STDOUT)
