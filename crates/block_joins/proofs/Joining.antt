@@ -128,8 +128,11 @@ module _ (text : Text) (m : Machine) (call : Call) (more : ℕ) (frames : List �
   both : blockOf text m (callOfBoth call more frames) ≡ blockFrom (call .commands) (call .dacs) (call .frames ++ frames) (thenRung r (rungOn text by k r))
   unfolding blockOf
   both =
-      rw (length-append (call .frames) frames, fit-more (length (call .dacs)) (length (call .frames)) (length frames) (call .passes) more room,
-      blocks-join text by (call .passes) k m (call .memory) (call .commands))
+      rw (
+        length-append (call .frames) frames,
+        fit-more (length (call .dacs)) (length (call .frames)) (length frames) (call .passes) more room,
+        blocks-join text by (call .passes) k m (call .memory) (call .commands),
+      )
 
   pub calls-join : blockOf text m (callOfBoth call more frames) ≡ blocksJoined (blockOf text m call) (blockOf text (blockOf text m call .machine) (callAfter call (blockOf text m call) more frames)) frames
   calls-join =
