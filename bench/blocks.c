@@ -1,7 +1,7 @@
 /* A block of passes in plain C beside the proved one: bench/blocks builds this, and it times both in turn on the same
    machines. The C asks each question once a block, in its first pass, and again after an update that took commands; every
-   other pass and update is that of bench/pass.c and bench/update.c without a question. With the name of a bench file the
-   program rings it by karvelorn_ring in blocks of 64, to be timed beside the program wav. */
+   other pass and update is that of bench/pass.c and bench/update.c without a question. With the name of a bench file and a
+   number the program rings it by karvelorn_ring in blocks of so many passes, to be timed beside the program wav. */
 #define _POSIX_C_SOURCE 199309L
 #include "plain.h"
 
@@ -133,25 +133,27 @@ static int compare(uint32_t t, uint32_t lines, uint32_t passes, uint32_t dacs_le
 }
 
 /* Rings a bench file as a host does. */
-static int ring_file(const char *name) {
+static int ring_file(const char *name, uint32_t block) {
+    enum { FILE_BLOCK_MOST = 1024 };
+    static int32_t heard[2 * FILE_BLOCK_MOST];
     static uint8_t text[65536];
     static uint32_t commands[KARVELORN_COMMANDS], dacs[2] = {0, 1};
     uint32_t kind, passes, done = 0;
     size_t count, taken, from = 0;
     FILE *file = fopen(name, "rb");
-    if (!file) return 2;
+    if (!file || block > FILE_BLOCK_MOST) return 2;
     const size_t bytes = fread(text, 1, sizeof text, file);
     fclose(file);
     uint32_t number = karvelorn_read(text, bytes, machines[0], KARVELORN_WORDS, commands, KARVELORN_COMMANDS, &kind, &passes, &count);
     for (uint32_t left = passes; left && !number; left -= done, from += taken)
         number = karvelorn_ring(machines[0], KARVELORN_WORDS, memories[0], KARVELORN_MEMORY_WORDS, commands + from, count - from, NULL, 0,
-                                left < BLOCK_MOST ? left : BLOCK_MOST, dacs, 2, frames[0], 2 * BLOCK_MOST, &done, &taken);
-    printf("%u %d %d\n", number, frames[0][0], frames[0][1]);
+                                left < block ? left : block, dacs, 2, heard, 2 * FILE_BLOCK_MOST, &done, &taken);
+    printf("%u %d %d\n", number, heard[0], heard[1]);
     return number != 0;
 }
 
 int main(int count, char **arguments) {
-    if (count > 1) return ring_file(arguments[1]);
+    if (count > 2) return ring_file(arguments[1], (uint32_t)atol(arguments[2]));
     print_load();
     int all = compare(256, 0, 64, 2, 1);
     all &= compare(20, 0, 64, 2, 4);

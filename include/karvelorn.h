@@ -756,8 +756,9 @@ uint32_t karvelorn_update(uint32_t *machine, size_t words, const uint32_t *comma
 /* A block: up to so many passes, each followed by an update with the commands still left, and what DACs play after each
  * pass and its update, as audio programs want it. It is what karvelorn_pass, with no items and no places, and
  * karvelorn_update do by turns, in far less time: the questions of a pass are asked once a call, and again only after an
- * update that took commands. Asking, of 65536 words of delay memory too, takes about as long as two passes at T 256: in
- * blocks of 64 it hardly counts, and one pass a call costs about what karvelorn_pass costs.
+ * update that took commands. Asking, of 65536 words of delay memory too, takes about as long as two passes at T 256: of
+ * the time of blocks of 64 it is a thirtieth there, and about a seventh at T 20. One pass a call costs about what
+ * karvelorn_pass costs.
  *
  *   machine, words          the machine, and its length: KARVELORN_WORDS; it is changed in place
  *   memory, memory_words    delay memory, as karvelorn_pass has it; it is changed in place
