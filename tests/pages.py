@@ -1,5 +1,6 @@
-"""What the pages name is there: every crate has its place in the layers of docs/ARCHITECTURE.md, every definition file is
-listed once as to be believed or to be skipped, and every must-fail edit that a page names exists.
+"""What the pages name is there: every crate has its place in the layers of docs/ARCHITECTURE.md, and every must-fail edit that a
+page names exists. A definition file that is to be believed, any but AsCoded.antt, names of those in the code's shape none but what
+docs/ARCHITECTURE.md lists.
 
     python3 tests/pages.py
 """
@@ -25,10 +26,11 @@ def faults():
     crates = {folder.name for folder in CRATES.iterdir() if folder.is_dir()}
     layers = set(re.findall(r"`(\w+)`", "\n".join(line.split("|")[2] for line in page.splitlines() if line.count("|") == 4)))
     yield from (f"the layers lack {name}" for name in sorted(crates - layers))
-    files = {f"{path.parent.parent.name}/{path.stem}" for path in CRATES.glob("*/specs/*.antt") if path.stem != "Lib"}
-    named = re.findall(r"`(\w+/\w+)`", section(page, "Which definitions need belief"))
-    yield from (f"no word on whether to believe {name}" for name in sorted(files - set(named)))
-    yield from (f"a definition file that is not there, or is listed twice: {name}" for name in sorted(set(named)) if name not in files or named.count(name) > 1)
+    named = set(re.findall(r"`(\w+)`", section(page, "Which definitions need belief")))
+    for path in sorted(CRATES.glob("*/specs/*.antt")):
+        brought = re.findall(r"^use Rattle·[^\s{]*\.AsCoded\.\{([^}]*)\}", path.read_text(), re.M) if path.stem != "AsCoded" else []
+        for name in sorted({name.strip() for names in brought for name in names.split(",")} - named):
+            yield f"{path.parent.parent.name}/specs/{path.name} is to be believed and names {name}, which is in the code's shape"
     edits = {f"{path.parent.parent.name}/{path.stem}" for path in CRATES.glob("*/must-fail/*.edit")}
     for path in NAMING:
         for crate, label in re.findall(r"`(\w+)/([a-z][a-z0-9_]+)`", path.read_text()):
@@ -38,7 +40,7 @@ def faults():
 
 def main():
     found = list(faults())
-    print("\n".join(found) if found else "crates, definition files and edits are as the pages name them")
+    print("\n".join(found) if found else "crates and edits are as the pages name them, and what is to be believed names nothing in the code's shape but what is listed")
     sys.exit(1 if found else 0)
 
 

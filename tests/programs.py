@@ -27,7 +27,7 @@ from reference.sorted import sorted_text
 # What `rt try` says of the three ways in which a program is compiled. The interpreter, which takes so many steps and no more, is not asked.
 WAYS = 3
 MATCHES, DIFFERS = (re.compile(f"the native program .* ended{ending} what is expected") for ending in (" and wrote", ", but did not write"))
-STREAMS, RING, WAV, SORTED = ("crates/bench_streams/src/lib.rt", *(f"crates/{name}/src/main.rt" for name in ("ring", "wav", "sorted")))
+STREAMS, RING, WAV, SORTED = ("crates/ring_streams/src/lib.rt", *(f"crates/{name}/src/main.rt" for name in ("ring", "wav", "sorted")))
 TIME_MOST = 1800
 
 
@@ -97,12 +97,12 @@ CASES = {
 
 # Wrong programs
 
-ROOM = ((STREAMS, "FILE_ROOM: usize = bench_lines::FILE_BYTES + 1;", "FILE_ROOM: usize = bench_lines::FILE_BYTES;"),)
+ROOM = ((STREAMS, "FILE_ROOM: usize = file_lines::FILE_BYTES + 1;", "FILE_ROOM: usize = file_lines::FILE_BYTES;"),)
 
 
 def one_byte_less(path):
     """Files are read without the byte more: by the function for all programs, or in main where it stands there."""
-    return ROOM, ((path, "[0u8; bench_lines::FILE_BYTES + 1]", "[0u8; bench_lines::FILE_BYTES]"),)
+    return ROOM, ((path, "[0u8; file_lines::FILE_BYTES + 1]", "[0u8; file_lines::FILE_BYTES]"),)
 
 
 def order_cut(path):
@@ -128,7 +128,7 @@ WRONG = (
         ((RING, "let text = start.text;", "let text = Text::Of1978;"),), ((RING, "let text = reading.text;", "let text = Text::Of1978;"),))),
     Wrong("wav_refusal_on_standard_output", "wav", "wav, a refused file", (
         ((WAV, "io::write_all(STDERR_FILENO, &line[0..error])", "io::write_all(STDOUT_FILENO, &line[0..error])"),),
-        ((WAV, "bench_streams::refuse(STDERR_FILENO, made.number)", "bench_streams::refuse(STDOUT_FILENO, made.number)"),))),
+        ((WAV, "ring_streams::refuse(STDERR_FILENO, made.number)", "ring_streams::refuse(STDOUT_FILENO, made.number)"),))),
     Wrong("sorted_takes_two_files", "sorted", "sorted, two order files", tuple(((path, "if 2 < count {", "if 3 < count {"),) for path in (STREAMS, SORTED))),
     Wrong("sorted_by_its_own_name", "sorted", "sorted, an order file", tuple(((path, "os::arg(1, &mut name)", "os::arg(0, &mut name)"),) for path in (STREAMS, SORTED))),
     Wrong("sorted_without_its_argument", "sorted", "sorted, an order file", tuple(((path, "if count < 2 {", "if count < 3 {"),) for path in (STREAMS, SORTED))),

@@ -1,11 +1,11 @@
 // Whether every order of a machine's generators leaves the same.
 ghost use mathlib.Core.Path.{_≡_};
-ghost use Rattle.order_agreement.specs.Agreement.{settingsOf};
-ghost use Rattle.order_alike.specs.Alike.{countsIn, alike};
-ghost use Rattle.order_counts.specs.KeptCounts.{Countable};
+ghost use Rattle.compare_agreement.specs.Agreement.{settingsOf};
+ghost use Rattle.any_order_model.specs.OrderFree.{countsIn, orderFree};
+ghost use Rattle.any_order_counts.specs.AsCoded.{Countable};
 ghost use Rattle.any_order.specs.AnyOrder.{anyOrderOf};
-ghost use Rattle.texts.specs.declared.Text.the-variants.{Of1978};
-use texts::Text;
+ghost use Rattle.layout_texts.specs.declared.Text.the-variants.{Of1978};
+use layout_texts::Text;
 
 // What the call answers: the number of the refusing question or 0, and whether every order leaves the same.
 pub struct AnyOrder {
@@ -16,11 +16,11 @@ pub struct AnyOrder {
 // Whether the rule holds.
 fn holds(m: &[u32]) -> bool
     requires { ⌜ Countable (now m) ⌝ }
-    ensures { λ r. ⌜ r ≡ alike (countsIn (settingsOf Of1978 (now (m .entry)))) ⌝ }
+    ensures { λ r. ⌜ r ≡ orderFree (countsIn (settingsOf Of1978 (now (m .entry)))) ⌝ }
 {
-    let mut kept = [0u32; order_sums::KEPT];
-    order_counts::count(m, &mut kept);
-    order_rule::alike(&kept)
+    let mut kept = [0u32; any_order_sums::KEPT];
+    any_order_counts::count(m, &mut kept);
+    any_order_rule::order_free(&kept)
 }
 
 // Whether every order of a machine's generators leaves the same. A refused call says no.

@@ -7,8 +7,8 @@ use native.Mathlib.Omega.{arith}
 use borrow.Author.Tests.{ne-eqb}
 use lib.Dec.{lit<}
 use lib.ListN.{length, getD}
-use Rattle.fills.specs.Fills.{filled}
-use Rattle.fills.proofs.Filled.{filled-at, filled-same}
+use Rattle.base_fills.specs.Fills.{filled}
+use Rattle.base_fills.proofs.Filled.{filled-at, filled-same}
 use Rattle.chain_entries.specs.Entries.{Chain, size}
 use Rattle.chain_numbers.specs.Earliest.{modifiers, earliest}
 use Rattle.chain.specs.Chain.{chainRefusal, Numbered, chainOf}

@@ -9,8 +9,8 @@ use native.Mathlib.Omega.{arith}
 use borrow.Author.Tests.{ltb-false}
 use lib.Dec.{ltb, lit<}
 use lib.ListN.{length, getD}
-use Rattle.lists.specs.Lists.{allBelow}
-use Rattle.fills.proofs.Filled.{filled-at}
+use Rattle.base_lists.specs.Lists.{allBelow}
+use Rattle.base_fills.proofs.Filled.{filled-at}
 use Rattle.chain_entries.specs.Entries.{Chain, size, nameOf, chainGood}
 use Rattle.chain_entries.specs.Fits.{Fits}
 use Rattle.chain_entries.proofs.Fitting.{good-chain, fits-chain}

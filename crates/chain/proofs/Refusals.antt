@@ -7,10 +7,10 @@ use Prim.Native.Nat.{ℕ, suc, _+_, _-_, _≤_, _<_}
 use native.Mathlib.Omega.{arith}
 use borrow.Author.Tests.{ltb-true, ltb-false, lt-ltb, le-ltb}
 use lib.Dec.{ltb}
-use Rattle.lists.specs.Lists.{allBelow}
-use Rattle.lists.proofs.Below.{below-at, below-from}
-use Rattle.fills.specs.Fills.{filled}
-use Rattle.questions.specs.Questions.{asked}
+use Rattle.base_lists.specs.Lists.{allBelow}
+use Rattle.base_lists.proofs.Below.{below-at, below-from}
+use Rattle.base_fills.specs.Fills.{filled}
+use Rattle.base_questions.specs.Questions.{asked}
 use Rattle.chain_entries.specs.Entries.{Chain, size, chainGood}
 use Rattle.chain_entries.specs.Fits.{Fits}
 use Rattle.chain_entries.proofs.Fitting.{good-chain}

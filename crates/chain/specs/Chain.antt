@@ -4,9 +4,9 @@ use Prim.Native.Nat.{ℕ}
 use mathlib.Core.Bool.{Bool, cond}
 use mathlib.Core.List.{List, [], _∷_}
 use lib.Dec.{eqb, ltb}
-use Rattle.lists.specs.Lists.{allBelow}
-use Rattle.fills.specs.Fills.{filled}
-use Rattle.questions.specs.Questions.{Question, asked}
+use Rattle.base_lists.specs.Lists.{allBelow}
+use Rattle.base_fills.specs.Fills.{filled}
+use Rattle.base_questions.specs.Questions.{Question, asked}
 use Rattle.chain_entries.specs.Entries.{Chain, size, chainGood}
 use Rattle.chain_numbers.specs.Earliest.{modifiers, earliest}
 

@@ -2,7 +2,7 @@
 ghost use mathlib.Core.Path.{_≡_};
 ghost use Prim.Native.Nat.{_/_, _≤_};
 ghost use lib.ListN.{length, getD};
-ghost use Rattle.fills.specs.Fills.{filled};
+ghost use Rattle.base_fills.specs.Fills.{filled};
 ghost use Rattle.chain_numbers.specs.Earliest.{modifiers, earliest};
 ghost use Rattle.chain.specs.Chain.{chainRefusal, chainOf};
 use chain_numbers::Numbers;

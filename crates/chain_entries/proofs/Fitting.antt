@@ -6,8 +6,8 @@ use Prim.Native.Nat.{ℕ, _%_, _<_}
 use borrow.Author.Tests.{eqb-true, eq-eqb, leb-true, le-leb, ltb-true, lt-ltb}
 use lib.Dec.{eqb, ltb, leb}
 use lib.ListN.{length}
-use Rattle.lists.specs.Lists.{allBelow}
-use Rattle.lists.proofs.Below.{and-first, and-second, and-both, below-at, below-from}
+use Rattle.base_lists.specs.Lists.{allBelow}
+use Rattle.base_lists.proofs.Below.{and-first, and-second, and-both, below-at, below-from}
 use Rattle.chain_entries.specs.Entries.{Chain, size, readOf, endOf, startOf, namesIn, nameOf, namesBelow, entryGood, chainGood}
 use Rattle.chain_entries.specs.Fits.{Fits}
 

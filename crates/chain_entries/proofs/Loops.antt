@@ -8,7 +8,7 @@ use native.Mathlib.Omega.{arith}
 use native.Mathlib.Numerals.{add-one}
 use lib.Dec.{ltb}
 use lib.ListN.{getD}
-use Rattle.lists.specs.Lists.{allBelow}
+use Rattle.base_lists.specs.Lists.{allBelow}
 use Rattle.chain_entries.specs.Entries.{endOf, startOf, namesBelow}
 
 -- Where the names of an entry begin.

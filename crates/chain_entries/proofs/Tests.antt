@@ -6,7 +6,7 @@ use Prim.Native.Nat.{ℕ, _-_, _%_, _≤_, _<_}
 use borrow.Author.Tests.{le-leb, lt-leb}
 use lib.Dec.{eqb}
 use lib.ListN.{length}
-use Rattle.lists.specs.Lists.{allBelow}
+use Rattle.base_lists.specs.Lists.{allBelow}
 use Rattle.chain_entries.specs.Entries.{Chain, size, readOf, endOf, startOf, namesBelow, entryGood, chainGood}
 
 module _ (c : Chain) (i : ℕ) where

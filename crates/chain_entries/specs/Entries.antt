@@ -5,7 +5,7 @@ use mathlib.Core.Bool.{Bool, _&&_}
 use mathlib.Core.List.{List}
 use lib.Dec.{eqb, ltb, leb}
 use lib.ListN.{length, getD}
-use Rattle.lists.specs.Lists.{allBelow}
+use Rattle.base_lists.specs.Lists.{allBelow}
 
 -- A chain as it is handed in, two runs of words. Each entry has two words of the first: 1 where its read is early and 0 where it is late, and where its names end in the second.
 pub record Chain : Type 0 where

@@ -2,7 +2,7 @@
 ghost use mathlib.Core.Path.{_≡_};
 ghost use Prim.Native.Nat.{_+_, _*_, _/_, _≤_, _<_};
 ghost use lib.ListN.{length};
-ghost use Rattle.lists.specs.Lists.{allBelow};
+ghost use Rattle.base_lists.specs.Lists.{allBelow};
 ghost use Rattle.chain_entries.specs.Entries.{endOf, startOf, namesBelow, entryGood, chainGood};
 
 // Where the names of entry i end in the run of names.

@@ -7,13 +7,13 @@ use Prim.Native.Nat.{ℕ, suc, _+_, _-_, _*_, _≤_, _<_}
 use native.Mathlib.Omega.{arith}
 use lib.Dec.{lit<}
 use lib.ListN.{length, getD, set}
-use Rattle.fills.specs.Fills.{filled}
-use Rattle.fills.proofs.Filled.{filled-none, filled-at}
+use Rattle.base_fills.specs.Fills.{filled}
+use Rattle.base_fills.proofs.Filled.{filled-none, filled-at}
 use Rattle.chain_entries.specs.Entries.{Chain, size, endOf, startOf, namesIn, nameOf, chainGood}
 use Rattle.chain_entries.specs.Fits.{Fits}
 use Rattle.chain_entries.proofs.Fitting.{good-chain}
 use Rattle.chain_numbers.specs.Earliest.{lag, highest, earliest, modifiers}
-use Rattle.chain_numbers.specs.Waiting.{Waiting}
+use Rattle.chain_numbers.specs.AsCoded.{Waiting}
 use Rattle.chain_numbers.proofs.Highest.{highest-same}
 use Rattle.chain_numbers.proofs.Earliest.{earliest-first, earliest-next, earliest-small}
 use Rattle.chain_numbers.proofs.Loops.{put-next}

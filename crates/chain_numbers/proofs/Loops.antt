@@ -6,11 +6,11 @@ use Prim.Native.Nat.{ℕ, _+_, _-_, _*_, max}
 use native.Mathlib.Omega.{arith}
 use native.Mathlib.Numerals.{add-one}
 use lib.ListN.{getD, set}
-use Rattle.fills.specs.Fills.{filled}
-use Rattle.fills.proofs.Filled.{filled-next}
+use Rattle.base_fills.specs.Fills.{filled}
+use Rattle.base_fills.proofs.Filled.{filled-next}
 use Rattle.chain_entries.specs.Entries.{endOf, startOf, namesIn}
 use Rattle.chain_numbers.specs.Earliest.{lag, highest}
-use Rattle.chain_numbers.specs.Waiting.{Waiting}
+use Rattle.chain_numbers.specs.AsCoded.{Waiting}
 
 -- One name more is waited on.
 pub highest-next : (f : ℕ → ℕ) (names : List ℕ) (at k least : ℕ) {h w r : ℕ} → h ≡ highest f names at k least → w ≡ f (getD names (at + k) 0) → r ≡ max h w

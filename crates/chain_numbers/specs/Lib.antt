@@ -1,3 +1,3 @@
 pub mod Earliest
 pub mod Numberings
-pub mod Waiting
+pub mod AsCoded

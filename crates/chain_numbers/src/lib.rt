@@ -3,10 +3,10 @@ ghost use mathlib.Core.Path.{_≡_};
 ghost use mathlib.Core.Bool.{true};
 ghost use Prim.Native.Nat.{_+_, _*_, _/_, _≤_, _<_, max};
 ghost use lib.ListN.{length, getD};
-ghost use Rattle.fills.specs.Fills.{filled};
+ghost use Rattle.base_fills.specs.Fills.{filled};
 ghost use Rattle.chain_entries.specs.Entries.{endOf, startOf, namesIn, chainGood};
 ghost use Rattle.chain_numbers.specs.Earliest.{modifiers, lag, highest, earliest};
-ghost use Rattle.chain_numbers.specs.Waiting.{Waiting};
+ghost use Rattle.chain_numbers.specs.AsCoded.{Waiting};
 
 // Numbers of modifiers, one for each entry: there are no more entries than modifiers.
 pub type Numbers = [u32; layout::MODIFIERS];

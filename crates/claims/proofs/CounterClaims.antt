@@ -1,10 +1,10 @@
 -- The claims of the counter, each by the law that shows it.
 -- Assumes nothing.
 use native.Mathlib.Omega.{arith}
-use Rattle.counter_laws.proofs.Words.{same-own, narrow-same, narrow-good}
-use Rattle.counter_laws.proofs.Passes.{passed-alike}
-use Rattle.counter_laws.proofs.Updates.{command-alike, updated-alike}
-use Rattle.counter_laws.proofs.Ringings.{heard-alike, heard-narrow}
+use Rattle.ring_counter.proofs.Words.{same-own, narrow-same, narrow-good}
+use Rattle.ring_counter.proofs.Passes.{passed-alike}
+use Rattle.ring_counter.proofs.Updates.{command-alike, updated-alike}
+use Rattle.ring_counter.proofs.Ringings.{heard-alike, heard-narrow}
 use Rattle.claims.specs.CounterClaims.{CounterClaims}
 
 pub counter-claims : CounterClaims

@@ -5,23 +5,23 @@ use mathlib.Core.Bool.{Bool}
 use mathlib.Core.List.{List}
 use Prim.Native.Nat.{ℕ}
 use lib.ListN.{getD}
-use Rattle.lists.specs.Lists.{allBelow}
-use Rattle.lists.proofs.Below.{both-ways, below-at, below-from}
+use Rattle.base_lists.specs.Lists.{allBelow}
+use Rattle.base_lists.proofs.Below.{both-ways, below-at, below-from}
 use Rattle.layout.specs.Layout.{filePlaces}
-use Rattle.texts.specs.declared.Text.{Text}
-use Rattle.machine.specs.Questions.{regions, testAt, sound}
-use Rattle.machine.proofs.SoundMachine.{sound-at, sound-from}
-use Rattle.bench_file.specs.BenchFile.{fileOf}
-use Rattle.bench_ringing.proofs.RungFile.{file-ticks}
+use Rattle.layout_texts.specs.declared.Text.{Text}
+use Rattle.machine.specs.Questions.{regions, testAt, valid}
+use Rattle.machine.proofs.ValidMachine.{valid-at, valid-from}
+use Rattle.file_bench.specs.BenchFile.{fileOf}
+use Rattle.ring_steps.proofs.RungFile.{file-ticks}
 use Rattle.claims.specs.FileClaims.{FileClaims}
 
-file-good : (text : Text) (file : List ℕ) → sound text (fileOf file .machine) ≡ allBelow (λ i. testAt (regions text) i (getD (fileOf file .machine) i 0)) filePlaces
+file-good : (text : Text) (file : List ℕ) → valid text (fileOf file .machine) ≡ allBelow (λ i. testAt (regions text) i (getD (fileOf file .machine) i 0)) filePlaces
 file-good text file =
     let m = fileOf file .machine in
     let passes : ℕ → Bool = λ i. testAt (regions text) i (getD m i 0) in
-    both-ways (sound text m) (allBelow passes filePlaces)
-    (λ e. below-from passes filePlaces (λ i h. sound-at text m e i h))
-    (λ e. sound-from text m (λ i h. below-at passes filePlaces e i h) (file-ticks file))
+    both-ways (valid text m) (allBelow passes filePlaces)
+    (λ e. below-from passes filePlaces (λ i h. valid-at text m e i h))
+    (λ e. valid-from text m (λ i h. below-at passes filePlaces e i h) (file-ticks file))
 
 pub file-claims : FileClaims
 file-claims = record { file-good = file-good }

@@ -4,9 +4,9 @@ use mathlib.Core.Path.{_≡_, refl, sym, ap, _∙_}
 use Prim.Native.Nat.{ℕ, suc, _+_, _*_, _%_, _^_, _≤_, _<_}
 use native.Mathlib.Nat.{zero-add, add-zero, zero-mod, mod-eq-of-lt, add-mul-mod-self-right}
 use lib.IntN.{ℤ, pos, negsuc, negℤ, _+ℤ_, _*ℤ_}
-use Rattle.words.specs.Words.{lowBits, signed, sum, extended, sumInto, exactSum}
-use Rattle.words.proofs.Differences.{down, neg-up, neg-down}
-use Rattle.words.proofs.Residues.{low-is, low-add, low-signed, sum-is, sum-code, sumInto-is, into-code}
+use Rattle.base_words.specs.Words.{lowBits, signed, sum, extended, sumInto, exactSum}
+use Rattle.base_words.proofs.Differences.{down, neg-up, neg-down}
+use Rattle.base_words.proofs.Residues.{low-is, low-add, low-signed, sum-is, sum-code, sumInto-is, into-code}
 use Rattle.claims.specs.LowBitClaims.{LowBitClaims}
 
 -- A multiple of 2^w has no low bits.

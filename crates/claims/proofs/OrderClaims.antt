@@ -1,7 +1,7 @@
 -- The claims of two orders hold, each by the law that shows it.
 -- Assumes nothing.
 use Rattle.layout.specs.Machine.{ticksOf}
-use Rattle.order.proofs.Entries.{order-passes}
+use Rattle.pass_order.proofs.Entries.{order-passes}
 use Rattle.equal_orders.proofs.Theorem.{equal-but-marks}
 use Rattle.equal_any_order.proofs.AnyOrder.{any-order-rule}
 use Rattle.equal_parts.proofs.Names.{parts-names, parts-none, refused-names, written-places}

@@ -11,11 +11,11 @@ use native.Mathlib.Nat.{pow-suc}
 use borrow.Author.Tests.{ltb-true, ltb-false, lt-ltb, le-leb, eqb-true, eqb-false, ne-eqb}
 use lib.Dec.{eqb, ltb, lit<}
 use lib.ListN.{length, getD, length-append}
-use Rattle.lists.proofs.Below.{and-first, and-second, and-both}
+use Rattle.base_lists.proofs.Below.{and-first, and-second, and-both}
 use Rattle.layout.specs.Widths.{counterBits}
-use Rattle.bench_text.specs.Text.{digits, decimal}
-use Rattle.bench_numbers.specs.Numbers.{digitValue, allDigits, writtenAfter, numberIn, leadingZero, decimalIn}
-use Rattle.bench_numbers.specs.declared.Number.the-variants.{Is}
+use Rattle.file_printed.specs.Text.{digits, decimal}
+use Rattle.file_numbers.specs.Numbers.{digitValue, allDigits, writtenAfter, numberIn, leadingZero, decimalIn}
+use Rattle.file_numbers.specs.declared.Number.the-variants.{Is}
 
 -- A file of digits that writes n, and begins with 0 only if it is that digit alone.
 record Writes (n : ℕ) (file : List ℕ) : Type 0 where

@@ -10,16 +10,16 @@ use borrow.Author.Tests.{eqb-true, eq-eqb, le-leb}
 use lib.Dec.{eqb, ltb}
 use lib.ListN.{length, getD, length-append}
 use lib.Seq.{getD-append-seam, getD-append-add}
-use Rattle.lists.proofs.Below.{and-first, and-second}
+use Rattle.base_lists.proofs.Below.{and-first, and-second}
 use Rattle.layout.specs.Layout.{generators}
 use Rattle.layout.specs.Machine.{Order}
-use Rattle.bench_bytes.specs.Bytes.{startsWith}
-use Rattle.bench_text.specs.Text.{decimal, named, newline}
-use Rattle.bench_numbers.specs.Numbers.{digitValue, allDigits}
-use Rattle.bench_numbers.specs.declared.Number.the-variants.{Is}
-use Rattle.bench_lines.specs.Lines.{prepended, linesOf, ended}
-use Rattle.bench_lines.proofs.FileLines.{ended-by}
-use Rattle.order_file.specs.OrderFile.{orderStart, entryOf, entry, allEntries, isOrderFile, orderOf}
+use Rattle.file_bytes.specs.Bytes.{startsWith}
+use Rattle.file_printed.specs.Text.{decimal, named, newline}
+use Rattle.file_numbers.specs.Numbers.{digitValue, allDigits}
+use Rattle.file_numbers.specs.declared.Number.the-variants.{Is}
+use Rattle.file_lines.specs.Lines.{prepended, linesOf, ended}
+use Rattle.file_lines.proofs.FileLines.{ended-by}
+use Rattle.file_order.specs.OrderFile.{orderStart, entryOf, entry, allEntries, isOrderFile, orderOf}
 use Rattle.sorted_lines.specs.SortedLines.{entryLine, orderLines}
 use Rattle.sorted_lines.proofs.Lines.{order-lines-length}
 use Rattle.claims.proofs.PrintedNumbers.{decimal-digits, printed-below}

@@ -1,7 +1,7 @@
 -- The claims of the sound that program wav writes, each by the law that shows it.
 -- Assumes nothing.
-use Rattle.wave_format.proofs.Samples.{sample-bytes, frame-samples}
-use Rattle.wave_format.proofs.Rates.{rate-nearest}
+use Rattle.file_wave.proofs.Samples.{sample-bytes, frame-samples}
+use Rattle.file_wave.proofs.Rates.{rate-nearest}
 use Rattle.claims.specs.SoundClaims.{SoundClaims}
 
 pub sound-claims : SoundClaims

@@ -10,16 +10,16 @@ use borrow.Author.Tests.{lt-ltb, leb-false}
 use lib.Dec.{T, eqb, leb, lit<}
 use lib.ListN.{length, getD}
 use lib.Seq.{ext-getD}
-use Rattle.lists.proofs.Below.{and-first, and-second, and-both, below-at, below-from}
-use Rattle.lists.proofs.Tables.{tabulate-length, tabulate-at}
-use Rattle.sine.specs.Sine.{entry, indexOf, negative, signOf, magnitude}
-use Rattle.sine.proofs.Exact.{exact-all}
-use Rattle.sine.proofs.Fold.{fold-index, fold-sign}
-use Rattle.sine.proofs.Quarter.{magnitude-at}
-use Rattle.exponential.specs.Exponential.{tableSize, olderSize, bound, within, entry as exponentialEntry, entries}
-use Rattle.exponential.specs.OlderTable.{olderTable}
-use Rattle.exponential.proofs.Entries.{right, right-entry, entry-largest}
-use Rattle.exponential.proofs.OlderTable.{older-table}
+use Rattle.base_lists.proofs.Below.{and-first, and-second, and-both, below-at, below-from}
+use Rattle.base_lists.proofs.Tables.{tabulate-length, tabulate-at}
+use Rattle.generator_sine.specs.Sine.{entry, indexOf, negative, signOf, magnitude}
+use Rattle.generator_sine.proofs.Exact.{exact-all}
+use Rattle.generator_sine.proofs.Fold.{fold-index, fold-sign}
+use Rattle.generator_sine.proofs.Quarter.{magnitude-at}
+use Rattle.generator_exponential.specs.Exponential.{tableSize, olderSize, bound, within, entry as exponentialEntry, entries}
+use Rattle.generator_exponential.specs.OlderTable.{olderTable}
+use Rattle.generator_exponential.proofs.Entries.{right, right-entry, entry-largest}
+use Rattle.generator_exponential.proofs.OlderTable.{older-table}
 use Rattle.claims.specs.TableClaims.{PassesTest, TableClaims}
 
 -- Place and sign in quarter q.

@@ -1,10 +1,10 @@
 -- The claims of Lingers hold, each by the law that shows it.
 -- Assumes nothing.
-use Rattle.machine.proofs.SoundMachine.{reaches}
-use Rattle.texts.specs.declared.Text.the-variants.{Of1978}
+use Rattle.machine.proofs.ValidMachine.{reaches}
+use Rattle.layout_texts.specs.declared.Text.the-variants.{Of1978}
 use Rattle.pass_laws.proofs.Passing.{good-passes}
 use Rattle.pass_laws.proofs.PassSettings.{pass-settings}
-use Rattle.update_laws.proofs.Lingering.{command-overrun, update-overrun, command-quiet, command-waits, update-linger-pass, update-lingers}
+use Rattle.command_laws.proofs.Lingering.{command-overrun, update-overrun, command-quiet, command-waits, update-linger-pass, update-lingers}
 use Rattle.claims.specs.TimerClaims.{TimerClaims}
 
 pub timer-claims : TimerClaims

@@ -7,46 +7,46 @@ use mathlib.Core.Logic.{_↔_, _≢_}
 use mathlib.Core.Path.{_≡_}
 use lib.IntN.{pos, _*ℤ_}
 use lib.ListN.{length, getD, set, replicate}
-use Rattle.words.specs.Words.{signed}
+use Rattle.base_words.specs.Words.{signed}
 use Rattle.layout.specs.Layout.{counterAt, dxAt, lingeringAt, quadrantWords, generators, machineLength, updateTicksAt, generatorAt, GO, dacs}
 use Rattle.layout.specs.Machine.{Machine, Order, Items, Commands, Memory, ticksOf, updateTicks, updateTicksOf, lowCounter}
 use Rattle.layout.specs.Widths.{counterBits, lingerBits}
-use Rattle.texts.specs.declared.Text.{Text}
-use Rattle.texts.specs.declared.Text.the-variants.{Of1978, Old}
-use Rattle.questions.specs.Questions.{asked}
-use Rattle.sine.specs.Sine.{magnitude}
-use Rattle.exponential.specs.Exponential.{tableSize, olderSize, within, Largest, entry as exponentialEntry, entries as exponentialEntries, exponential}
-use Rattle.exponential.specs.OlderTable.{olderTable}
-use Rattle.modes.specs.Modes.{readData, writeData}
+use Rattle.layout_texts.specs.declared.Text.{Text}
+use Rattle.layout_texts.specs.declared.Text.the-variants.{Of1978, Old}
+use Rattle.base_questions.specs.Questions.{asked}
+use Rattle.generator_sine.specs.Sine.{magnitude}
+use Rattle.generator_exponential.specs.Exponential.{tableSize, olderSize, within, Largest, entry as exponentialEntry, entries as exponentialEntries, exponential}
+use Rattle.generator_exponential.specs.OlderTable.{olderTable}
+use Rattle.layout_modes.specs.Modes.{readData, writeData}
 use Rattle.machine.specs.Questions.{question1, question2, freshMachine}
-use Rattle.machine.specs.NarrowCounter.{narrowSound}
+use Rattle.machine.specs.NarrowCounter.{narrowValid}
 use Rattle.delay_questions.specs.Questions.{memoryGood}
-use Rattle.order.specs.Order.{inMode}
-use Rattle.sums.specs.Sums.{sumsOf}
+use Rattle.pass_order.specs.Order.{inMode}
+use Rattle.pass_sums.specs.Sums.{sumsOf}
 use Rattle.pass_model.specs.Generators.{generatorsOf, begun}
 use Rattle.pass_model.specs.Clipped.{noMarks, SumLeft}
 use Rattle.pass_model.specs.Pass.{unitQuestions, Call, plainCall, passOf}
 use Rattle.pass_laws.specs.Good.{Good}
 use Rattle.pass_laws.specs.Passes.{noData, rungBy}
 use Rattle.pass_laws.specs.Settings.{SettingsKept}
-use Rattle.delay_passes.specs.DelayClaims.{DelayClaims}
+use Rattle.pass_delay_laws.specs.DelayClaims.{DelayClaims}
 use Rattle.command_fields.specs.Fields.{dataOf}
 use Rattle.command_timer.specs.Timer.{waitsFor, lingered, ttOf, timed}
 use Rattle.command.specs.Command.{afterCommand}
-use Rattle.update.specs.Update.{stillLingering, updateOf, takenCount}
-use Rattle.order_agreement.specs.Agreement.{settingsOf, Agree}
-use Rattle.order_alike.specs.Parting.{partingOrders}
+use Rattle.command_update.specs.Update.{stillLingering, updateOf, takenCount}
+use Rattle.compare_agreement.specs.Agreement.{settingsOf, Agree}
+use Rattle.any_order_model.specs.Parting.{partingOrders}
 use Rattle.compare.specs.Compare.{compareOf}
 use Rattle.any_order.specs.AnyOrder.{anyOrderOf}
-use Rattle.order_sums.specs.Places.{Kept, alikeAt}
-use Rattle.order_counts.specs.Kept.{keptOf}
+use Rattle.any_order_sums.specs.Places.{Kept, orderFreeAt}
+use Rattle.any_order_counts.specs.Kept.{keptOf}
 use Rattle.machine_change.specs.Change.{Change, dacChange, changedBy, isOf}
-use Rattle.kept_answer.specs.Keeping.{keepOf, changeOf, changesOf}
-use Rattle.kept_answer.specs.Reasons.{Reason}
+use Rattle.any_order_kept.specs.Keeping.{keepOf, changeOf, changesOf}
+use Rattle.any_order_kept.specs.Reasons.{Reason}
 use Rattle.parts.specs.Parts.{partsOf}
 use Rattle.parts_shown.specs.Shown.{passBy, differenceShown, Differ}
-use Rattle.order_pitch.specs.Pitch.{byPitch, SortedByPitch}
-use Rattle.order_file.specs.OrderFile.{isOrderFile, orderOf}
+use Rattle.pass_pitch.specs.Pitch.{byPitch, SortedByPitch}
+use Rattle.file_order.specs.OrderFile.{isOrderFile, orderOf}
 use Rattle.sorted_lines.specs.SortedLines.{orderLines}
 use Rattle.equal_orders.specs.Equal.{Equal}
 use Rattle.equal_orders.specs.WorkedExamples.{WorkedExamples, forth, back}
@@ -61,22 +61,22 @@ use Rattle.chain.specs.Chain.{chainOf}
 use Rattle.chain_views.specs.Sees.{Sees}
 use Rattle.equal_ringings.specs.Ringings.{NoneWaits, EqualThroughout}
 use Rattle.equal_ringings.specs.WokenLater.{wokenLater, wokenFirst, wokenLast}
-use Rattle.bell_passes.specs.TwoBells.{TwoBells}
-use Rattle.rung_alike.specs.RungClaims.{RungClaims}
-use Rattle.block_joins.specs.BlockClaims.{BlockClaims}
+use Rattle.join_passes.specs.TwoBells.{TwoBells}
+use Rattle.ring_alike.specs.RungClaims.{RungClaims}
+use Rattle.ring_block_laws.specs.BlockClaims.{BlockClaims}
 use Rattle.claims.specs.OrderClaims.{OrderClaims}
 use Rattle.claims.specs.PassClaims.{PassClaims}
 use Rattle.claims.specs.TimerClaims.{TimerClaims}
-use Rattle.bench_text.specs.Text.{lineBytes, decimal}
-use Rattle.bench_numbers.specs.Numbers.{decimalIn}
-use Rattle.bench_numbers.specs.declared.Number.the-variants.{Is}
-use Rattle.bench_file.specs.BenchFile.{commandPlaces, fileOf, readOf}
-use Rattle.bench_pass.specs.BenchPass.{Ordering}
-use Rattle.rung_order.specs.declared.By.{By}
-use Rattle.bench_ringing.specs.Heard.{updateAfter, heard}
-use Rattle.bench_ringing.specs.Ringing.{outputOf}
-use Rattle.bench_ringing.specs.Steps.{rungFrom}
-use Rattle.bench_gathering.specs.Gathering.{printedFrom}
+use Rattle.file_printed.specs.Text.{lineBytes, decimal}
+use Rattle.file_numbers.specs.Numbers.{decimalIn}
+use Rattle.file_numbers.specs.declared.Number.the-variants.{Is}
+use Rattle.file_bench.specs.BenchFile.{commandPlaces, fileOf, readOf}
+use Rattle.ring_pass.specs.BenchPass.{Ordering}
+use Rattle.ring_order.specs.declared.By.{By}
+use Rattle.ring_steps.specs.Heard.{updateAfter, heard}
+use Rattle.ring_steps.specs.Ringing.{outputOf}
+use Rattle.ring_steps.specs.AsCoded.{rungFrom}
+use Rattle.ring_gathering.specs.AsCoded.{printedFrom}
 use Rattle.claims.specs.TableClaims.{TableClaims}
 use Rattle.claims.specs.LowBitClaims.{LowBitClaims}
 use Rattle.claims.specs.CounterClaims.{CounterClaims}
@@ -97,15 +97,15 @@ pub record Claims : Type 0 where
   pub orders-apart : (m : Machine) → anyOrderOf m .number ≡ 0 → anyOrderOf m .alike ≡ false
       → Apart m (partingOrders (settingsOf Of1978 m) .first) (partingOrders (settingsOf Of1978 m) .second)
   -- What keep makes, not refused, is the machine's own, and its answer is that of the call above.
-  pub keep-own : (m : Machine) (k : Kept) → keepOf m k .number ≡ 0 → (keepOf m k .kept ≡ keptOf m) × (getD (keptOf m) alikeAt 0 ≡ cond (anyOrderOf m .alike) 1 0)
+  pub keep-own : (m : Machine) (k : Kept) → keepOf m k .number ≡ 0 → (keepOf m k .kept ≡ keptOf m) × (getD (keptOf m) orderFreeAt 0 ≡ cond (anyOrderOf m .alike) 1 0)
   -- From a machine's own words every change, refused or not, leaves the own words of the machine as it then is.
   pub change-own : (m : Machine) (c : Change) → changeOf m (keptOf m) c .kept ≡ keptOf (changeOf m (keptOf m) c .machine)
   -- So after every list of changes from a machine that passes questions 1 and 2, a fresh one among them, the kept answer is the one worked out from the machine as it then is.
   pub changes-answer : (m : Machine) → Good Of1978 m → (cs : List Change)
       → (changesOf m (keptOf m) cs .kept ≡ keptOf (changesOf m (keptOf m) cs .machine))
-      × (getD (changesOf m (keptOf m) cs .kept) alikeAt 0 ≡ cond (anyOrderOf (changesOf m (keptOf m) cs .machine) .alike) 1 0)
+      × (getD (changesOf m (keptOf m) cs .kept) orderFreeAt 0 ≡ cond (anyOrderOf (changesOf m (keptOf m) cs .machine) .alike) 1 0)
   pub changes-fresh : (cs : List Change)
-      → getD (changesOf freshMachine (keptOf freshMachine) cs .kept) alikeAt 0 ≡ cond (anyOrderOf (changesOf freshMachine (keptOf freshMachine) cs .machine) .alike) 1 0
+      → getD (changesOf freshMachine (keptOf freshMachine) cs .kept) orderFreeAt 0 ≡ cond (anyOrderOf (changesOf freshMachine (keptOf freshMachine) cs .machine) .alike) 1 0
   -- A change is refused with 2 exactly for one of the reasons, and a refused one alters neither the machine nor what is kept.
   pub change-refused : (m : Machine) (k : Kept) (c : Change) → length m ≡ machineLength → (changeOf m k c .number ≡ 2) ↔ Reason m c
   pub change-leaves : (m : Machine) (k : Kept) (c : Change) → changeOf m k c .number ≢ 0 → (changeOf m k c .machine ≡ m) × (changeOf m k c .kept ≡ k)
@@ -201,7 +201,7 @@ pub record Claims : Type 0 where
       → getD (passOf text m call .machine) counterAt 0 ≡ (getD m counterAt 0 + 1) % 2 ^ counterBits
   -- Question 2 lets every number of 32 bits through as the counter. A machine that passed it while the counter had 20 bits passes it as it stands, its counter's number unchanged.
   pub counter-any : (text : Text) (m : Machine) → Good text m → (n : ℕ) → n < 2 ^ counterBits → Good text (set m counterAt n)
-  pub narrow-good : (text : Text) (m : Machine) → length m ≡ machineLength → narrowSound text m ≡ true → Good text m
+  pub narrow-good : (text : Text) (m : Machine) → length m ≡ machineLength → narrowValid text m ≡ true → Good text m
   -- The low 20 bits of the counter, with which a Linger is compared, go on from pass to pass as a counter of 20 bits does. Nothing else of the counter decides
   -- whether lingering goes on, whether a Linger waits, and what it leaves in any other word, overrun among them.
   pub low-counted : (text : Text) (m : Machine) (call : Call) → passOf text m call .number ≡ 0 → lowCounter (passOf text m call .machine) ≡ (lowCounter m + 1) % 2 ^ lingerBits

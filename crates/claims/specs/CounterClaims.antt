@@ -4,17 +4,17 @@ use Prim.Native.Nat.{ℕ}
 use lib.ListN.{set}
 use Rattle.layout.specs.Layout.{counterAt}
 use Rattle.layout.specs.Machine.{Machine, Memory, Commands, lowCounter}
-use Rattle.texts.specs.declared.Text.{Text}
-use Rattle.texts.specs.declared.Text.the-variants.{Of1978}
+use Rattle.layout_texts.specs.declared.Text.{Text}
+use Rattle.layout_texts.specs.declared.Text.the-variants.{Of1978}
 use Rattle.pass_model.specs.Pass.{Call, passOf}
 use Rattle.pass_laws.specs.Good.{Good}
 use Rattle.command.specs.Command.{afterCommand}
-use Rattle.update.specs.Update.{updateOf}
-use Rattle.bench_pass.specs.BenchPass.{Ordering}
-use Rattle.bench_ringing.specs.Heard.{heard}
-use Rattle.counter_laws.specs.SameButHigh.{SameButHigh}
-use Rattle.counter_laws.specs.NarrowRinging.{heardNarrow}
-use Rattle.counter_laws.specs.Alike.{PassedAlike, UpdatedAlike, HeardAlike}
+use Rattle.command_update.specs.Update.{updateOf}
+use Rattle.ring_pass.specs.BenchPass.{Ordering}
+use Rattle.ring_steps.specs.Heard.{heard}
+use Rattle.ring_counter.specs.SameButHigh.{SameButHigh}
+use Rattle.ring_counter.specs.NarrowRinging.{heardNarrow}
+use Rattle.ring_counter.specs.Alike.{PassedAlike, UpdatedAlike, HeardAlike}
 
 pub record CounterClaims : Type 0 where
   -- A machine that passes questions 1 and 2 passes them with its counter cut to 20 bits, and then differs in the counter's high bits alone.

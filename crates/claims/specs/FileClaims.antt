@@ -4,12 +4,12 @@ use Prim.Native.Nat.{ℕ}
 use mathlib.Core.List.{List}
 use mathlib.Core.Path.{_≡_}
 use lib.ListN.{getD}
-use Rattle.lists.specs.Lists.{allBelow}
+use Rattle.base_lists.specs.Lists.{allBelow}
 use Rattle.layout.specs.Layout.{filePlaces}
-use Rattle.texts.specs.declared.Text.{Text}
-use Rattle.machine.specs.Questions.{regions, testAt, sound}
-use Rattle.bench_file.specs.BenchFile.{fileOf}
+use Rattle.layout_texts.specs.declared.Text.{Text}
+use Rattle.machine.specs.Questions.{regions, testAt, valid}
+use Rattle.file_bench.specs.BenchFile.{fileOf}
 
 pub record FileClaims : Type 0 where
   -- The machine that a file sets passes question 2, by either text, exactly where the word at each file place passes its own test: the update ticks never fail it.
-  pub file-good : (text : Text) (file : List ℕ) → sound text (fileOf file .machine) ≡ allBelow (λ i. testAt (regions text) i (getD (fileOf file .machine) i 0)) filePlaces
+  pub file-good : (text : Text) (file : List ℕ) → valid text (fileOf file .machine) ≡ allBelow (λ i. testAt (regions text) i (getD (fileOf file .machine) i 0)) filePlaces

@@ -3,7 +3,7 @@
 use Prim.Native.Nat.{ℕ, _+_, _%_, _^_, _≤_, _<_}
 use mathlib.Core.Path.{_≡_}
 use lib.IntN.{ℤ, pos, _+ℤ_, _*ℤ_}
-use Rattle.words.specs.Words.{lowBits, signed, extended}
+use Rattle.base_words.specs.Words.{lowBits, signed, extended}
 
 pub record LowBitClaims : Type 0 where
   -- The low w bits of an integer are the number below 2^w from which it differs by a multiple of 2^w.

@@ -7,14 +7,14 @@ use mathlib.Core.Logic.{_↔_, _≢_, _⊎_}
 use mathlib.Core.Path.{_≡_}
 use lib.ListN.{length}
 use Rattle.layout.specs.Machine.{Machine, Order, Items}
-use Rattle.texts.specs.declared.Text.{Text}
-use Rattle.texts.specs.declared.Text.the-variants.{Of1978}
-use Rattle.modes.specs.Modes.{writeData}
-use Rattle.order.specs.Order.{inMode}
+use Rattle.layout_texts.specs.declared.Text.{Text}
+use Rattle.layout_texts.specs.declared.Text.the-variants.{Of1978}
+use Rattle.layout_modes.specs.Modes.{writeData}
+use Rattle.pass_order.specs.Order.{inMode}
 use Rattle.pass_model.specs.Pass.{Call, by, passOf}
 use Rattle.pass_laws.specs.Good.{Good}
-use Rattle.order_agreement.specs.Agreement.{settingsOf}
-use Rattle.order_alike.specs.Clauses.{Clauses}
+use Rattle.compare_agreement.specs.Agreement.{settingsOf}
+use Rattle.any_order_model.specs.Clauses.{Clauses}
 use Rattle.any_order.specs.AnyOrder.{anyOrderOf}
 use Rattle.parts.specs.Parts.{partsOf}
 use Rattle.equal_orders.specs.Equal.{SameSettings, Equal}

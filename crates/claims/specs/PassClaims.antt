@@ -5,7 +5,7 @@ use mathlib.Core.Logic.{_≢_}
 use mathlib.Core.Path.{_≡_}
 use lib.ListN.{length, getD}
 use Rattle.layout.specs.Machine.{Machine}
-use Rattle.texts.specs.declared.Text.{Text}
+use Rattle.layout_texts.specs.declared.Text.{Text}
 use Rattle.pass_model.specs.Pass.{Call, passOf}
 
 pub record PassClaims : Type 0 where

@@ -4,8 +4,8 @@ use Prim.Native.Nat.{ℕ, _+_, _*_, _/_, _%_, _^_, _≤_, _<_}
 use mathlib.Core.List.{[], _∷_, _++_}
 use mathlib.Core.Path.{_≡_}
 use lib.IntN.{pos, _*ℤ_}
-use Rattle.words.specs.Words.{lowBits, signed}
-use Rattle.wave_format.specs.WaveFormat.{sample, frame, tick, second, rateOf}
+use Rattle.base_words.specs.Words.{lowBits, signed}
+use Rattle.file_wave.specs.WaveFormat.{sample, frame, tick, second, rateOf}
 
 pub record SoundClaims : Type 0 where
   -- The rate of passes of n ticks is the nearest whole number of passes a second: it is at most second / (tick * n) and a half, and the next whole number is more.

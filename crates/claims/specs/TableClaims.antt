@@ -7,10 +7,10 @@ use mathlib.Core.Logic.{_↔_}
 use mathlib.Core.Path.{_≡_}
 use lib.Bits.{bitXor}
 use lib.ListN.{length, getD}
-use Rattle.lists.specs.Lists.{allBelow}
-use Rattle.sine.specs.Sine.{entry, exact, quarter, indexOf, signOf, magnitude}
-use Rattle.exponential.specs.Exponential.{tableSize, olderSize, within, entries}
-use Rattle.exponential.specs.OlderTable.{olderTable}
+use Rattle.base_lists.specs.Lists.{allBelow}
+use Rattle.generator_sine.specs.Sine.{entry, exact, quarter, indexOf, signOf, magnitude}
+use Rattle.generator_exponential.specs.Exponential.{tableSize, olderSize, within, entries}
+use Rattle.generator_exponential.specs.OlderTable.{olderTable}
 
 -- A table of n passes the exponential's test, over all its entries together: at each place f, e^n times 2^f is at most 4,093^n for the entry e, and not for e + 1.
 abbrev pub PassesTest : ℕ → List ℕ → Type 0

@@ -7,14 +7,14 @@ use mathlib.Core.Path.{_≡_}
 use lib.ListN.{getD}
 use Rattle.layout.specs.Layout.{lingeringAt, lingerPassAt, overrunAt}
 use Rattle.layout.specs.Machine.{Machine, Commands}
-use Rattle.texts.specs.declared.Text.{Text}
-use Rattle.texts.specs.declared.Text.the-variants.{Of1978}
+use Rattle.layout_texts.specs.declared.Text.{Text}
+use Rattle.layout_texts.specs.declared.Text.the-variants.{Of1978}
 use Rattle.pass_model.specs.Pass.{Call, passOf}
 use Rattle.pass_laws.specs.Good.{Good}
 use Rattle.command_fields.specs.Fields.{dataOf}
 use Rattle.command.specs.Command.{afterCommand, takenWaiting}
-use Rattle.update.specs.Update.{stillLingering, updateOf}
-use Rattle.update_laws.specs.Lingering.{LastWaits}
+use Rattle.command_update.specs.Update.{stillLingering, updateOf}
+use Rattle.command_laws.specs.Lingering.{LastWaits}
 
 pub record TimerClaims : Type 0 where
   -- A Linger 1 to 4,096 passes behind "sets overrun, for good": once it is 1 it stays 1 after every command and every update, and no pass changes it.

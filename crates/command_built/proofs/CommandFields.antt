@@ -5,8 +5,8 @@ use mathlib.Core.Bool.{Bool, _&&_, _||_}
 use Prim.Native.Nat.{ℕ, _/_, _%_}
 use native.Mathlib.Omega.{arith}
 use borrow.Author.Tests.{lt-ltb}
-use Rattle.modes.specs.Modes.{builtRun, builtOscillator}
-use Rattle.built_codes.specs.BuiltCodes.{builtFunction}
+use Rattle.layout_modes.specs.Modes.{builtRun, builtOscillator}
+use Rattle.layout_codes.specs.BuiltCodes.{builtFunction}
 use Rattle.machine.specs.Questions.{goodAddress}
 use Rattle.command_fields.specs.Fields.{field, flag}
 use Rattle.command_built.specs.Built.{builtGMODE, builtMMODE, builtMRM}

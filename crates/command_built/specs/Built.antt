@@ -4,12 +4,12 @@ use Prim.Native.Nat.{ℕ}
 use mathlib.Core.Bool.{Bool, true, cond, not, _&&_, _||_}
 use mathlib.Core.List.{[], _∷_}
 use lib.Dec.{eqb, leb, ltb}
-use Rattle.questions.specs.Questions.{Question, asked}
+use Rattle.base_questions.specs.Questions.{Question, asked}
 use Rattle.machine.specs.Questions.{goodGmode, goodMmode, goodAddress}
 use Rattle.command_fields.specs.Fields.{field, flag, code4, code5}
 use Rattle.command_timer.specs.Timer.{ticksData}
 use Rattle.command_delay.specs.DelayLoads.{builtDLY}
-use Rattle.texts.specs.declared.Text.the-variants.{Of1978}
+use Rattle.layout_texts.specs.declared.Text.the-variants.{Of1978}
 
 -- MISC with RR 10 or 11 or with S is not built.
 abbrev pub builtMISC : ℕ → Bool

@@ -9,14 +9,14 @@ fn built_gmode(c: u32) -> bool
     ensures { λ r. ⌜ r ≡ builtGMODE c ⌝ }
 {
     let gmode = field(c, 7, 16);
-    flag(c, 4) | (modes::built_run(gmode / 64) & modes::built_oscillator(gmode % 16))
+    flag(c, 4) | (layout_modes::built_run(gmode / 64) & layout_modes::built_oscillator(gmode % 16))
 }
 
 // The function of MMODE disabled, or built.
 fn built_mmode(c: u32) -> bool
     ensures { λ r. ⌜ r ≡ builtMMODE c ⌝ }
 {
-    flag(c, 4) | built_codes::built_function(field(c, 8, 12))
+    flag(c, 4) | layout_codes::built_function(field(c, 8, 12))
 }
 
 // MRM and MIN, each disabled or without top bits 11.

@@ -9,7 +9,7 @@ use lib.ListN.{set}
 use borrow.Author.Tests.{ne-eqb}
 use Rattle.layout.specs.Layout.{delayAt, delayX, delayY, delayZ, delayP}
 use Rattle.layout.specs.Widths.{delayBits}
-use Rattle.built_codes.specs.BuiltCodes.{builtMode}
+use Rattle.layout_codes.specs.BuiltCodes.{builtMode}
 use Rattle.command_delay.specs.DelayLoads.{uuOf, delayData, delayModeData, delayNumber, builtDLY, loadedDLY}
 
 module _ (c : ℕ) {uu : ℕ} (eu : uu ≡ uuOf c) where

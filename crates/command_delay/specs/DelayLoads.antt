@@ -7,7 +7,7 @@ use lib.ListN.{set}
 use Rattle.layout.specs.Layout.{delayAt, delayX, delayY, delayZ, delayP}
 use Rattle.layout.specs.Machine.{Machine}
 use Rattle.layout.specs.Widths.{delayBits}
-use Rattle.built_codes.specs.BuiltCodes.{builtMode}
+use Rattle.layout_codes.specs.BuiltCodes.{builtMode}
 use Rattle.command_fields.specs.Fields.{field}
 
 -- UU, the left 16 data bits, the right 4, and the unit.

@@ -37,7 +37,7 @@ pub fn built_dly(c: u32) -> bool
 {
     match field(c, 29, 30) {
         0b11 => false,
-        0b10 => built_codes::built_mode(field(c, 20, 23)),
+        0b10 => layout_codes::built_mode(field(c, 20, 23)),
         _ => true,
     }
 }

@@ -9,8 +9,8 @@ use native.Mathlib.Omega.{arith}
 use lib.Pow.{pow-pos, pow-mono}
 use lib.ListN.{getD, set}
 use Rattle.layout.specs.Layout.{dxAt}
-use Rattle.words.specs.Words.{signed, extended}
-use Rattle.words.proofs.Residues.{low-low}
+use Rattle.base_words.specs.Words.{signed, extended}
+use Rattle.base_words.proofs.Residues.{low-low}
 use Rattle.command_fields.specs.Fields.{flag, dataOf}
 use Rattle.command_fields.proofs.Shifts.{one-shifted}
 use Rattle.command_load.specs.Loads.{loadedRight, loadedLeft, loadedAdjusted}

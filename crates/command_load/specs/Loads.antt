@@ -6,7 +6,7 @@ use lib.ListN.{getD, set}
 use Rattle.layout.specs.Layout.{dxAt}
 use Rattle.layout.specs.Machine.{Machine}
 use Rattle.layout.specs.Widths.{wordBits}
-use Rattle.words.specs.Words.{extended}
+use Rattle.base_words.specs.Words.{extended}
 use Rattle.command_fields.specs.Fields.{flag, dataOf}
 
 -- A word is loaded unless its disable bit is 1.

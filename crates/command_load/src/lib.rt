@@ -50,7 +50,7 @@ pub fn load_adjusted(m: &mut [u32], c: u32, at: usize, width: u32)
         m[layout::DX_AT] = 0;
         return;
     }
-    m[at] = words::extend20(data) % (1 << width);
+    m[at] = base_words::extend20(data) % (1 << width);
 }
 
 // Two registers are loaded, the first unless bit 4 is 1, the second unless bit 5 is.

@@ -10,7 +10,7 @@ use borrow.Author.Tests.{ne-eqb}
 use lib.Dec.{eqb}
 use lib.ListN.{set}
 use Rattle.layout.specs.Layout.{dxAt}
-use Rattle.modes.specs.Modes.{pause, wait}
+use Rattle.layout_modes.specs.Modes.{pause, wait}
 use Rattle.command_fields.specs.Fields.{field, flag, dataOf}
 use Rattle.command_misc.specs.Misc.{releasedOne, releasedBelow, released, miscellany}
 

@@ -6,9 +6,9 @@ use lib.Dec.{eqb}
 use lib.ListN.{set}
 use Rattle.layout.specs.Layout.{generatorAt, dxAt, GMODE}
 use Rattle.layout.specs.Machine.{Machine, gmodeAt}
-use Rattle.texts.specs.Texts.{runModeAt}
-use Rattle.texts.specs.declared.Text.the-variants.{Of1978}
-use Rattle.modes.specs.Modes.{pause, wait, runningA, withRunMode}
+use Rattle.layout_texts.specs.Texts.{runModeAt}
+use Rattle.layout_texts.specs.declared.Text.the-variants.{Of1978}
+use Rattle.layout_modes.specs.Modes.{pause, wait, runningA, withRunMode}
 use Rattle.command_fields.specs.Fields.{field, flag, dataOf}
 
 -- Generator g goes to 1111 if it is in run mode r, its other mode bits kept.

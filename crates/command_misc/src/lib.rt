@@ -20,7 +20,7 @@ fn release_one(m: &mut [u32], run: u32, g: usize)
     let at = layout::GENERATOR_WORDS * g + layout::GMODE;
     let gmode = m[at];
     if gmode / 64 == run {
-        m[at] = modes::RUNNING_A * 64 + gmode % 64;
+        m[at] = layout_modes::RUNNING_A * 64 + gmode % 64;
     }
 }
 
@@ -62,6 +62,6 @@ pub fn miscellany(m: &mut [u32], c: u32)
     ensures { λ _. ⌜ now (m .exit) ≡ miscellany (now (m .entry)) c ⌝ }
 {
     load_dx(m, c);
-    release_if(m, flag(c, 33), modes::WAIT);
-    release_if(m, flag(c, 34), modes::PAUSE);
+    release_if(m, flag(c, 33), layout_modes::WAIT);
+    release_if(m, flag(c, 34), layout_modes::PAUSE);
 }

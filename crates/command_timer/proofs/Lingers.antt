@@ -10,8 +10,8 @@ use lib.Dec.{lit≤}
 use lib.IntN.{pos, negℤ, _-ℤ_}
 use lib.ListN.{getD, set}
 use borrow.Author.Tests.{eq-eqb, ne-eqb, le-leb, lt-leb}
-use Rattle.words.specs.Words.{lowBits}
-use Rattle.words.proofs.Residues.{low-add, minus-code}
+use Rattle.base_words.specs.Words.{lowBits}
+use Rattle.base_words.proofs.Residues.{low-add, minus-code}
 use Rattle.layout.specs.Layout.{tAt, nAt, counterAt, lingeringAt, lingerPassAt, overrunAt, updateTicksAt}
 use Rattle.layout.specs.Machine.{Reaches, updateTicks, withUpdateTicks}
 use Rattle.layout.proofs.UpdateTicks.{ticks-by-t, ticks-by-n}

@@ -5,7 +5,7 @@ use mathlib.Core.Bool.{Bool, false, cond, not}
 use lib.Dec.{eqb, leb}
 use lib.IntN.{pos, _-ℤ_}
 use lib.ListN.{set}
-use Rattle.words.specs.Words.{lowBits}
+use Rattle.base_words.specs.Words.{lowBits}
 use Rattle.layout.specs.Layout.{tAt, nAt, counterAt, lingeringAt, lingerPassAt, overrunAt}
 use Rattle.layout.specs.Machine.{Machine, withUpdateTicks, lowCounter}
 use Rattle.layout.specs.Widths.{lingerBits}

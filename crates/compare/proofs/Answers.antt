@@ -8,13 +8,13 @@ use Prim.Native.Nat.{ℕ}
 use native.Mathlib.Omega.{arith}
 use borrow.Author.Tests.{ne-eqb}
 use Rattle.machine.specs.Questions.{question1, question2}
-use Rattle.order.specs.Order.{question5, question6}
-use Rattle.order_agreement.specs.Agreement.{settingsOf}
-use Rattle.order_agreement.specs.Points.{agrees}
+use Rattle.pass_order.specs.Order.{question5, question6}
+use Rattle.compare_agreement.specs.Agreement.{settingsOf}
+use Rattle.compare_agreement.specs.Points.{agrees}
 use Rattle.compare.specs.Compare.{Comparison, compareRefusal, compareOf}
-use Rattle.questions.specs.Questions.{asked}
+use Rattle.base_questions.specs.Questions.{asked}
 use Rattle.layout.specs.Machine.{Machine, Order, ticksOf}
-use Rattle.texts.specs.declared.Text.{Text}
+use Rattle.layout_texts.specs.declared.Text.{Text}
 
 module _ (text : Text) (m : Machine) (o₁ o₂ : Order) where
   -- A compare that is not refused has passed the questions of the machine and of each order.

@@ -6,17 +6,17 @@ use mathlib.Core.List.{[], _∷_}
 use Prim.Native.Nat.{ℕ}
 use native.Mathlib.Omega.{arith}
 use Rattle.machine.specs.Questions.{question1, question2}
-use Rattle.machine.proofs.SoundMachine.{reaches, sound-generator, sound-controls}
-use Rattle.order.specs.Order.{question5, question6, IsOrder}
-use Rattle.order.proofs.Entries.{order-passes}
-use Rattle.order_traces.specs.Traces.{Traceable}
+use Rattle.machine.proofs.ValidMachine.{reaches, valid-generator, valid-controls}
+use Rattle.pass_order.specs.Order.{question5, question6, IsOrder}
+use Rattle.pass_order.proofs.Entries.{order-passes}
+use Rattle.compare_traces.specs.AsCoded.{Traceable}
 use Rattle.machine.proofs.Asked.{machine-passes}
 use Rattle.compare.specs.Compare.{compareRefusal}
 use Rattle.compare.proofs.Answers.{compare-passes}
-use Rattle.questions.specs.Questions.{asked}
+use Rattle.base_questions.specs.Questions.{asked}
 use Rattle.layout.specs.Machine.{Machine, Order, ticksOf}
-use Rattle.texts.specs.declared.Text.{Text}
-use Rattle.questions.proofs.Asked.{asked-first, asked-later}
+use Rattle.layout_texts.specs.declared.Text.{Text}
+use Rattle.base_questions.proofs.Asked.{asked-first, asked-later}
 
 -- A machine that passes questions 1 and 2.
 pub is-traceable : (text : Text) (m : Machine) → asked (question1 m ∷ question2 text m ∷ []) ≡ 0 → Traceable m
@@ -24,9 +24,9 @@ is-traceable text m e =
     let passed = machine-passes text m e in
     record {
       reaches = reaches m (passed .0);
-      ticks = sound-controls text m (passed .1) .tHigh;
-      gsums = λ g h. sound-generator text m (passed .1) g h .gsum;
-      gmodes = record { gmodes = λ g h. sound-generator text m (passed .1) g h .gmode };
+      ticks = valid-controls text m (passed .1) .tHigh;
+      gsums = λ g h. valid-generator text m (passed .1) g h .gsum;
+      gmodes = record { gmodes = λ g h. valid-generator text m (passed .1) g h .gmode };
     }
 
 -- The questions by pairs.

@@ -5,12 +5,12 @@ use mathlib.Core.Bool.{Bool, false, cond}
 use mathlib.Core.List.{[], _∷_}
 use lib.Dec.{eqb}
 use Rattle.layout.specs.Machine.{Machine, Order, ticksOf}
-use Rattle.texts.specs.declared.Text.{Text}
-use Rattle.questions.specs.Questions.{asked}
+use Rattle.layout_texts.specs.declared.Text.{Text}
+use Rattle.base_questions.specs.Questions.{asked}
 use Rattle.machine.specs.Questions.{question1, question2}
-use Rattle.order.specs.Order.{question5, question6}
-use Rattle.order_agreement.specs.Agreement.{settingsOf}
-use Rattle.order_agreement.specs.Points.{agrees}
+use Rattle.pass_order.specs.Order.{question5, question6}
+use Rattle.compare_agreement.specs.Agreement.{settingsOf}
+use Rattle.compare_agreement.specs.Points.{agrees}
 
 -- What compare answers: the number of the refusing question or 0, and whether the orders are equal. A refused compare says no.
 pub record Comparison : Type 0 where

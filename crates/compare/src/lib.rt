@@ -1,7 +1,7 @@
 // Whether two orders of the generators are equal.
 ghost use mathlib.Core.Path.{_≡_};
 ghost use Rattle.compare.specs.Compare.{compareRefusal, compareOf};
-use texts::Text;
+use layout_texts::Text;
 
 // What a compare answers: the number of the refusing question or 0, and whether the orders are equal.
 pub struct Compared {
@@ -18,11 +18,11 @@ pub fn refusal(text: Text, m: &[u32], first: &[u32], second: &[u32]) -> u32
         return number;
     }
     let t = layout::ticks(m);
-    let number = order::order_refusal(first, t);
+    let number = pass_order::order_refusal(first, t);
     if number != 0 {
         return number;
     }
-    order::order_refusal(second, t)
+    pass_order::order_refusal(second, t)
 }
 
 // Whether two orders of a machine's generators are equal. A refused compare says no.
@@ -36,6 +36,6 @@ pub fn compare(text: Text, m: &[u32], first: &[u32], second: &[u32]) -> Compared
             equal: false,
         };
     }
-    let equal = order_agrees::agrees(text, m, first, second);
+    let equal = compare_first::agrees(text, m, first, second);
     Compared { number: 0, equal }
 }

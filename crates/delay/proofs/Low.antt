@@ -11,10 +11,10 @@ use lib.Dec.{eqb, ltb, lit<}
 use lib.ListN.{length, getD, set, length-set, List·getD-eq-default}
 use lib.Pow.{pow-pos}
 use lib.Seq.{getD-set-same, getD-set-other}
-use Rattle.lists.proofs.Choices.{of-test}
+use Rattle.base_lists.proofs.Choices.{of-test}
 use Rattle.layout.specs.Machine.{Memory}
 use Rattle.delay.specs.declared.Delay.{Delay}
-use Rattle.delay.specs.Delay.{loaded, Ranged, due, slot, stepped, address, lineTurn, tableTurn, turnOf}
+use Rattle.delay.specs.Delay.{loaded, Ranged, due, slot, stepped, address, lineTurn, tableTurn, delayTurnOf}
 use Rattle.delay.proofs.Turn.{every-turn}
 
 -- A unit that was loaded is within its widths, and the word that is due from it too.
@@ -57,7 +57,7 @@ put-low memory at w h low i l = go (eqb i at) refl
 
 module _ (d : Delay) (memory : Memory) (w : ℕ) where
   -- A turn with a word within its width leaves such words in delay memory.
-  pub memory-low : WordsLow memory → w < 2 ^ 20 → WordsLow (turnOf d memory w .memory)
+  pub memory-low : WordsLow memory → w < 2 ^ 20 → WordsLow (delayTurnOf d memory w .memory)
   unfolding lineTurn tableTurn
   memory-low h low = every-turn d memory w (λ a. WordsLow (a .memory)) (put-low memory (slot d) w h low) h
 
@@ -65,7 +65,7 @@ module _ (d : Delay) (memory : Memory) (w : ℕ) where
   stepped-low r = of-test (λ y. y < 2 ^ 16) (ltb (d .y) (d .z)) (λ e. omega (arith, ltb-true (d .y) (d .z) e, r .z-low)) (λ _. lit< tt)
 
   -- And a unit within its widths.
-  pub turn-ranged : Ranged d → WordsLow memory → Ranged (turnOf d memory w .unit)
+  pub turn-ranged : Ranged d → WordsLow memory → Ranged (delayTurnOf d memory w .unit)
   unfolding lineTurn tableTurn
   turn-ranged r h =
       every-turn d memory w (λ a. Ranged (a .unit))

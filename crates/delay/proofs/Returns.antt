@@ -12,9 +12,9 @@ use lib.ListN.{length, getD}
 use lib.Seq.{getD-set-same, getD-set-other}
 use Rattle.layout.specs.Machine.{Memory}
 use Rattle.delay.specs.declared.Delay.{Delay}
-use Rattle.built_codes.specs.BuiltCodes.{line}
+use Rattle.layout_codes.specs.BuiltCodes.{line}
 use Rattle.delay.specs.Delay.{due, slot, address}
-use Rattle.delay.specs.Turns.{Turns, OnlyTurnsWrite}
+use Rattle.delay.specs.AsCoded.{Turns, OnlyTurnsWrite}
 use Rattle.delay.proofs.Turn.{x-kept, z-kept, p-kept, second-moves, line-y, line-second, line-memory, table-second, table-third}
 
 -- Y after i steps from y, i at most z+1: past z it goes on from 0.

@@ -7,9 +7,9 @@ use Prim.Native.Nat.{ℕ, _-_, _/_, _%_, _^_, _<_}
 use native.Mathlib.Nat.{mod-lt}
 use borrow.Author.Tests.{eq-eqb, ne-eqb}
 use lib.Dec.{eqb, lit<}
-use Rattle.lists.proofs.Choices.{of-cond}
+use Rattle.base_lists.proofs.Choices.{of-cond}
 use Rattle.delay.specs.declared.Delay.{Delay}
-use Rattle.built_codes.specs.BuiltCodes.{roundedTable}
+use Rattle.layout_codes.specs.BuiltCodes.{roundedTable}
 use Rattle.delay.specs.Delay.{places, rounding}
 
 module _ (d : Delay) (w : ℕ) where

@@ -8,7 +8,7 @@ use lib.ListN.{getD, set}
 use Rattle.layout.specs.Layout.{delayX, delayY, delayZ, delayP, delayFirst, delaySecond, delayThird, memoryWords}
 use Rattle.layout.specs.Widths.{delayBits, delayModeBits, wordBits}
 use Rattle.layout.specs.Machine.{Machine, Memory}
-use Rattle.built_codes.specs.BuiltCodes.{inactive, line, roundedTable}
+use Rattle.layout_codes.specs.BuiltCodes.{inactive, line, roundedTable}
 use Rattle.delay.specs.declared.Delay.{Delay}
 
 -- The delay unit whose seven words a part of the machine starts with, each register at its width.
@@ -102,5 +102,5 @@ tableTurn d memory w =
     }
 
 -- The turn of a unit that doesn't act as inactive, with a word from the modifier.
-unfoldable pub turnOf : Delay → Memory → ℕ → After
-turnOf d memory w = cond (eqb (d .p) line) (lineTurn d memory w) (tableTurn d memory w)
+unfoldable pub delayTurnOf : Delay → Memory → ℕ → After
+delayTurnOf d memory w = cond (eqb (d .p) line) (lineTurn d memory w) (tableTurn d memory w)

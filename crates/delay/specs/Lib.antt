@@ -1,2 +1,2 @@
 pub mod Delay
-pub mod Turns
+pub mod AsCoded

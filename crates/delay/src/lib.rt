@@ -2,7 +2,7 @@
 ghost use mathlib.Core.Path.{_≡_};
 ghost use Prim.Native.Nat.{_≤_, _<_, _/_, _^_};
 ghost use lib.ListN.{length};
-ghost use Rattle.delay.specs.Delay.{loaded, stored, updated, Ranged, runs, slot, stepped, lineTurn, rounding, address, tableTurn, turnOf};
+ghost use Rattle.delay.specs.Delay.{loaded, stored, updated, Ranged, runs, slot, stepped, lineTurn, rounding, address, tableTurn, delayTurnOf};
 
 // The modes P.
 pub const INACTIVE: u32 = 0b0000;
@@ -116,8 +116,8 @@ impl Delay {
         ensures { λ r. ⌜ record { unit = r; memory = now (memory .exit) } ≡ lineTurn self (now (memory .entry)) w ⌝ }
     {
         let at = self.slot();
-        let leaving = guarded::word_at(memory, at);
-        guarded::put(memory, at, w);
+        let leaving = base_guarded::word_at(memory, at);
+        base_guarded::put(memory, at, w);
         self.updated(self.stepped(), self.second, leaving, 0)
     }
 
@@ -153,7 +153,7 @@ impl Delay {
         ensures { λ r. ⌜ record { unit = r; memory = now (memory .entry) } ≡ tableTurn self (now (memory .entry)) w ⌝ }
     {
         let at = self.address(w);
-        let answer = guarded::word_at(memory, at);
+        let answer = base_guarded::word_at(memory, at);
         self.updated(self.y, self.second, self.third, answer)
     }
 
@@ -161,7 +161,7 @@ impl Delay {
     pub fn turn(self, memory: &mut [u32], w: u32) -> Delay
         requires { ⌜ Ranged self ⌝ }
         requires { ⌜ w < 2 ^ 20 ⌝ }
-        ensures { λ r. ⌜ record { unit = r; memory = now (memory .exit) } ≡ turnOf self (now (memory .entry)) w ⌝ }
+        ensures { λ r. ⌜ record { unit = r; memory = now (memory .exit) } ≡ delayTurnOf self (now (memory .entry)) w ⌝ }
     {
         if self.p == LINE {
             return self.line_turn(memory, w);

@@ -7,12 +7,12 @@ use native.Mathlib.Omega.{arith}
 use borrow.Author.Tests.{leb-true, le-leb}
 use lib.Dec.{eqb, leb, ltb}
 use lib.ListN.{getD}
-use Rattle.lists.specs.Lists.{allBelow}
-use Rattle.lists.proofs.Below.{and-first, and-second, and-both, below-at, below-from, below-same}
+use Rattle.base_lists.specs.Lists.{allBelow}
+use Rattle.base_lists.proofs.Below.{and-first, and-second, and-both, below-at, below-from, below-same}
 use Rattle.layout.specs.Layout.{modifierAt, MMODE, memoryWords}
 use Rattle.layout.specs.Machine.{Machine, mrmAt, ticksOf}
 use Rattle.delay.specs.declared.Delay.{Delay}
-use Rattle.built_codes.specs.BuiltCodes.{line}
+use Rattle.layout_codes.specs.BuiltCodes.{line}
 use Rattle.delay.specs.Delay.{runs}
 use Rattle.delay_questions.specs.Questions.{invokes, namedBy, delayOf, fits, goodLine, linesGood, apart, namedOnce}
 

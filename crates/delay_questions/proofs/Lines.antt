@@ -7,7 +7,7 @@ use Prim.Native.Nat.{ℕ}
 use borrow.Author.Tests.{eq-eqb, ne-eqb}
 use Rattle.layout.specs.Machine.{Machine, ticksOf}
 use Rattle.delay.specs.declared.Delay.{Delay}
-use Rattle.built_codes.specs.BuiltCodes.{line}
+use Rattle.layout_codes.specs.BuiltCodes.{line}
 use Rattle.delay.specs.Delay.{runs}
 use Rattle.delay_questions.specs.Questions.{invokes, namedBy, delayOf, fits, goodLine}
 

@@ -9,14 +9,14 @@ use lib.Bits.{bitOr}
 use lib.Dec.{eqb, ltb}
 use lib.ListN.{length, getD}
 use lib.Pow.{pow-pos}
-use Rattle.lists.specs.Lists.{allBelow}
-use Rattle.lists.proofs.Below.{and-first, and-second, and-both, below-at, below-from}
+use Rattle.base_lists.specs.Lists.{allBelow}
+use Rattle.base_lists.proofs.Below.{and-first, and-second, and-both, below-at, below-from}
 use Rattle.machine_sweep.proofs.Rows.{or-bits}
 use Rattle.layout.specs.Layout.{memoryWords}
 use Rattle.layout.specs.Machine.{Memory}
 use Rattle.delay.proofs.Low.{WordsLow}
 use Rattle.delay_questions.specs.Questions.{memoryGood}
-use Rattle.delay_questions.specs.Loops.{ored}
+use Rattle.delay_questions.specs.AsCoded.{ored}
 
 -- One word more.
 pub ored-next : (memory : Memory) (i : ℕ) → bitOr (ored memory i) (getD memory i 0) ≡ ored memory (i + 1)

@@ -10,11 +10,11 @@ use borrow.Author.Tests.{eqb-true, eqb-false}
 use lib.Dec.{eqb}
 use lib.ListN.{length, getD, set, replicate, length-set, getD-replicate, length-replicate}
 use lib.Seq.{getD-set-same, getD-set-other}
-use Rattle.lists.specs.Lists.{allBelow}
-use Rattle.lists.proofs.Below.{below-same}
+use Rattle.base_lists.specs.Lists.{allBelow}
+use Rattle.base_lists.proofs.Below.{below-same}
 use Rattle.layout.specs.Machine.{Machine, ticksOf}
 use Rattle.delay_questions.specs.Questions.{invokes, namedBy, apart, namedOnce}
-use Rattle.delay_questions.specs.Loops.{unmarked, marked}
+use Rattle.delay_questions.specs.AsCoded.{unmarked, unitMarked}
 
 -- Some modifier below n invokes unit u.
 unfoldable pub named : Machine → ℕ → ℕ → Bool
@@ -56,8 +56,8 @@ module _ (m : Machine) (marks : List Bool) (k : ℕ) (is : Marks m marks k) wher
   unfolding unmarked fresh
   marks-tell = rw (is .tell (namedBy m k) (omega arith))
 
-  pub marks-next : Marks m (marked m marks k) (k + 1)
-  unfolding marked named
+  pub marks-next : Marks m (unitMarked m marks k) (k + 1)
+  unfolding unitMarked named
   marks-next = rw (add-one k) (by-function (invokes m k) refl)
     where
       by-unit : (u : ℕ) (b : Bool) → u < 32 → eqb (namedBy m k) u ≡ b → getD (set marks (namedBy m k) true) u false ≡ (b || named m u k)

@@ -4,8 +4,8 @@ use mathlib.Core.Path.{_≡_, refl, sym, _∙_}
 use mathlib.Core.Bool.{Bool, true, false}
 use Prim.Native.Nat.{ℕ, _+_, _<_}
 use native.Mathlib.Numerals.{add-one}
-use Rattle.lists.specs.Lists.{allBelow}
-use Rattle.lists.proofs.Below.{and-both, below-at}
+use Rattle.base_lists.specs.Lists.{allBelow}
+use Rattle.base_lists.proofs.Below.{and-both, below-at}
 
 module _ (p : ℕ → Bool) (k : ℕ) where
   pub below-next : p k ≡ true → allBelow p k ≡ true → allBelow p (k + 1) ≡ true

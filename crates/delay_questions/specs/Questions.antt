@@ -4,13 +4,13 @@ use Prim.Native.Nat.{ℕ, _+_, _/_, _%_, _^_}
 use mathlib.Core.Bool.{Bool, true, cond, not, _&&_}
 use lib.Dec.{eqb, leb, ltb}
 use lib.ListN.{length, getD, drop}
-use Rattle.lists.specs.Lists.{allBelow}
+use Rattle.base_lists.specs.Lists.{allBelow}
 use Rattle.layout.specs.Layout.{delayAt, memoryWords}
 use Rattle.layout.specs.Widths.{wordBits}
 use Rattle.layout.specs.Machine.{Machine, Memory, ticksOf, mrmAt, functionAt}
-use Rattle.questions.specs.Questions.{Question}
+use Rattle.base_questions.specs.Questions.{Question}
 use Rattle.delay.specs.declared.Delay.{Delay}
-use Rattle.built_codes.specs.BuiltCodes.{line}
+use Rattle.layout_codes.specs.BuiltCodes.{line}
 use Rattle.delay.specs.Delay.{loaded, runs}
 
 -- Delay memory has 65,536 words, and no word above 20 bits.

@@ -4,10 +4,10 @@ ghost use mathlib.Core.List.{[], _∷_};
 ghost use Prim.Native.Nat.{_/_, _≤_, _<_};
 ghost use lib.ListN.{length};
 ghost use Rattle.layout.specs.Machine.{Reaches, ticksOf};
-ghost use Rattle.questions.specs.Questions.{asked};
+ghost use Rattle.base_questions.specs.Questions.{asked};
 ghost use Rattle.delay.specs.Delay.{Ranged};
 ghost use Rattle.delay_questions.specs.Questions.{memoryGood, invokes, namedBy, delayOf, fits, goodLine, linesGood, namedOnce, question11, question12};
-ghost use Rattle.delay_questions.specs.Loops.{ored, unmarked, marked};
+ghost use Rattle.delay_questions.specs.AsCoded.{ored, unmarked, unitMarked};
 use delay::Delay;
 
 // The or of all words of delay memory.
@@ -119,7 +119,7 @@ fn mark(m: &[u32], marks: &mut [bool; layout::DELAYS], k: usize) -> bool
     requires { ⌜ Reaches (now m) ⌝ }
     requires { ⌜ k < 128 ⌝ }
     ensures { λ r. ⌜ r ≡ unmarked (now (m .entry)) (now (marks .entry)) k ⌝ }
-    ensures { λ _. ⌜ now (marks .exit) ≡ marked (now (m .entry)) (now (marks .entry)) k ⌝ }
+    ensures { λ _. ⌜ now (marks .exit) ≡ unitMarked (now (m .entry)) (now (marks .entry)) k ⌝ }
 {
     if !invokes(m, k) {
         return true;

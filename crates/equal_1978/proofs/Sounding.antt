@@ -9,18 +9,18 @@ use native.Mathlib.Omega.{arith}
 use borrow.Author.Tests.{eqb-true, eq-eqb, ne-eqb}
 use lib.Dec.{eqb}
 use lib.ListN.{getD}
-use Rattle.lists.proofs.Tests.{below}
-use Rattle.words.specs.Words.{lowBits}
+use Rattle.base_lists.proofs.Tests.{below}
+use Rattle.base_words.specs.Words.{lowBits}
 use Rattle.layout.specs.Machine.{Machine, gmodeAt}
-use Rattle.texts.specs.declared.Text.the-variants.{Of1978}
-use Rattle.exponential.specs.Exponential.{bound, within, greatest, entry as exponentialEntry, exponential}
-use Rattle.envelope.specs.Envelope.{qOf, level}
+use Rattle.layout_texts.specs.declared.Text.the-variants.{Of1978}
+use Rattle.generator_exponential.specs.Exponential.{bound, within, greatest, entry as exponentialEntry, exponential}
+use Rattle.generator_envelope.specs.Envelope.{qOf, level}
 use Rattle.generator.specs.Generator.{leftRange, wOf, vOf, pOf}
 use Rattle.generator.proofs.Sounding.{heard-in-every-mode}
 use Rattle.pass_model.specs.Generators.{turn1978, generatorsOf}
 use Rattle.pass_laws.specs.Good.{Good}
-use Rattle.order_contents.specs.Contents.{soundingLevel, soundingContents}
-use Rattle.equal_endings.specs.Follows.{pAt}
+use Rattle.parts_model.specs.Contents.{soundingLevel, soundingContents}
+use Rattle.equal_endings.specs.AsCoded.{pAt}
 use Rattle.equal_contents.proofs.Sounding.{nothing, unit, input, SoundingAt, sounding-at}
 
 -- V by the envelope mode where GQ is 0.

@@ -7,25 +7,25 @@ use Prim.Native.Nat.{ℕ, _+_, _/_, _%_, _≤_, _<_}
 use native.Mathlib.Omega.{arith}
 use borrow.Author.Tests.{eqb-true, eqb-false}
 use lib.Dec.{eqb}
-use Rattle.lists.proofs.Choices.{of-test}
+use Rattle.base_lists.proofs.Choices.{of-test}
 use Rattle.layout.specs.Machine.{Machine, ticksOf, gfmAt}
-use Rattle.texts.specs.Texts.{runModeAt}
-use Rattle.texts.specs.declared.Text.the-variants.{Of1978}
-use Rattle.modes.specs.Modes.{wait, runningC, withRunMode}
-use Rattle.machine.proofs.SoundMachine.{sound-generator, sound-controls}
+use Rattle.layout_texts.specs.Texts.{runModeAt}
+use Rattle.layout_texts.specs.declared.Text.the-variants.{Of1978}
+use Rattle.layout_modes.specs.Modes.{wait, runningC, withRunMode}
+use Rattle.machine.proofs.ValidMachine.{valid-generator, valid-controls}
 use Rattle.generator.specs.declared.Generator.{Generator}
 use Rattle.generator.specs.Generator.{runMode, triggers, gmodeAfter, after}
 use Rattle.pass_model.specs.Generators.{generatorOf, turn1978, generatorsOf}
 use Rattle.pass_laws.specs.Good.{Good}
-use Rattle.order_agreement.specs.Agreement.{settingsOf}
-use Rattle.equal_endings.specs.Follows.{turnAt, sendsAt}
-use Rattle.equal_witnesses.specs.Contents.{Contents}
+use Rattle.compare_agreement.specs.Agreement.{settingsOf}
+use Rattle.equal_endings.specs.AsCoded.{turnAt, sendsAt}
+use Rattle.equal_witnesses.specs.AsCoded.{Contents}
 use Rattle.equal_contents.proofs.Content.{Content, last-content}
 use Rattle.equal_contents.proofs.Loaded.{f-is}
 use Rattle.equal_contents.proofs.Triggering.{choice-tells, triggering-content, same-mode, all-trigger}
 use Rattle.equal_contents.proofs.Sounding.{sounding-content}
 use Rattle.equal_1978.proofs.Sounding.{silent-output, sounding-output}
-use Rattle.order_contents.specs.Contents.{triggeringContents, sendingContents, soundingContents, byPoint, contentsFor}
+use Rattle.parts_model.specs.Contents.{triggeringContents, sendingContents, soundingContents, byPoint, contentsFor}
 
 -- GMODE of a waiting generator tells whether it was told.
 mode-tells : (u : Generator) (a b : Bool) → runMode u ≡ wait → gmodeAfter u a ≡ gmodeAfter u b → a ≡ b
@@ -39,7 +39,7 @@ either-half x h =
 
 module _ (m : Machine) (good : Good Of1978 m) where
   few : ticksOf m ≤ 256
-  few = sound-controls Of1978 m (good .is-sound) .tHigh
+  few = valid-controls Of1978 m (good .is-valid) .tHigh
 
   told-tells : (g : ℕ) → g < 256 → eqb (runModeAt Of1978 m g) wait ≡ true → (a b : Bool)
       → turnAt (generatorsOf Of1978) (triggeringContents m) g a .unit .gmode ≡ turnAt (generatorsOf Of1978) (triggeringContents m) g b .unit .gmode → a ≡ b
@@ -54,7 +54,7 @@ module _ (m : Machine) (good : Good Of1978 m) where
   sends-gfm : (g : ℕ) → g < 256 → sendsAt (generatorsOf Of1978) (sendingContents Of1978 m) g ≡ gfmAt m g
   unfolding turn1978 sendingContents
   sends-gfm g h =
-      f-is Of1978 m good [] refl (λ w. w) (λ w. 64 + w) sending-content g h ∙ either-half (gfmAt m g) (sound-generator Of1978 m (good .is-sound) g h .gfm)
+      f-is Of1978 m good [] refl (λ w. w) (λ w. 64 + w) sending-content g h ∙ either-half (gfmAt m g) (valid-generator Of1978 m (good .is-valid) g h .gfm)
 
   pub contents-1978 : Contents (generatorsOf Of1978) (settingsOf Of1978 m) (Content Of1978 m)
   contents-1978 =

@@ -9,24 +9,24 @@ use native.Mathlib.Omega.{arith}
 use borrow.Author.Tests.{eq-eqb}
 use lib.Seq.{ext-getD}
 use Rattle.layout.specs.Machine.{Machine, Order, ticksOf, gsumAt}
-use Rattle.texts.specs.Texts.{runModeAt}
-use Rattle.texts.specs.declared.Text.the-variants.{Of1978}
-use Rattle.questions.specs.Questions.{asked}
+use Rattle.layout_texts.specs.Texts.{runModeAt}
+use Rattle.layout_texts.specs.declared.Text.the-variants.{Of1978}
+use Rattle.base_questions.specs.Questions.{asked}
 use Rattle.machine.specs.Questions.{question1, question2}
-use Rattle.modes.proofs.RunModes.{replaces-alone}
-use Rattle.order.specs.Order.{IsOrder}
-use Rattle.order.proofs.Entries.{order-passes, passes-order}
+use Rattle.layout_modes.proofs.RunModes.{replaces-alone}
+use Rattle.pass_order.specs.Order.{IsOrder}
+use Rattle.pass_order.proofs.Entries.{order-passes, passes-order}
 use Rattle.pass_laws.specs.Good.{Good}
 use Rattle.machine.proofs.Asked.{machine-passes}
-use Rattle.machine.proofs.SoundMachine.{sound-generator, sound-controls}
-use Rattle.order_agreement.specs.Agreement.{settingsOf}
-use Rattle.order_alike.specs.Alike.{countsIn, alike}
-use Rattle.order_alike.specs.Clauses.{Clauses}
-use Rattle.order_alike.specs.Parting.{partingOrders}
-use Rattle.order_alike.proofs.Clauses.{Separate, clauses}
-use Rattle.order_alike.proofs.EveryOrder.{every-order}
-use Rattle.order_alike.proofs.Telling.{Part, orders-part}
-use Rattle.order_alike.proofs.Rule.{rule-clauses}
+use Rattle.machine.proofs.ValidMachine.{valid-generator, valid-controls}
+use Rattle.compare_agreement.specs.Agreement.{settingsOf}
+use Rattle.any_order_model.specs.OrderFree.{countsIn, orderFree}
+use Rattle.any_order_model.specs.Clauses.{Clauses}
+use Rattle.any_order_model.specs.Parting.{partingOrders}
+use Rattle.any_order_model.proofs.Clauses.{Separate, clauses}
+use Rattle.any_order_model.proofs.EveryOrder.{every-order}
+use Rattle.any_order_model.proofs.Telling.{Part, orders-part}
+use Rattle.any_order_model.proofs.Rule.{rule-clauses}
 use Rattle.any_order.specs.AnyOrder.{anyOrderOf}
 use Rattle.any_order.proofs.Answers.{any-number, any-rule, any-refused}
 use Rattle.equal_orders.specs.Equal.{Equal}
@@ -40,20 +40,20 @@ module _ (m : Machine) (good : Good Of1978 m) where
       record {
         apart = omega arith;
         exclusive = λ g. replaces-alone (runModeAt Of1978 m g);
-        sourced = λ g l. sound-generator Of1978 m (good .is-sound) g (omega (arith, few)) .gfm;
+        sourced = λ g l. valid-generator Of1978 m (good .is-valid) g (omega (arith, few)) .gfm;
         worded = λ g l.
             record {
               at = gsumAt m g;
-              below = sound-generator Of1978 m (good .is-sound) g (omega (arith, few)) .gsum;
+              below = valid-generator Of1978 m (good .is-valid) g (omega (arith, few)) .gsum;
               passes = eq-eqb (gsumAt m g) (gsumAt m g) refl;
             };
       }
     where
       few : ticksOf m ≤ 256
-      few = sound-controls Of1978 m (good .is-sound) .tHigh
+      few = valid-controls Of1978 m (good .is-valid) .tHigh
 
   -- Where the rule fails, the two orders are orders that are not equal.
-  part : alike (countsIn (settingsOf Of1978 m)) ≡ false → Part (settingsOf Of1978 m)
+  part : orderFree (countsIn (settingsOf Of1978 m)) ≡ false → Part (settingsOf Of1978 m)
   part = orders-part (settingsOf Of1978 m) separate
 
   abbrev first : Order
@@ -62,25 +62,25 @@ module _ (m : Machine) (good : Good Of1978 m) where
   abbrev second : Order
   second = partingOrders (settingsOf Of1978 m) .second
 
-  first-passes : alike (countsIn (settingsOf Of1978 m)) ≡ false → Passes m first
+  first-passes : orderFree (countsIn (settingsOf Of1978 m)) ≡ false → Passes m first
   first-passes e = passes-order (ticksOf m) first (part e .first)
 
-  second-passes : alike (countsIn (settingsOf Of1978 m)) ≡ false → Passes m second
+  second-passes : orderFree (countsIn (settingsOf Of1978 m)) ≡ false → Passes m second
   second-passes e = passes-order (ticksOf m) second (part e .second)
 
-  not-equal : alike (countsIn (settingsOf Of1978 m)) ≡ false → Equal Of1978 m first second → ⊥
+  not-equal : orderFree (countsIn (settingsOf Of1978 m)) ≡ false → Equal Of1978 m first second → ⊥
   not-equal e eq = part e .disagree (demand-3 Of1978 m good first second (first-passes e) (second-passes e) .0 eq)
 
   -- The rule holds just where every two orders are equal.
-  pub rule-is : (alike (countsIn (settingsOf Of1978 m)) ≡ true) ↔ EveryTwoEqual m
-  rule-is = (holds, go (alike (countsIn (settingsOf Of1978 m))) refl)
+  pub rule-is : (orderFree (countsIn (settingsOf Of1978 m)) ≡ true) ↔ EveryTwoEqual m
+  rule-is = (holds, go (orderFree (countsIn (settingsOf Of1978 m))) refl)
     where
-      holds : alike (countsIn (settingsOf Of1978 m)) ≡ true → EveryTwoEqual m
+      holds : orderFree (countsIn (settingsOf Of1978 m)) ≡ true → EveryTwoEqual m
       holds e o₁ o₂ p₁ p₂ =
           demand-3 Of1978 m good o₁ o₂ p₁ p₂ .1
           (every-order (settingsOf Of1978 m) (clauses (settingsOf Of1978 m) separate e) o₁ o₂ (order-passes (ticksOf m) o₁ p₁) (order-passes (ticksOf m) o₂ p₂))
 
-      go : (b : Bool) → alike (countsIn (settingsOf Of1978 m)) ≡ b → EveryTwoEqual m → b ≡ true
+      go : (b : Bool) → orderFree (countsIn (settingsOf Of1978 m)) ≡ b → EveryTwoEqual m → b ≡ true
       go true e every = refl
       go false e every = absurd (not-equal e (every first second (first-passes e) (second-passes e)))
 
@@ -90,7 +90,7 @@ module _ (m : Machine) (n : anyOrderOf m .number ≡ 0) where
   none = sym (any-number m) ∙ n
 
   good : Good Of1978 m
-  good = let passed = machine-passes Of1978 m none in record { whole = passed .0; is-sound = passed .1 }
+  good = let passed = machine-passes Of1978 m none in record { whole = passed .0; is-valid = passed .1 }
 
   -- It says yes just where every two orders are equal.
   pub any-order-says : (anyOrderOf m .alike ≡ true) ↔ EveryTwoEqual m

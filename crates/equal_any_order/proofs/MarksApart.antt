@@ -5,29 +5,29 @@ use mathlib.Core.Bool.{true}
 use mathlib.Core.List.{[], _∷_}
 use lib.Dec.{lit≤, lit<}
 use lib.ListN.{set, length-set}
-use Rattle.lists.specs.Lists.{zeros, countBelow, isOneOf}
-use Rattle.words.specs.Words.{lowBits, signed, sum, leaves, sumInto, exactSum, outside}
+use Rattle.base_lists.specs.Lists.{zeros, countBelow, isOneOf}
+use Rattle.base_words.specs.Words.{lowBits, signed, sum, leaves, sumInto, exactSum, outside}
 use Rattle.layout.specs.Machine.{Order, ticksOf, withUpdateTicks}
-use Rattle.texts.specs.declared.Text.the-variants.{Of1978}
-use Rattle.questions.specs.Questions.{asked}
-use Rattle.modes.specs.Modes.{builtRun, builtOscillator, adds, replaces, free, oscillatorOn, envelopeOn}
-use Rattle.oscillator.specs.Oscillator.{waveOf, sawtooth}
-use Rattle.envelope.specs.Envelope.{overflows, decayed, qOf, level, rounded, enveloped}
+use Rattle.layout_texts.specs.declared.Text.the-variants.{Of1978}
+use Rattle.base_questions.specs.Questions.{asked}
+use Rattle.layout_modes.specs.Modes.{builtRun, builtOscillator, adds, replaces, free, oscillatorOn, envelopeOn}
+use Rattle.generator_oscillator.specs.Oscillator.{waveOf, sawtooth}
+use Rattle.generator_envelope.specs.Envelope.{overflows, decayed, qOf, level, rounded, enveloped}
 use Rattle.generator.specs.Generator.{loaded, stored, jOf, gjAfter, kOf, gkAfter, wOf, gqAfter, vOf, pOf, triggers, gmodeAfter, after}
 use Rattle.machine.specs.Questions.{freshMachine, regions, testAt}
-use Rattle.machine.proofs.SoundMachine.{single-below, sound-set}
+use Rattle.machine.proofs.ValidMachine.{single-below, valid-set}
 use Rattle.delay_questions.specs.Questions.{goodLine, linesGood, namedOnce, question11, question12}
-use Rattle.sums.specs.Sums.{sumsOf, quadrantOf, wordAt, sumAt, putSum, fAt}
-use Rattle.pass_model.specs.Generators.{generatorsOf, generatorOf, turn1978, told, fed, summed, step, begun}
+use Rattle.pass_sums.specs.Sums.{sumsOf, quadrantOf, wordAt, sumAt, putSum, fAt}
+use Rattle.pass_model.specs.Generators.{generatorsOf, generatorOf, turn1978, triggeredBelow, fed, summed, step, begun}
 use Rattle.pass_model.specs.Clipped.{noMarks, sumLeaves, markedAt, marked, markedBy}
 use Rattle.pass_model.specs.Pass.{Call, plainCall, passRefusal, passOf}
 use Rattle.pass_model.proofs.Asked.{past-memory}
 use Rattle.pass_laws.specs.Good.{Good}
-use Rattle.order.specs.Order.{inMode}
+use Rattle.pass_order.specs.Order.{inMode}
 use Rattle.pass_laws.proofs.Passing.{good-passes, let-through, pass-number}
 use Rattle.pass_laws.proofs.PassClipped.{ran-clipped}
-use Rattle.order_agreement.specs.Agreement.{settingsOf}
-use Rattle.order_alike.specs.Alike.{countsIn, shareOne, feedersShare, wordsApart, alike}
+use Rattle.compare_agreement.specs.Agreement.{settingsOf}
+use Rattle.any_order_model.specs.OrderFree.{countsIn, shareOne, feedersShare, wordsApart, orderFree}
 use Rattle.equal_orders.specs.Equal.{Equal}
 use Rattle.equal_orders.specs.WorkedExamples.{forth, back, ofTwo}
 use Rattle.equal_orders.proofs.Finished.{zeros-good}
@@ -50,12 +50,12 @@ good =
     let m4 = set m3 18 4095 in
     record {
       whole = length-set m4 3840 400000 ∙ length-set m3 18 4095 ∙ length-set m2 13 524416 ∙ length-set m1 7 4095 ∙ length-set m 2 524160 ∙ two-good .whole;
-      is-sound =
-          sound-set Of1978 m4
-          (sound-set Of1978 m3
-          (sound-set Of1978 m2
-          (sound-set Of1978 m1
-          (sound-set Of1978 m (two-good .is-sound) 2 524160 (single-below (lit< tt)) refl)
+      is-valid =
+          valid-set Of1978 m4
+          (valid-set Of1978 m3
+          (valid-set Of1978 m2
+          (valid-set Of1978 m1
+          (valid-set Of1978 m (two-good .is-valid) 2 524160 (single-below (lit< tt)) refl)
           7 4095 (single-below (lit< tt)) refl)
           13 524416 (single-below (lit< tt)) refl)
           18 4095 (single-below (lit< tt)) refl)
@@ -66,8 +66,8 @@ two-ticks : ticksOf upAndDown ≡ 2
 unfolding upAndDown ofTwo freshMachine withUpdateTicks zeros
 two-ticks = refl
 
-by-rule : alike (countsIn (settingsOf Of1978 upAndDown)) ≡ true
-unfolding upAndDown ofTwo freshMachine withUpdateTicks zeros alike feedersShare wordsApart shareOne countBelow free adds replaces isOneOf
+by-rule : orderFree (countsIn (settingsOf Of1978 upAndDown)) ≡ true
+unfolding upAndDown ofTwo freshMachine withUpdateTicks zeros orderFree feedersShare wordsApart shareOne countBelow free adds replaces isOneOf
 by-rule = refl
 
 pub marks-equal : Equal Of1978 upAndDown forth back
@@ -88,13 +88,13 @@ marks : (order : Order) → Passes upAndDown order → passOf Of1978 upAndDown (
 marks order p = let call : Call = plainCall order [] [] in rw (let-through Of1978 upAndDown call (not-refused order p)) (ran-clipped Of1978 upAndDown call)
 
 forth-marks : markedBy (generatorsOf Of1978) [] (begun upAndDown (sumsOf upAndDown) []) noMarks forth ≡ set noMarks 0 1
-unfolding upAndDown ofTwo freshMachine withUpdateTicks zeros markedBy marked markedAt sumLeaves begun step told fed summed turn1978 generatorOf loaded stored sumsOf quadrantOf wordAt sumAt putSum fAt
+unfolding upAndDown ofTwo freshMachine withUpdateTicks zeros markedBy marked markedAt sumLeaves begun step triggeredBelow fed summed turn1978 generatorOf loaded stored sumsOf quadrantOf wordAt sumAt putSum fAt
     jOf gjAfter kOf gkAfter wOf gqAfter vOf pOf triggers gmodeAfter after waveOf sawtooth overflows decayed qOf level rounded enveloped
     lowBits signed sum leaves sumInto exactSum outside adds replaces free oscillatorOn envelopeOn isOneOf
 forth-marks = refl
 
 back-marks : markedBy (generatorsOf Of1978) [] (begun upAndDown (sumsOf upAndDown) []) noMarks back ≡ noMarks
-unfolding upAndDown ofTwo freshMachine withUpdateTicks zeros markedBy marked markedAt sumLeaves begun step told fed summed turn1978 generatorOf loaded stored sumsOf quadrantOf wordAt sumAt putSum fAt
+unfolding upAndDown ofTwo freshMachine withUpdateTicks zeros markedBy marked markedAt sumLeaves begun step triggeredBelow fed summed turn1978 generatorOf loaded stored sumsOf quadrantOf wordAt sumAt putSum fAt
     jOf gjAfter kOf gkAfter wOf gqAfter vOf pOf triggers gmodeAfter after waveOf sawtooth overflows decayed qOf level rounded enveloped
     lowBits signed sum leaves sumInto exactSum outside adds replaces free oscillatorOn envelopeOn isOneOf
 back-marks = refl

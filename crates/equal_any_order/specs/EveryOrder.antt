@@ -3,9 +3,9 @@
 use mathlib.Core.Path.{_≡_}
 use mathlib.Core.List.{[], _∷_}
 use Rattle.layout.specs.Machine.{Machine, Order, ticksOf}
-use Rattle.texts.specs.declared.Text.the-variants.{Of1978}
-use Rattle.questions.specs.Questions.{asked}
-use Rattle.order.specs.Order.{question5, question6}
+use Rattle.layout_texts.specs.declared.Text.the-variants.{Of1978}
+use Rattle.base_questions.specs.Questions.{asked}
+use Rattle.pass_order.specs.Order.{question5, question6}
 use Rattle.equal_orders.specs.Equal.{Equal}
 
 -- An order that passes questions 5 and 6.

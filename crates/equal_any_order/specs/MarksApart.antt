@@ -4,7 +4,7 @@ use Prim.Native.Nat.{_+_}
 use lib.ListN.{set}
 use Rattle.layout.specs.Layout.{generatorAt, quadrantAt, GK, GL}
 use Rattle.layout.specs.Machine.{Machine}
-use Rattle.sums.specs.Sums.{generatorThis}
+use Rattle.pass_sums.specs.Sums.{generatorThis}
 use Rattle.equal_orders.specs.WorkedExamples.{ofTwo}
 
 -- T 2; generators 0 and 1 are sawtooths in 1111 (GMODE 961) on word 0 with GL 4,095, and GK is 524,160 and -524,160: P is 262,016 and -262,016.

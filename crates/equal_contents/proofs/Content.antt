@@ -7,21 +7,21 @@ use native.Mathlib.Omega.{arith}
 use borrow.Author.Tests.{lt-ltb}
 use lib.Dec.{eqb, lit<, lit≤}
 use lib.ListN.{getD}
-use Rattle.lists.specs.Lists.{isOneOf}
-use Rattle.built_codes.specs.BuiltCodes.{builtFunctions, builtFunction, oldBuiltFunctions, oldBuiltFunction}
+use Rattle.base_lists.specs.Lists.{isOneOf}
+use Rattle.layout_codes.specs.BuiltCodes.{builtFunctions, builtFunction, oldBuiltFunctions, oldBuiltFunction}
 use Rattle.layout.specs.Layout.{generatorAt, modifierAt, quadrantAt, tAt, MMODE, GO, GN, GSUM, GFM, GMODE}
 use Rattle.layout.specs.Machine.{Machine, ticksOf}
-use Rattle.texts.specs.Texts.{runModeAt}
-use Rattle.texts.specs.declared.Text.{Text}
-use Rattle.texts.specs.declared.Text.the-variants.{Of1978, Old}
-use Rattle.fills.specs.Fills.{filled}
-use Rattle.fills.proofs.Filled.{filled-length, filled-other, filled-at}
-use Rattle.machine.specs.Questions.{goodMmode, regions, testAt, sound}
+use Rattle.layout_texts.specs.Texts.{runModeAt}
+use Rattle.layout_texts.specs.declared.Text.{Text}
+use Rattle.layout_texts.specs.declared.Text.the-variants.{Of1978, Old}
+use Rattle.base_fills.specs.Fills.{filled}
+use Rattle.base_fills.proofs.Filled.{filled-length, filled-other, filled-at}
+use Rattle.machine.specs.Questions.{goodMmode, regions, testAt, valid}
 use Rattle.machine.proofs.Regions.{region, start, unit-test}
-use Rattle.machine.proofs.SoundMachine.{single-below, sound-set}
-use Rattle.sums.specs.Sums.{generatorLast, modifierLast}
+use Rattle.machine.proofs.ValidMachine.{single-below, valid-set}
+use Rattle.pass_sums.specs.Sums.{generatorLast, modifierLast}
 use Rattle.pass_laws.specs.Good.{Good}
-use Rattle.order_contents.specs.Contents.{eachWord, inactiveModifiers, withLast}
+use Rattle.parts_model.specs.Contents.{eachWord, inactiveModifiers, withLast}
 use Rattle.equal_contents.proofs.Words.{other, past, word-before, word-past}
 
 -- The registers that every content keeps: GO, GSUM, GFM and GMODE, and in the older text GN.
@@ -56,18 +56,18 @@ inactive-good Old = refl
 
 module _ (text : Text) where
   -- Words before T that pass the tests of their places keep a machine good.
-  filled-sound : (at step n : ℕ) (f : ℕ → ℕ) (m : Machine)
-      → ((k : ℕ) → k < n → (at + step * k < tAt) × (testAt (regions text) (at + step * k) (f k) ≡ true)) → sound text m ≡ true → sound text (filled at step n f m) ≡ true
+  filled-valid : (at step n : ℕ) (f : ℕ → ℕ) (m : Machine)
+      → ((k : ℕ) → k < n → (at + step * k < tAt) × (testAt (regions text) (at + step * k) (f k) ≡ true)) → valid text m ≡ true → valid text (filled at step n f m) ≡ true
   unfolding filled
-  filled-sound at step zero f m fits e = e
-  filled-sound at step (suc n) f m fits e =
+  filled-valid at step zero f m fits e = e
+  filled-valid at step (suc n) f m fits e =
       let here = fits n (omega arith) in
-      sound-set text (filled at step n f m) (filled-sound at step n f m (λ k h. fits k (omega arith)) e) (at + step * n) (f n) (single-below (here .0)) (here .1)
+      valid-set text (filled at step n f m) (filled-valid at step n f m (λ k h. fits k (omega arith)) e) (at + step * n) (f n) (single-below (here .0)) (here .1)
 
   filled-good : (at step n : ℕ) (f : ℕ → ℕ) (m : Machine)
       → ((k : ℕ) → k < n → (at + step * k < tAt) × (testAt (regions text) (at + step * k) (f k) ≡ true)) → Good text m → Good text (filled at step n f m)
   filled-good at step n f m fits good =
-      record { whole = filled-length at step n f m ∙ good .whole; is-sound = filled-sound at step n f m fits (good .is-sound) }
+      record { whole = filled-length at step n f m ∙ good .whole; is-valid = filled-valid at step n f m fits (good .is-valid) }
 
   -- The modifiers are made inactive.
   module _ (m : Machine) (good : Good text m) where

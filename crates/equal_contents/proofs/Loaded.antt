@@ -1,4 +1,4 @@
--- The registers of a generator that is loaded from a sound machine are its words, and its F in a content is a word of the last quadrants.
+-- The registers of a generator that is loaded from a valid machine are its words, and its F in a content is a word of the last quadrants.
 -- Assumes nothing.
 use mathlib.Core.Path.{_≡_, refl, _∙_}
 use mathlib.Core.Bool.{Bool, true, false, cond}
@@ -11,16 +11,16 @@ use lib.ListN.{getD}
 use Rattle.layout.specs.Layout.{generatorAt, quadrantAt, GO, GJ, GK, GN, GM, GP, GQ, GL, GSUM, GFM, GMODE}
 use Rattle.layout.specs.Machine.{Machine, gmodeAt, gsumAt, gfmAt}
 use Rattle.layout.specs.Widths.{goBits, gjBits, gkBits, gnBits, gmBits, gpBits, gqBits, glBits, gsumBits, gfmBits, gmodeBits}
-use Rattle.texts.specs.declared.Text.{Text}
-use Rattle.machine.specs.Questions.{sound}
-use Rattle.machine.proofs.SoundMachine.{sound-generator, sound-sum}
-use Rattle.sums.specs.Sums.{generatorLast, modifierLast, wordAt, fAt, sumsOf}
-use Rattle.sums.proofs.Memory.{quadrant-word, sums-quadrant}
+use Rattle.layout_texts.specs.declared.Text.{Text}
+use Rattle.machine.specs.Questions.{valid}
+use Rattle.machine.proofs.ValidMachine.{valid-generator, valid-sum}
+use Rattle.pass_sums.specs.Sums.{generatorLast, modifierLast, wordAt, fAt, sumsOf}
+use Rattle.pass_sums.proofs.Memory.{quadrant-word, sums-quadrant}
 use Rattle.generator.specs.Generator.{loaded}
 use Rattle.pass_model.specs.Generators.{generatorOf}
 use Rattle.pass_model.proofs.Puts.{at-width}
 use Rattle.pass_laws.specs.Good.{Good}
-use Rattle.order_contents.specs.Contents.{Column, withColumns, withLast}
+use Rattle.parts_model.specs.Contents.{Column, withColumns, withLast}
 use Rattle.equal_contents.proofs.Words.{registers, columns-past, generator-last, modifier-last}
 use Rattle.equal_contents.proofs.Content.{Content, inactive-content}
 
@@ -37,10 +37,10 @@ pub record IsLoaded (m : Machine) (g : ℕ) : Type 0 where
   pub gfm : generatorOf m g .gfm ≡ gfmAt m g
   pub gmode : generatorOf m g .gmode ≡ gmodeAt m g
 
-pub is-loaded : (text : Text) (m : Machine) → sound text m ≡ true → (g : ℕ) → g < 256 → IsLoaded m g
+pub is-loaded : (text : Text) (m : Machine) → valid text m ≡ true → (g : ℕ) → g < 256 → IsLoaded m g
 unfolding generatorOf loaded
 is-loaded text m e g h =
-    let s = sound-generator text m e g h in
+    let s = valid-generator text m e g h in
     record {
       go = rw (add-zero (generatorAt g)) at (at-width m (generatorAt g) GO goBits (rw (add-zero (generatorAt g)) (s .go)));
       gj = at-width m (generatorAt g) GJ gjBits (s .gj);
@@ -56,9 +56,9 @@ is-loaded text m e g h =
     }
 
 -- A word of sum memory.
-sum-word : (text : Text) (m : Machine) → sound text m ≡ true → (q : ℕ) → q < 4 → (w : ℕ) → w < 64 → wordAt (getD (sumsOf m) q []) w ≡ getD m (quadrantAt q + w) 0
+sum-word : (text : Text) (m : Machine) → valid text m ≡ true → (q : ℕ) → q < 4 → (w : ℕ) → w < 64 → wordAt (getD (sumsOf m) q []) w ≡ getD m (quadrantAt q + w) 0
 unfolding wordAt
-sum-word text m e q a w b = rw (sums-quadrant m q a, quadrant-word m q w b) (mod-eq-of-lt (sound-sum text m e q w a b))
+sum-word text m e q a w b = rw (sums-quadrant m q a, quadrant-word m q w b) (mod-eq-of-lt (valid-sum text m e q w a b))
 
 -- F by the two halves of GFM's range.
 module _ (text : Text) (m : Machine) (good : Good text m) (cs : List Column) (r : registers cs ≡ true) (a b : ℕ → ℕ) (same : Content text m (withColumns cs (withLast a b m))) where
@@ -67,13 +67,13 @@ module _ (text : Text) (m : Machine) (good : Good text m) (cs : List Column) (r 
 
   last-word : (w : ℕ) → w < 64 → (t : Bool) → wordAt (getD (sumsOf n) (cond t generatorLast modifierLast) []) w ≡ cond t (a w) (b w)
   last-word w h true =
-      sum-word text n (same .good .is-sound) generatorLast (lit< tt) w h
+      sum-word text n (same .good .is-valid) generatorLast (lit< tt) w h
       ∙ columns-past cs (withLast a b m) r (quadrantAt generatorLast + w) (omega arith) ∙ generator-last a b m (inactive-content text m good .good .whole) w h
   last-word w h false =
-      sum-word text n (same .good .is-sound) modifierLast (lit< tt) w h
+      sum-word text n (same .good .is-valid) modifierLast (lit< tt) w h
       ∙ columns-past cs (withLast a b m) r (quadrantAt modifierLast + w) (omega arith) ∙ modifier-last a b m (inactive-content text m good .good .whole) w h
 
   pub f-is : (g : ℕ) → g < 256 → fAt (sumsOf n) (generatorOf n g .gfm) ≡ cond (eqb (gfmAt m g / 64) 0) (a (gfmAt m g % 64)) (b (gfmAt m g % 64))
   unfolding fAt
   f-is g h =
-      rw (is-loaded text n (same .good .is-sound) g h .gfm, same .kept GFM (lit< tt) refl g h) (last-word (gfmAt m g % 64) (omega arith) (eqb (gfmAt m g / 64) 0))
+      rw (is-loaded text n (same .good .is-valid) g h .gfm, same .kept GFM (lit< tt) refl g h) (last-word (gfmAt m g % 64) (omega arith) (eqb (gfmAt m g / 64) 0))

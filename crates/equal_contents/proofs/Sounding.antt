@@ -10,21 +10,21 @@ use lib.Dec.{eqb, lit<}
 use lib.IntN.{ℤ, natAbs}
 use lib.ListN.{getD}
 use lib.Signed.{nonNeg}
-use Rattle.lists.proofs.Choices.{of-cond}
-use Rattle.words.specs.Words.{lowBits, signed, sum, leaves}
+use Rattle.base_lists.proofs.Choices.{of-cond}
+use Rattle.base_words.specs.Words.{lowBits, signed, sum, leaves}
 use Rattle.layout.specs.Layout.{generatorAt, GJ, GK, GN, GM, GQ, GL, GMODE}
 use Rattle.layout.specs.Machine.{Machine, gmodeAt, gfmAt}
 use Rattle.layout.specs.Widths.{glBits}
-use Rattle.texts.specs.declared.Text.{Text}
-use Rattle.texts.specs.declared.Text.the-variants.{Of1978, Old}
+use Rattle.layout_texts.specs.declared.Text.{Text}
+use Rattle.layout_texts.specs.declared.Text.the-variants.{Of1978, Old}
 use Rattle.machine.specs.Questions.{regions}
-use Rattle.sums.specs.Sums.{fAt, sumsOf}
-use Rattle.envelope.specs.Envelope.{rounded, enveloped}
+use Rattle.pass_sums.specs.Sums.{fAt, sumsOf}
+use Rattle.generator_envelope.specs.Envelope.{rounded, enveloped}
 use Rattle.generator.specs.declared.Generator.{Generator}
 use Rattle.generator.specs.Generator.{jOf}
 use Rattle.pass_model.specs.Generators.{generatorOf}
 use Rattle.pass_laws.specs.Good.{Good}
-use Rattle.order_contents.specs.Contents.{withColumns, withLast, waveColumns, soundingLevel, soundingColumns, soundingContents}
+use Rattle.parts_model.specs.Contents.{withColumns, withLast, waveColumns, soundingLevel, soundingColumns, soundingContents}
 use Rattle.equal_contents.proofs.Words.{registers, wordIn, columns-word}
 use Rattle.equal_contents.proofs.Content.{registerTest, Content, last-content, register-content}
 use Rattle.equal_contents.proofs.Loaded.{is-loaded, f-is}
@@ -102,7 +102,7 @@ module _ (text : Text) (m : Machine) (good : Good text m) (s : ℕ) where
     pub sounding-at : g < 256 → SoundingAt
     unfolding jOf
     sounding-at h =
-        let loaded = is-loaded text (soundingContents text m s) (sounding-content .good .is-sound) g h in
+        let loaded = is-loaded text (soundingContents text m s) (sounding-content .good .is-valid) g h in
         let gj : unit .gj ≡ 134217472 = loaded .gj ∙ word GJ g (lit< tt) h in
         record {
           j = rw (gj, sounding-f g h) step-1-sum;

@@ -7,20 +7,20 @@ use Prim.Native.Nat.{ℕ, _<_}
 use lib.Dec.{lit<}
 use Rattle.layout.specs.Layout.{GP, GQ}
 use Rattle.layout.specs.Machine.{Machine}
-use Rattle.texts.specs.Texts.{runModeAt}
-use Rattle.texts.specs.declared.Text.{Text}
-use Rattle.modes.specs.Modes.{free}
-use Rattle.words.specs.Words.{signed, exactSum, outside}
-use Rattle.envelope.specs.Envelope.{overflows}
+use Rattle.layout_texts.specs.Texts.{runModeAt}
+use Rattle.layout_texts.specs.declared.Text.{Text}
+use Rattle.layout_modes.specs.Modes.{free}
+use Rattle.base_words.specs.Words.{signed, exactSum, outside}
+use Rattle.generator_envelope.specs.Envelope.{overflows}
 use Rattle.machine.specs.Questions.{regions}
-use Rattle.sums.specs.Sums.{fAt, sumsOf}
+use Rattle.pass_sums.specs.Sums.{fAt, sumsOf}
 use Rattle.pass_model.specs.Generators.{generatorOf, generatorsOf}
 use Rattle.pass_model.proofs.Turns.{turn-parts}
-use Rattle.generator_turn.specs.GeneratorTurn.{runOf}
+use Rattle.generator_turn.specs.AsCoded.{runOf}
 use Rattle.pass_laws.specs.Good.{Good}
 use Rattle.pass_laws.proofs.PassCounts.{run-mode-loaded}
-use Rattle.order_contents.specs.Contents.{overflowing, inactiveModifiers, triggeringContents}
-use Rattle.equal_endings.specs.Follows.{triggersAt}
+use Rattle.parts_model.specs.Contents.{overflowing, inactiveModifiers, triggeringContents}
+use Rattle.equal_endings.specs.AsCoded.{triggersAt}
 use Rattle.equal_contents.proofs.Words.{columns-word}
 use Rattle.equal_contents.proofs.Content.{registerTest, Content, run-kept, inactive-content, register-content}
 use Rattle.equal_contents.proofs.Loaded.{is-loaded}
@@ -45,12 +45,12 @@ module _ (text : Text) (m : Machine) (good : Good text m) where
 
   -- Run modes are as they were.
   pub same-mode : (g : ℕ) → g < 256 → runOf text (generatorOf (triggeringContents m) g) ≡ runModeAt text m g
-  same-mode g h = run-mode-loaded text (triggeringContents m) (triggering-content .good .is-sound) g h ∙ run-kept text triggering-content g h
+  same-mode g h = run-mode-loaded text (triggeringContents m) (triggering-content .good .is-valid) g h ∙ run-kept text triggering-content g h
 
   all-overflow : (g : ℕ) → g < 256 → overflows (generatorOf (triggeringContents m) g .gq) (generatorOf (triggeringContents m) g .gp) ≡ true
   unfolding triggeringContents
   all-overflow g h =
-      let loaded = is-loaded text (triggeringContents m) (triggering-content .good .is-sound) g h in
+      let loaded = is-loaded text (triggeringContents m) (triggering-content .good .is-valid) g h in
       let whole = inactive-content text m good .good .whole in
       rw (
         loaded .gq ∙ columns-word overflowing (inactiveModifiers m) refl whole GQ g (lit< tt) h,

@@ -9,13 +9,13 @@ use native.Mathlib.Omega.{arith}
 use borrow.Author.Tests.{ltb-true, eqb-true, eqb-false}
 use lib.Dec.{eqb, ltb, lit<}
 use lib.ListN.{length, getD}
-use Rattle.lists.proofs.Below.{and-first, and-second}
+use Rattle.base_lists.proofs.Below.{and-first, and-second}
 use Rattle.layout.specs.Layout.{machineLength, generatorAt, quadrantAt}
 use Rattle.layout.specs.Machine.{Machine}
-use Rattle.fills.specs.Fills.{filled}
-use Rattle.fills.proofs.Filled.{filled-length, filled-other, filled-at}
-use Rattle.sums.specs.Sums.{generatorLast, modifierLast}
-use Rattle.order_contents.specs.Contents.{Column, column, withColumns, eachWord, inactiveModifiers, withLast}
+use Rattle.base_fills.specs.Fills.{filled}
+use Rattle.base_fills.proofs.Filled.{filled-length, filled-other, filled-at}
+use Rattle.pass_sums.specs.Sums.{generatorLast, modifierLast}
+use Rattle.parts_model.specs.Contents.{Column, column, withColumns, eachWord, inactiveModifiers, withLast}
 
 -- One column is filled.
 module _ (j : ℕ) (f : ℕ → ℕ) (m : Machine) (l : j < 11) where

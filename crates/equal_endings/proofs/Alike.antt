@@ -5,8 +5,8 @@ use Prim.Native.Nat.{ℕ, _<_}
 use native.Mathlib.Omega.{arith}
 use Rattle.layout.specs.Machine.{Machine}
 use Rattle.pass_model.specs.Generators.{Generators}
-use Rattle.order_agreement.specs.Agreement.{Settings}
-use Rattle.equal_endings.specs.Follows.{TurnFollows, Follows}
+use Rattle.compare_agreement.specs.Agreement.{Settings}
+use Rattle.equal_endings.specs.AsCoded.{TurnFollows, Follows}
 
 -- The same settings of the generators below T.
 pub record Alike (s u : Settings) : Type 0 where

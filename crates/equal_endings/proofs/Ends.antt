@@ -8,20 +8,19 @@ use native.Mathlib.Nat.{zero-add, mod-eq-of-lt}
 use lib.Pow.{pow-pos}
 use lib.ListN.{length, getD}
 use lib.Seq.{sets}
-use Rattle.lists.proofs.Below.{and-second}
-use Rattle.lists.proofs.Choices.{of-test}
+use Rattle.base_lists.proofs.Below.{and-second}
+use Rattle.base_lists.proofs.Choices.{of-test}
 use Rattle.layout.specs.Layout.{dacAt}
 use Rattle.layout.specs.Machine.{Machine, Order, Items, Places}
-use Rattle.machine.proofs.SoundMachine.{reaches}
-use Rattle.order.specs.Order.{IsOrder}
-use Rattle.sums.specs.Sums.{generatorThis, wordAt, sumAt, sumsOf}
-use Rattle.sums.proofs.Memory.{quadrant-word, sums-quadrant, sums-quadrants}
+use Rattle.machine.proofs.ValidMachine.{reaches}
+use Rattle.pass_order.specs.Order.{IsOrder}
+use Rattle.pass_sums.specs.Sums.{generatorThis, wordAt, sumAt, sumsOf}
+use Rattle.pass_sums.proofs.Memory.{quadrant-word, sums-quadrant, sums-quadrants}
 use Rattle.pass_model.specs.Generators.{Generators, State, steps, begun, takenBy}
 use Rattle.pass_laws.proofs.Orders.{Distinct, distinct-order}
-use Rattle.order_lists.specs.Sequences.{keep, some, latest}
-use Rattle.order_agreement.specs.Agreement.{Settings, replacesWord, addsToWord}
-use Rattle.equal_endings.specs.Follows.{pAt, sendsAt, Follows}
-use Rattle.equal_endings.specs.Ends.{takenIn, wordAfter, StageEnds}
+use Rattle.base_sequences.specs.Sequences.{keep, some, latest}
+use Rattle.compare_agreement.specs.Agreement.{Settings, replacesWord, addsToWord}
+use Rattle.equal_endings.specs.AsCoded.{pAt, sendsAt, Follows, takenIn, wordAfter, StageEnds}
 use Rattle.equal_endings.proofs.Folds.{replacing-left, writing-sets, counting-kept, summing, summing-plain, summing-replaced}
 use Rattle.equal_endings.proofs.Taking.{Taking}
 use Rattle.equal_endings.proofs.Stage.{dac-left, places-left, writes-left, reads-left, word-left}

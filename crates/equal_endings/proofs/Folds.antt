@@ -8,11 +8,11 @@ use native.Mathlib.Omega.{arith}
 use native.Mathlib.Nat.{zero-add, add-zero, add-assoc, mod-add-mod, mod-eq-of-lt, mod-lt}
 use lib.ListN.{length, getD, set}
 use lib.Seq.{sets}
-use Rattle.lists.specs.Lists.{count}
-use Rattle.order_lists.specs.Sequences.{keep, some, lastOf, placeOf, before, latest, total}
-use Rattle.order_lists.proofs.Entries.{count-entry, none-in-front, some-first, last-passes, CutAtLast, cut-at-last}
-use Rattle.order_lists.proofs.Places.{place-kept, before-itself, after-front, after-behind}
-use Rattle.order_lists.proofs.Totals.{total-append, total-same, total-none}
+use Rattle.base_lists.specs.Lists.{count}
+use Rattle.base_sequences.specs.Sequences.{keep, some, lastOf, placeOf, before, latest, total}
+use Rattle.base_sequences.proofs.Entries.{count-entry, none-in-front, some-first, last-passes, CutAtLast, cut-at-last}
+use Rattle.base_sequences.proofs.Places.{place-kept, before-itself, after-front, after-behind}
+use Rattle.base_sequences.proofs.Totals.{total-append, total-same, total-none}
 
 -- A word that the entries passing p replace one after the other by f.
 module _ (p : ℕ → Bool) (f : ℕ → ℕ) where

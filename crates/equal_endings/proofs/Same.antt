@@ -12,23 +12,22 @@ use lib.ListN.{length, getD}
 use lib.Seq.{ext-getD, sets}
 use Rattle.layout.specs.Layout.{generatorAt, dacAt}
 use Rattle.layout.specs.Machine.{Machine, Order, Items, Places}
-use Rattle.machine.proofs.SoundMachine.{reaches}
-use Rattle.order.specs.Order.{IsOrder}
-use Rattle.sums.specs.Sums.{sumAt, sumsOf}
-use Rattle.sums.proofs.Memory.{Quadrants, sums-quadrants}
+use Rattle.machine.proofs.ValidMachine.{reaches}
+use Rattle.pass_order.specs.Order.{IsOrder}
+use Rattle.pass_sums.specs.Sums.{sumAt, sumsOf}
+use Rattle.pass_sums.proofs.Memory.{Quadrants, sums-quadrants}
 use Rattle.generator.specs.declared.Generator.{Generator}
 use Rattle.pass_model.specs.Generators.{Generators, State, steps, begun, takenBy}
-use Rattle.pass_laws.specs.Registers.{RegistersOf}
+use Rattle.pass_laws.specs.AsCoded.{RegistersOf}
 use Rattle.pass_laws.proofs.Frames.{Sixteen, Setting, apart-other, step-below, steps-keep, steps-length, steps-quadrant, steps-quadrants, steps-middle, steps-beyond, steps-setting}
 use Rattle.pass_laws.proofs.Passing.{begun-sums}
-use Rattle.order_lists.specs.Sequences.{keep, some, lastOf, before, latest, total}
-use Rattle.order_lists.proofs.Entries.{last-passes}
-use Rattle.order_lists.proofs.Orders.{last-below, some-orders, keep-below, length-keep}
-use Rattle.order_lists.proofs.Mapped.{map-tells}
-use Rattle.order_lists.proofs.Totals.{total-orders}
-use Rattle.order_agreement.specs.Agreement.{Settings, replacesWord, addsToWord, lastReplacing, placeReplacing, afterReplacing, SameWord, Agreeing}
-use Rattle.equal_endings.specs.Follows.{turnAt, pAt, sendsAt, triggersAt, Follows}
-use Rattle.equal_endings.specs.Ends.{toldIn, takenIn, wordAfter, StageEnds, SameTaken}
+use Rattle.base_sequences.specs.Sequences.{keep, some, lastOf, before, latest, total}
+use Rattle.base_sequences.proofs.Entries.{last-passes}
+use Rattle.base_sequences.proofs.Orders.{last-below, some-orders, keep-below, length-keep}
+use Rattle.base_sequences.proofs.Mapped.{map-tells}
+use Rattle.base_sequences.proofs.Totals.{total-orders}
+use Rattle.compare_agreement.specs.Agreement.{Settings, replacesWord, addsToWord, lastReplacing, placeReplacing, afterReplacing, SameWord, Agreeing}
+use Rattle.equal_endings.specs.AsCoded.{turnAt, pAt, sendsAt, triggersAt, Follows, triggeredBelowIn, takenIn, wordAfter, StageEnds, SameTaken}
 use Rattle.equal_endings.proofs.Ends.{stage-ends}
 
 -- What the last one that passes leaves, by two orders of the same numbers.
@@ -69,8 +68,8 @@ module _ (of : Generators) (s : Settings) (m : Machine) (f : Follows of s m) (it
   below o is i h = omega (arith, is .below i h, f .few)
 
   -- A generator that waits is told the same, by the first point.
-  told-same : (g : ℕ) → g < s .ticks → s .waits g ≡ true → toldIn of m o₁ g ≡ toldIn of m o₂ g
-  unfolding toldIn
+  told-same : (g : ℕ) → g < s .ticks → s .waits g ≡ true → triggeredBelowIn of m o₁ g ≡ triggeredBelowIn of m o₂ g
+  unfolding triggeredBelowIn
   told-same g h w = go (leb (of .distance) g) refl (triggersAt of m (g - of .distance)) refl
     where
       go : (a : Bool) → leb (of .distance) g ≡ a → (b : Bool) → triggersAt of m (g - of .distance) ≡ b
@@ -82,22 +81,22 @@ module _ (of : Generators) (s : Settings) (m : Machine) (f : Follows of s m) (it
       go true ea false eb = refl
       go false ea b eb = refl
 
-  unit-same : (g : ℕ) → g < s .ticks → turnAt of m g (toldIn of m o₁ g) .unit ≡ turnAt of m g (toldIn of m o₂ g) .unit
+  unit-same : (g : ℕ) → g < s .ticks → turnAt of m g (triggeredBelowIn of m o₁ g) .unit ≡ turnAt of m g (triggeredBelowIn of m o₂ g) .unit
   unit-same g h = go (s .waits g) refl
     where
-      go : (b : Bool) → s .waits g ≡ b → turnAt of m g (toldIn of m o₁ g) .unit ≡ turnAt of m g (toldIn of m o₂ g) .unit
+      go : (b : Bool) → s .waits g ≡ b → turnAt of m g (triggeredBelowIn of m o₁ g) .unit ≡ turnAt of m g (triggeredBelowIn of m o₂ g) .unit
       go true e = ap (λ (t : Bool). turnAt of m g t .unit) (told-same g h e)
-      go false e = f .turns g h .unit e (toldIn of m o₁ g) ∙ sym (f .turns g h .unit e (toldIn of m o₂ g))
+      go false e = f .turns g h .unit e (triggeredBelowIn of m o₁ g) ∙ sym (f .turns g h .unit e (triggeredBelowIn of m o₂ g))
 
   -- A word of a generator that is taken.
   own-word : (g : ℕ) → g < s .ticks → (j : ℕ) → j < 11 → getD (at o₁ .words) (generatorAt g + j) 0 ≡ getD (at o₂ .words) (generatorAt g + j) 0
   unfolding takenBy
   own-word g h j l = go (eqb j 1) (eqb j 2) (eqb j 6) (eqb j 10) refl refl refl refl
     where
-      r₁ : RegistersOf (at o₁ .words) g (turnAt of m g (toldIn of m o₂ g) .unit)
+      r₁ : RegistersOf (at o₁ .words) g (turnAt of m g (triggeredBelowIn of m o₂ g) .unit)
       r₁ = subst (λ (u : Generator). RegistersOf (at o₁ .words) g u) (unit-same g h) (ends₁ .own g h)
 
-      r₂ : RegistersOf (at o₂ .words) g (turnAt of m g (toldIn of m o₂ g) .unit)
+      r₂ : RegistersOf (at o₂ .words) g (turnAt of m g (triggeredBelowIn of m o₂ g) .unit)
       r₂ = ends₂ .own g h
 
       go : (a b c d : Bool) → eqb j 1 ≡ a → eqb j 2 ≡ b → eqb j 6 ≡ c → eqb j 10 ≡ d

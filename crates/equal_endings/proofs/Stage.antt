@@ -6,10 +6,10 @@ use Prim.Native.Nat.{ℕ, _%_, _^_, _<_}
 use lib.ListN.{getD}
 use Rattle.layout.specs.Layout.{dacAt}
 use Rattle.layout.specs.Machine.{Machine, Order, Items}
-use Rattle.sums.specs.Sums.{generatorThis}
+use Rattle.pass_sums.specs.Sums.{generatorThis}
 use Rattle.pass_model.specs.Generators.{Generators, State, step, steps}
-use Rattle.order_agreement.specs.Agreement.{Settings, replacesWord, addsToWord}
-use Rattle.equal_endings.specs.Follows.{pAt, sendsAt, Follows}
+use Rattle.compare_agreement.specs.Agreement.{Settings, replacesWord, addsToWord}
+use Rattle.equal_endings.specs.AsCoded.{pAt, sendsAt, Follows}
 use Rattle.equal_endings.proofs.Folds.{replacing, writing, counting, summing}
 use Rattle.equal_endings.proofs.Taking.{Taking, taking-next, dac-next, sum-next, places-next, writes-next, reads-next}
 

@@ -12,21 +12,21 @@ use lib.Dec.{eqb}
 use lib.Pow.{pow-pos}
 use lib.ListN.{length, getD, set}
 use lib.Seq.{getD-set-same, getD-set-other}
-use Rattle.lists.specs.Lists.{count}
+use Rattle.base_lists.specs.Lists.{count}
 use Rattle.layout.specs.Layout.{generatorAt, dacAt}
 use Rattle.layout.specs.Machine.{Machine, Order, Items, Sums}
-use Rattle.words.specs.Words.{sum}
-use Rattle.words.proofs.Residues.{sum-is}
-use Rattle.sums.specs.Sums.{generatorThis, wordAt, sumAt, putSum, sumsOf}
-use Rattle.sums.proofs.Memory.{Quadrants, put-this}
-use Rattle.pass_model.specs.Generators.{Brought, Generators, State, told, fed, summed, step}
+use Rattle.base_words.specs.Words.{sum}
+use Rattle.base_words.proofs.Residues.{sum-is}
+use Rattle.pass_sums.specs.Sums.{generatorThis, wordAt, sumAt, putSum, sumsOf}
+use Rattle.pass_sums.proofs.Memory.{Quadrants, put-this}
+use Rattle.pass_model.specs.Generators.{Contribution, Generators, State, triggeredBelow, fed, summed, step}
 use Rattle.pass_model.proofs.Puts.{put-length, put-apart}
-use Rattle.pass_laws.proofs.Frames.{broughtAt, putBack, step-words, step-length, step-below, step-quadrant, step-quadrants, apart-past, apart-other}
+use Rattle.pass_laws.proofs.Frames.{contributionAt, putBack, step-words, step-length, step-below, step-quadrant, step-quadrants, apart-past, apart-other}
 use Rattle.pass_laws.proofs.Orders.{Distinct, distinct-first, distinct-rest}
-use Rattle.order_agreement.specs.Agreement.{Settings, replacesWord, addsToWord}
-use Rattle.lists.proofs.Counts.{count-first, count-next}
-use Rattle.order_lists.proofs.Places.{there-within}
-use Rattle.equal_endings.specs.Follows.{turnAt, pAt, sendsAt, SameWords, SameLast, TurnFollows, Follows}
+use Rattle.compare_agreement.specs.Agreement.{Settings, replacesWord, addsToWord}
+use Rattle.base_lists.proofs.Counts.{count-first, count-next}
+use Rattle.base_sequences.proofs.Places.{there-within}
+use Rattle.equal_endings.specs.AsCoded.{turnAt, pAt, sendsAt, SameWords, SameLast, TurnFollows, Follows}
 use Rattle.equal_endings.proofs.Folds.{next}
 
 -- A word that a DAC may be.
@@ -89,35 +89,35 @@ module _ (of : Generators) (c : Settings) (m : Machine) (f : Follows of c m) (it
   first : TurnFollows of c m g
   first = f .turns g (k .below 0 (omega arith))
 
-  abbrev b : Brought
-  b = broughtAt of s g
+  abbrev b : Contribution
+  b = contributionAt of s g
 
   abbrev t : Bool
-  t = told (of .distance) (s .triggered) g
+  t = triggeredBelow (of .distance) (s .triggered) g
 
-  first-brings : broughtAt of s g ≡ turnAt of m g (told (of .distance) (s .triggered) g)
+  first-brings : contributionAt of s g ≡ turnAt of m g (triggeredBelow (of .distance) (s .triggered) g)
   first-brings = f .own (s .words) m (s .sums) (sumsOf m) g t (k .as-begun g (omega (arith, count-first g order))) (k .same-last)
 
   sends-is : b .sends ≡ sendsAt of m g
-  sends-is = ap (λ (x : Brought). x .sends) first-brings ∙ first .sends t
+  sends-is = ap (λ (x : Contribution). x .sends) first-brings ∙ first .sends t
 
   writes-is : b .writes ≡ c .writes g
-  writes-is = ap (λ (x : Brought). x .writes) first-brings ∙ first .writes t
+  writes-is = ap (λ (x : Contribution). x .writes) first-brings ∙ first .writes t
 
   replaces-is : b .replaces ≡ c .replacing g
-  replaces-is = ap (λ (x : Brought). x .replaces) first-brings ∙ first .replaces t
+  replaces-is = ap (λ (x : Contribution). x .replaces) first-brings ∙ first .replaces t
 
   adds-is : b .adds ≡ c .adding g
-  adds-is = ap (λ (x : Brought). x .adds) first-brings ∙ first .adds t
+  adds-is = ap (λ (x : Contribution). x .adds) first-brings ∙ first .adds t
 
   word-is : (w : ℕ) → eqb (b .word) w ≡ c .onWord w g
-  word-is w = ap (λ (x : Brought). eqb (x .word) w) first-brings ∙ first .word t w
+  word-is w = ap (λ (x : Contribution). eqb (x .word) w) first-brings ∙ first .word t w
 
   p-is : b .p ≡ pAt of m g
-  p-is = ap (λ (x : Brought). x .p) first-brings ∙ first .p t
+  p-is = ap (λ (x : Contribution). x .p) first-brings ∙ first .p t
 
   feeds-is : (d : ℕ) → (b .feeds && eqb (b .dac) d) ≡ c .feeds d g
-  feeds-is d = ap (λ (x : Brought). x .feeds && eqb (x .dac) d) first-brings ∙ first .feeds t d
+  feeds-is d = ap (λ (x : Contribution). x .feeds && eqb (x .dac) d) first-brings ∙ first .feeds t d
 
   -- The others stay as they were.
   pub taking-next : Taking (c .ticks) m (step of items s g) order

@@ -7,24 +7,23 @@ use Prim.Native.Nat.{ℕ, zero, suc, _-_, _≤_, _<_}
 use native.Mathlib.Omega.{arith}
 use lib.Dec.{eqb, leb}
 use lib.ListN.{length, getD}
-use Rattle.lists.specs.Lists.{count}
-use Rattle.lists.proofs.Zeros.{zeros-length, zeros-at}
+use Rattle.base_lists.specs.Lists.{count}
+use Rattle.base_lists.proofs.Zeros.{zeros-length, zeros-at}
 use Rattle.layout.specs.Machine.{Machine, Order, Items, Places}
-use Rattle.order.specs.Order.{IsOrder}
-use Rattle.sums.specs.Sums.{sumsOf}
+use Rattle.pass_order.specs.Order.{IsOrder}
+use Rattle.pass_sums.specs.Sums.{sumsOf}
 use Rattle.generator.specs.declared.Generator.{Generator}
-use Rattle.pass_model.specs.Generators.{Brought, Generators, State, told, steps, begun}
-use Rattle.pass_laws.specs.Registers.{RegistersOf}
-use Rattle.pass_laws.proofs.Frames.{broughtAt, steps-quadrant, steps-untaken}
+use Rattle.pass_model.specs.Generators.{Contribution, Generators, State, triggeredBelow, steps, begun}
+use Rattle.pass_laws.specs.AsCoded.{RegistersOf}
+use Rattle.pass_laws.proofs.Frames.{contributionAt, steps-quadrant, steps-untaken}
 use Rattle.pass_laws.proofs.Orders.{Split, split-once}
 use Rattle.pass_laws.proofs.Turns.{turn-registers, steps-triggered-other, turn-triggered}
-use Rattle.order_agreement.specs.Agreement.{Settings}
-use Rattle.order_lists.specs.Sequences.{before}
-use Rattle.order_lists.proofs.Entries.{count-append}
-use Rattle.order_lists.proofs.Orders.{there-below, there-once}
-use Rattle.order_lists.proofs.Places.{before-cut, not-before-cut}
-use Rattle.equal_endings.specs.Follows.{turnAt, triggersAt, Follows}
-use Rattle.equal_endings.specs.Ends.{toldIn}
+use Rattle.compare_agreement.specs.Agreement.{Settings}
+use Rattle.base_sequences.specs.Sequences.{before}
+use Rattle.base_sequences.proofs.Entries.{count-append}
+use Rattle.base_sequences.proofs.Orders.{there-below, there-once}
+use Rattle.base_sequences.proofs.Places.{before-cut, not-before-cut}
+use Rattle.equal_endings.specs.AsCoded.{turnAt, triggersAt, Follows, triggeredBelowIn}
 
 -- A mark tells.
 marked : (b : Bool) → eqb (cond b 1 0) 1 ≡ b
@@ -46,11 +45,11 @@ module _ (of : Generators) (s : Settings) (m : Machine) (f : Follows of s m) (it
 
   -- What a generator brings that is taken after the part a of an order.
   turn-brings : (a : Order) (g : ℕ) → g < 256 → count g a ≡ 0
-      → broughtAt of (steps of items start a) g ≡ turnAt of m g (told (of .distance) (steps of items start a .triggered) g)
+      → contributionAt of (steps of items start a) g ≡ turnAt of m g (triggeredBelow (of .distance) (steps of items start a .triggered) g)
   unfolding begun
   turn-brings a g h n =
       let t = steps of items start a in
-      f .own (t .words) m (t .sums) (sumsOf m) g (told (of .distance) (t .triggered) g)
+      f .own (t .words) m (t .sums) (sumsOf m) g (triggeredBelow (of .distance) (t .triggered) g)
       (record { each = λ j l. steps-untaken of items a start g j h l n })
       (record { generators = steps-quadrant of items a start 1 (λ e. omega arith); modifiers = steps-quadrant of items a start 3 (λ e. omega arith) })
 
@@ -65,8 +64,8 @@ module _ (of : Generators) (s : Settings) (m : Machine) (f : Follows of s m) (it
         at : Split k a → getD (steps of items start a .triggered) k 0 ≡ cond (triggersAt of m k) 1 0
         at c =
             let t = steps of items start (c .before) in
-            let same : broughtAt of t k .triggers ≡ triggersAt of m k
-            = ap (λ (b : Brought). b .triggers) (turn-brings (c .before) k few (c .not-before)) ∙ f .turns k low .triggers (told (of .distance) (t .triggered) k) in
+            let same : contributionAt of t k .triggers ≡ triggersAt of m k
+            = ap (λ (b : Contribution). b .triggers) (turn-brings (c .before) k few (c .not-before)) ∙ f .turns k low .triggers (triggeredBelow (of .distance) (t .triggered) k) in
             ap (λ (l : Order). getD (steps of items start l .triggered) k 0) (c .is)
             ∙ turn-triggered of items (c .before) (c .behind) start k (rw begun-marks few) (c .not-before) (c .not-behind)
             ∙ rw (same, begun-triggered k few)
@@ -86,22 +85,22 @@ module _ (of : Generators) (s : Settings) (m : Machine) (f : Follows of s m) (it
         )
         (marked (triggersAt of m k))
 
-    told-at : told (of .distance) (steps of items start a .triggered) g ≡ toldIn of m (a ++ (g ∷ b)) g
-    unfolding told toldIn
+    told-at : triggeredBelow (of .distance) (steps of items start a .triggered) g ≡ triggeredBelowIn of m (a ++ (g ∷ b)) g
+    unfolding triggeredBelow triggeredBelowIn
     told-at =
         let k = g - of .distance in
         ap (λ (x : Bool). leb (of .distance) g && x) (told-by k (omega arith) (count k a) refl)
 
   -- The registers of each generator at the end.
   pub own-turned : (order : Order) → IsOrder (s .ticks) order → (g : ℕ) → g < s .ticks
-      → RegistersOf (steps of items start order .words) g (turnAt of m g (toldIn of m order g) .unit)
+      → RegistersOf (steps of items start order .words) g (turnAt of m g (triggeredBelowIn of m order g) .unit)
   unfolding begun
   own-turned order o g h = at (split-once g order (o .once g h))
     where
       low : g < 256
       low = omega (arith, f .few)
 
-      at : Split g order → RegistersOf (steps of items start order .words) g (turnAt of m g (toldIn of m order g) .unit)
+      at : Split g order → RegistersOf (steps of items start order .words) g (turnAt of m g (triggeredBelowIn of m order g) .unit)
       at c =
           let a = c .before in
           let b = c .behind in
@@ -111,5 +110,5 @@ module _ (of : Generators) (s : Settings) (m : Machine) (f : Follows of s m) (it
           (λ k. rw (← (c .is)) (there-below (s .ticks) order (o .once) (o .below) k)) in
           rw (c .is)
           (subst (λ (u : Generator). RegistersOf (steps of items start (a ++ (g ∷ b)) .words) g u)
-          (ap (λ (x : Brought). x .unit) (turn-brings a g low (c .not-before)) ∙ ap (λ (x : Bool). turnAt of m g x .unit) told-is)
+          (ap (λ (x : Contribution). x .unit) (turn-brings a g low (c .not-before)) ∙ ap (λ (x : Bool). turnAt of m g x .unit) told-is)
           (turn-registers of items a b start g low (omega (arith, f .whole)) (c .not-behind)))

@@ -6,9 +6,9 @@ use Prim.Native.Nat.{ℕ, _<_}
 use native.Mathlib.Omega.{arith}
 use borrow.Author.Tests.{eqb-true, eq-eqb}
 use lib.Dec.{eqb}
-use Rattle.lists.proofs.Tests.{below}
-use Rattle.modes.specs.Modes.{writeDAC}
-use Rattle.old_modes.specs.OldModes.{oldRun, negativeGN, switchedAs, oldRunMode}
+use Rattle.base_lists.proofs.Tests.{below}
+use Rattle.layout_modes.specs.Modes.{writeDAC}
+use Rattle.layout_old_modes.specs.OldModes.{oldRun, negativeGN, switchedAs, oldRunMode}
 
 switched-by : (r : ℕ) (a b : Bool) → r < 8 → (r ≡ 0b111 → a ≡ b) → switchedAs r a ≡ switchedAs r b
 switched-by r a b h f = go (eqb r 0b111) refl

@@ -9,19 +9,19 @@ use native.Mathlib.Omega.{arith}
 use borrow.Author.Tests.{eqb-true, eq-eqb, ne-eqb}
 use lib.Dec.{eqb}
 use lib.ListN.{getD}
-use Rattle.lists.proofs.Tests.{below}
-use Rattle.words.specs.Words.{lowBits}
+use Rattle.base_lists.proofs.Tests.{below}
+use Rattle.base_words.specs.Words.{lowBits}
 use Rattle.layout.specs.Machine.{Machine, gmodeAt}
-use Rattle.texts.specs.declared.Text.the-variants.{Old}
-use Rattle.exponential.specs.Exponential.{bound, within, greatest, entry as exponentialEntry, exponential}
-use Rattle.old_modes.specs.OldModes.{oldEnvelope}
-use Rattle.old_generator.specs.OldGenerator.{oldQ, oldLevel, oldV, oldW, oldP}
-use Rattle.old_generator.proofs.Switched.{left-switched}
-use Rattle.old_generator.proofs.Sounding.{old-heard}
+use Rattle.layout_texts.specs.declared.Text.the-variants.{Old}
+use Rattle.generator_exponential.specs.Exponential.{bound, within, greatest, entry as exponentialEntry, exponential}
+use Rattle.layout_old_modes.specs.OldModes.{oldEnvelope}
+use Rattle.generator_old.specs.OldGenerator.{oldQ, oldLevel, oldV, oldW, oldP}
+use Rattle.generator_old.proofs.Switched.{left-switched}
+use Rattle.generator_old.proofs.Sounding.{old-heard}
 use Rattle.pass_model.specs.Generators.{turnOld, generatorsOf}
 use Rattle.pass_laws.specs.Good.{Good}
-use Rattle.order_contents.specs.Contents.{soundingLevel, soundingContents}
-use Rattle.equal_endings.specs.Follows.{pAt}
+use Rattle.parts_model.specs.Contents.{soundingLevel, soundingContents}
+use Rattle.equal_endings.specs.AsCoded.{pAt}
 use Rattle.equal_contents.proofs.Sounding.{nothing, unit, input, SoundingAt, sounding-at}
 
 -- V by the envelope mode where GQ is 0.

@@ -7,28 +7,28 @@ use Prim.Native.Nat.{ℕ, _+_, _*_, _/_, _%_, _^_, _≤_, _<_}
 use native.Mathlib.Omega.{arith}
 use borrow.Author.Tests.{eqb-true, lt-ltb}
 use lib.Dec.{eqb, lit<}
-use Rattle.lists.proofs.Choices.{of-cond}
-use Rattle.words.specs.Words.{sum}
-use Rattle.words.proofs.Residues.{sum-is}
+use Rattle.base_lists.proofs.Choices.{of-cond}
+use Rattle.base_words.specs.Words.{sum}
+use Rattle.base_words.proofs.Residues.{sum-is}
 use Rattle.layout.specs.Layout.{GJ, GK}
 use Rattle.layout.specs.Machine.{Machine, ticksOf, gfmAt}
-use Rattle.texts.specs.Texts.{runModeAt}
-use Rattle.texts.specs.declared.Text.the-variants.{Old}
-use Rattle.modes.specs.Modes.{wait}
-use Rattle.old_modes.specs.OldModes.{oldRun, oldOscillator}
-use Rattle.old_modes.proofs.RunModes.{waits-in}
+use Rattle.layout_texts.specs.Texts.{runModeAt}
+use Rattle.layout_texts.specs.declared.Text.the-variants.{Old}
+use Rattle.layout_modes.specs.Modes.{wait}
+use Rattle.layout_old_modes.specs.OldModes.{oldRun, oldOscillator}
+use Rattle.layout_old_modes.proofs.RunModes.{waits-in}
 use Rattle.machine.specs.Questions.{regions}
-use Rattle.machine.proofs.SoundMachine.{sound-controls}
-use Rattle.sums.specs.Sums.{fAt, sumsOf}
+use Rattle.machine.proofs.ValidMachine.{valid-controls}
+use Rattle.pass_sums.specs.Sums.{fAt, sumsOf}
 use Rattle.generator.specs.declared.Generator.{Generator}
 use Rattle.generator.specs.Generator.{jOf}
-use Rattle.old_generator.specs.OldGenerator.{eOf, withOldRun, oldGmodeAfter, oldAfter}
+use Rattle.generator_old.specs.OldGenerator.{eOf, withOldRun, oldGmodeAfter, oldAfter}
 use Rattle.pass_model.specs.Generators.{generatorOf, turnOld, generatorsOf}
 use Rattle.pass_laws.specs.Good.{Good}
-use Rattle.order_agreement.specs.Agreement.{settingsOf}
-use Rattle.order_contents.specs.Contents.{withLast, triggeringContents, ownNumbers, sendingContents, soundingContents, byPoint, contentsFor}
-use Rattle.equal_endings.specs.Follows.{turnAt, sendsAt}
-use Rattle.equal_witnesses.specs.Contents.{Contents}
+use Rattle.compare_agreement.specs.Agreement.{settingsOf}
+use Rattle.parts_model.specs.Contents.{withLast, triggeringContents, ownNumbers, sendingContents, soundingContents, byPoint, contentsFor}
+use Rattle.equal_endings.specs.AsCoded.{turnAt, sendsAt}
+use Rattle.equal_witnesses.specs.AsCoded.{Contents}
 use Rattle.equal_contents.proofs.Words.{columns-word}
 use Rattle.equal_contents.proofs.Content.{registerTest, Content, register-content, last-content}
 use Rattle.equal_contents.proofs.Loaded.{is-loaded, f-is}
@@ -56,7 +56,7 @@ own-j g h =
 
 module _ (m : Machine) (good : Good Old m) where
   few : ticksOf m ≤ 256
-  few = sound-controls Old m (good .is-sound) .tHigh
+  few = valid-controls Old m (good .is-valid) .tHigh
 
   told-tells : (g : ℕ) → g < 256 → eqb (runModeAt Old m g) wait ≡ true → (a b : Bool)
       → turnAt (generatorsOf Old) (triggeringContents m) g a .unit .gmode ≡ turnAt (generatorsOf Old) (triggeringContents m) g b .unit .gmode → a ≡ b
@@ -80,7 +80,7 @@ module _ (m : Machine) (good : Good Old m) where
   sends-own g h =
       let n = sendingContents Old m in
       let u = generatorOf n g in
-      let words = is-loaded Old n (sending-content .good .is-sound) g h in
+      let words = is-loaded Old n (sending-content .good .is-valid) g h in
       let gj : u .gj ≡ 256 * g = words .gj ∙ columns-word ownNumbers (withLast (λ w. 0) (λ w. 0) m) refl (zeros-content .good .whole) GJ g (lit< tt) h in
       let gk : u .gk ≡ g = words .gk ∙ columns-word ownNumbers (withLast (λ w. 0) (λ w. 0) m) refl (zeros-content .good .whole) GK g (lit< tt) h in
       let f : fAt (sumsOf n) (u .gfm) ≡ 0

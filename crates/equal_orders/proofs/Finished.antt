@@ -11,21 +11,21 @@ use lib.Dec.{lit<}
 use lib.ListN.{length, getD}
 use Rattle.layout.specs.Layout.{machineLength, memoryWords, generatorAt, modifierAt, dacAt, quadrantAt, GMODE, MMODE}
 use Rattle.layout.specs.Machine.{Machine, Order, Items, Places, Reaches, ticksOf}
-use Rattle.texts.specs.declared.Text.{Text}
-use Rattle.texts.specs.declared.Text.the-variants.{Of1978, Old}
-use Rattle.lists.specs.Lists.{allBelow, zeros}
-use Rattle.lists.proofs.Below.{below-from}
-use Rattle.lists.proofs.Zeros.{zeros-length, zeros-at}
+use Rattle.layout_texts.specs.declared.Text.{Text}
+use Rattle.layout_texts.specs.declared.Text.the-variants.{Of1978, Old}
+use Rattle.base_lists.specs.Lists.{allBelow, zeros}
+use Rattle.base_lists.proofs.Below.{below-from}
+use Rattle.base_lists.proofs.Zeros.{zeros-length, zeros-at}
 use Rattle.delay_questions.specs.Questions.{memoryGood, invokes, goodLine, linesGood, apart, namedOnce}
 use Rattle.delay_questions.proofs.Memory.{good-from}
 use Rattle.delay_questions.proofs.Lines.{none-invoked}
-use Rattle.questions.specs.Questions.{asked}
-use Rattle.machine.proofs.SoundMachine.{reaches}
-use Rattle.modes.specs.Modes.{readData, writeData}
-use Rattle.order.specs.Order.{question5, question6, inMode}
-use Rattle.sums.specs.Sums.{generatorLast, sumsOf}
-use Rattle.sums.proofs.Blocks.{outside-before, outside-after}
-use Rattle.sums.proofs.Memory.{Quadrants, sums-quadrants}
+use Rattle.base_questions.specs.Questions.{asked}
+use Rattle.machine.proofs.ValidMachine.{reaches}
+use Rattle.layout_modes.specs.Modes.{readData, writeData}
+use Rattle.pass_order.specs.Order.{question5, question6, inMode}
+use Rattle.pass_sums.specs.Sums.{generatorLast, sumsOf}
+use Rattle.pass_sums.proofs.Blocks.{outside-before, outside-after}
+use Rattle.pass_sums.proofs.Memory.{Quadrants, sums-quadrants}
 use Rattle.pass_model.specs.Generators.{Generators, generatorsOf, Taken, begun, takenBy}
 use Rattle.pass_model.specs.Pass.{unitQuestions, Call, by, writtenData, generatorsTaken, finished, ran, refused, passRefusal, passOf}
 use Rattle.pass_model.specs.Modifiers.{Held}
@@ -35,8 +35,8 @@ use Rattle.pass_laws.specs.Good.{Good}
 use Rattle.pass_laws.proofs.Completing.{completed-word, completed-last}
 use Rattle.pass_laws.proofs.Frames.{steps-length, steps-quadrants}
 use Rattle.pass_laws.proofs.Passing.{good-passes, begun-words, begun-sums, let-through}
-use Rattle.equal_endings.specs.Ends.{takenIn, SameTaken}
-use Rattle.equal_witnesses.specs.Contents.{SameHeard}
+use Rattle.equal_endings.specs.AsCoded.{takenIn, SameTaken}
+use Rattle.equal_witnesses.specs.AsCoded.{SameHeard}
 use Rattle.equal_orders.specs.ButMarks.{SameButMarks}
 
 -- An order passes questions 5 and 6.

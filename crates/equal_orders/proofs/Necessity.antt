@@ -5,23 +5,23 @@ use Prim.Native.Nat.{ℕ, _≤_}
 use native.Mathlib.Omega.{arith}
 use lib.Dec.{eqb}
 use lib.ListN.{length}
-use Rattle.lists.specs.Lists.{zeros}
-use Rattle.lists.proofs.Counts.{count-below-le}
-use Rattle.lists.proofs.Zeros.{zeros-length, zeros-at}
+use Rattle.base_lists.specs.Lists.{zeros}
+use Rattle.base_lists.proofs.Counts.{count-below-le}
+use Rattle.base_lists.proofs.Zeros.{zeros-length, zeros-at}
 use Rattle.layout.specs.Machine.{Machine, Order, Items, ticksOf}
-use Rattle.texts.specs.Texts.{runModeAt}
-use Rattle.texts.specs.declared.Text.{Text}
-use Rattle.machine.proofs.SoundMachine.{sound-controls}
-use Rattle.modes.specs.Modes.{readData, writeData}
-use Rattle.order.specs.Order.{inMode}
-use Rattle.order.proofs.Entries.{order-passes}
+use Rattle.layout_texts.specs.Texts.{runModeAt}
+use Rattle.layout_texts.specs.declared.Text.{Text}
+use Rattle.machine.proofs.ValidMachine.{valid-controls}
+use Rattle.layout_modes.specs.Modes.{readData, writeData}
+use Rattle.pass_order.specs.Order.{inMode}
+use Rattle.pass_order.proofs.Entries.{order-passes}
 use Rattle.pass_model.specs.Generators.{generatorsOf}
 use Rattle.pass_model.specs.Pass.{plainCall}
 use Rattle.pass_laws.specs.Good.{Good}
-use Rattle.order_agreement.specs.Agreement.{settingsOf, Agree}
-use Rattle.equal_endings.specs.Ends.{takenIn}
+use Rattle.compare_agreement.specs.Agreement.{settingsOf, Agree}
+use Rattle.equal_endings.specs.AsCoded.{takenIn}
 use Rattle.equal_contents.proofs.Content.{Content}
-use Rattle.equal_witnesses.specs.Contents.{SameHeard}
+use Rattle.equal_witnesses.specs.AsCoded.{SameHeard}
 use Rattle.equal_witnesses.proofs.Points.{heard-agree}
 use Rattle.equal_orders.specs.Equal.{Words, Enough, Equal}
 use Rattle.equal_orders.proofs.Finished.{OrderPasses, pass-let, zeros-good, inactive-let, same-heard}
@@ -30,7 +30,7 @@ use Rattle.equal_orders.proofs.Settings.{follows}
 
 -- A good machine has at most 256 generators in a run mode, so that 256 items and places are enough.
 few-ticks : (text : Text) (n : Machine) → Good text n → ticksOf n ≤ 256
-few-ticks text n good = sound-controls text n (good .is-sound) .tHigh
+few-ticks text n good = valid-controls text n (good .is-valid) .tHigh
 
 few-in-mode : (text : Text) (n : Machine) → Good text n → (r : ℕ) → inMode text n r ≤ 256
 unfolding inMode

@@ -6,15 +6,15 @@ use Prim.Native.Nat.{ℕ, _≤_, _<_}
 use native.Mathlib.Omega.{arith}
 use borrow.Author.Tests.{eqb-true}
 use lib.Dec.{eqb}
-use Rattle.modes.specs.Modes.{wait, writeData, writeDAC, free, adds, replaces}
+use Rattle.layout_modes.specs.Modes.{wait, writeData, writeDAC, free, adds, replaces}
 use Rattle.layout.specs.Machine.{Machine, ticksOf}
-use Rattle.texts.specs.Texts.{runModeAt, dacNumberAt}
-use Rattle.texts.specs.declared.Text.{Text}
-use Rattle.machine.proofs.SoundMachine.{sound-controls}
+use Rattle.layout_texts.specs.Texts.{runModeAt, dacNumberAt}
+use Rattle.layout_texts.specs.declared.Text.{Text}
+use Rattle.machine.proofs.ValidMachine.{valid-controls}
 use Rattle.pass_model.specs.Generators.{generatorsOf}
 use Rattle.pass_laws.specs.Good.{Good}
-use Rattle.order_agreement.specs.Agreement.{settingsOf}
-use Rattle.equal_endings.specs.Follows.{Follows}
+use Rattle.compare_agreement.specs.Agreement.{settingsOf}
+use Rattle.equal_endings.specs.AsCoded.{Follows}
 use Rattle.equal_endings.proofs.Alike.{Alike, follows-alike}
 use Rattle.equal_contents.proofs.Settings.{follows-settings}
 use Rattle.equal_orders.specs.Equal.{SameSettings}
@@ -45,4 +45,4 @@ module _ (text : Text) (m n : Machine) (s : SameSettings text m n) where
 
   pub follows : Good text m → Good text n → Follows (generatorsOf text) (settingsOf text m) n
   follows good goodn =
-      follows-alike (generatorsOf text) (settingsOf text m) (settingsOf text n) n (settings-alike (sound-controls text m (good .is-sound) .tHigh)) (follows-settings text n goodn)
+      follows-alike (generatorsOf text) (settingsOf text m) (settingsOf text n) n (settings-alike (valid-controls text m (good .is-valid) .tHigh)) (follows-settings text n goodn)

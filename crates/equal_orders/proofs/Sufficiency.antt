@@ -7,12 +7,12 @@ use lib.Dec.{eqb}
 use Rattle.pass_model.specs.Pass.{Call, by, Outcome, writtenData, passRefusal, passOf}
 use Rattle.pass_model.proofs.Asked.{same-refusal}
 use Rattle.layout.specs.Machine.{Machine, Order, ticksOf}
-use Rattle.texts.specs.declared.Text.{Text}
-use Rattle.order.proofs.Entries.{order-passes}
+use Rattle.layout_texts.specs.declared.Text.{Text}
+use Rattle.pass_order.proofs.Entries.{order-passes}
 use Rattle.pass_model.specs.Generators.{generatorsOf}
 use Rattle.pass_laws.specs.Good.{Good}
-use Rattle.order_agreement.specs.Agreement.{settingsOf, Agree}
-use Rattle.equal_endings.specs.Ends.{takenIn}
+use Rattle.compare_agreement.specs.Agreement.{settingsOf, Agree}
+use Rattle.equal_endings.specs.AsCoded.{takenIn}
 use Rattle.equal_endings.proofs.Same.{agreed-taken}
 use Rattle.equal_orders.specs.Equal.{SameSettings, SameEnd, Equal}
 use Rattle.equal_orders.specs.ButMarks.{SameButMarks}

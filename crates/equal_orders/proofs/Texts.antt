@@ -7,16 +7,16 @@ use lib.Dec.{lit<}
 use lib.ListN.{getD}
 use Rattle.layout.specs.Layout.{generatorAt, GO, GN, GSUM, GFM, GMODE}
 use Rattle.layout.specs.Machine.{Machine, gmodeAt}
-use Rattle.modes.specs.Modes.{writeDAC}
-use Rattle.old_modes.specs.OldModes.{negativeGN, oldRunMode}
-use Rattle.texts.specs.Texts.{runModeAt, dacNumberAt, sourceAt}
-use Rattle.texts.specs.declared.Text.{Text}
-use Rattle.texts.specs.declared.Text.the-variants.{Of1978, Old}
+use Rattle.layout_modes.specs.Modes.{writeDAC}
+use Rattle.layout_old_modes.specs.OldModes.{negativeGN, oldRunMode}
+use Rattle.layout_texts.specs.Texts.{runModeAt, dacNumberAt, sourceAt}
+use Rattle.layout_texts.specs.declared.Text.{Text}
+use Rattle.layout_texts.specs.declared.Text.the-variants.{Of1978, Old}
 use Rattle.pass_model.specs.Generators.{generatorsOf}
 use Rattle.pass_laws.specs.Good.{Good}
-use Rattle.order_agreement.specs.Agreement.{settingsOf}
-use Rattle.order_contents.specs.Contents.{byPoint, contentsFor}
-use Rattle.equal_witnesses.specs.Contents.{Contents}
+use Rattle.compare_agreement.specs.Agreement.{settingsOf}
+use Rattle.parts_model.specs.Contents.{byPoint, contentsFor}
+use Rattle.equal_witnesses.specs.AsCoded.{Contents}
 use Rattle.equal_contents.proofs.Content.{Content}
 use Rattle.equal_1978.proofs.Telling.{contents-1978, contents-are as contents-are-1978}
 use Rattle.equal_old.proofs.Signs.{by-sign, feeds-in}

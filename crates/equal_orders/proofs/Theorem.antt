@@ -4,14 +4,14 @@ use mathlib.Core.Path.{_≡_, sym, _∙_}
 use mathlib.Core.Logic.{_↔_, _≢_}
 use mathlib.Core.Bool.{true, false}
 use mathlib.Core.List.{[], _∷_}
-use Rattle.questions.specs.Questions.{asked}
-use Rattle.order.specs.Order.{question5, question6}
-use Rattle.order.proofs.Entries.{order-passes}
+use Rattle.base_questions.specs.Questions.{asked}
+use Rattle.pass_order.specs.Order.{question5, question6}
+use Rattle.pass_order.proofs.Entries.{order-passes}
 use Rattle.pass_model.specs.Pass.{Call, by, passOf}
-use Rattle.pass_model.proofs.Asked.{is-whole, is-sound}
-use Rattle.order_agreement.specs.Agreement.{settingsOf, Agree}
-use Rattle.order_agreement.specs.Points.{agrees}
-use Rattle.order_agreement.proofs.Agreed.{points-agree}
+use Rattle.pass_model.proofs.Asked.{is-whole, is-valid}
+use Rattle.compare_agreement.specs.Agreement.{settingsOf, Agree}
+use Rattle.compare_agreement.specs.Points.{agrees}
+use Rattle.compare_agreement.proofs.Agreed.{points-agree}
 use Rattle.compare.specs.Compare.{compareRefusal, compareOf}
 use Rattle.compare.proofs.Answers.{ComparePassed, compare-passes, compare-number, compare-agrees, compare-refused}
 use Rattle.equal_orders.specs.Equal.{SameSettings, Equal}
@@ -19,7 +19,7 @@ use Rattle.equal_orders.specs.ButMarks.{SameButMarks}
 use Rattle.equal_orders.proofs.Necessity.{equal-agreed}
 use Rattle.equal_orders.proofs.Sufficiency.{agreed-but-marks, agreed-equal}
 use Rattle.layout.specs.Machine.{Machine, Order, ticksOf}
-use Rattle.texts.specs.declared.Text.{Text}
+use Rattle.layout_texts.specs.declared.Text.{Text}
 use Rattle.pass_laws.specs.Good.{Good}
 
 -- For orders that pass questions 5 and 6, on a machine that passes 1 and 2.
@@ -52,7 +52,7 @@ compare-says text m o₁ o₂ n = (λ e. demand .1 (points .0 (sym answer ∙ e)
 
     demand : Equal text m o₁ o₂ ↔ Agree text m o₁ o₂
     demand =
-        demand-3 text m (record { whole = is-whole text m o₁ (passed .machine); is-sound = is-sound text m o₁ (passed .machine) }) o₁ o₂ (passed .first) (passed .second)
+        demand-3 text m (record { whole = is-whole text m o₁ (passed .machine); is-valid = is-valid text m o₁ (passed .machine) }) o₁ o₂ (passed .first) (passed .second)
 
 -- A refused compare says no.
 pub refused-says-no : (text : Text) (m : Machine) (o₁ o₂ : Order) → compareOf text m o₁ o₂ .number ≢ 0 → compareOf text m o₁ o₂ .equal ≡ false

@@ -10,36 +10,36 @@ use borrow.Author.Tests.{eqb-true, eqb-false, eq-eqb, lt-ltb}
 use lib.Dec.{eqb, lit<}
 use lib.IntN.{pos, negℤ}
 use lib.ListN.{set, length-set}
-use Rattle.lists.specs.Lists.{isOneOf, count, zeros}
-use Rattle.lists.proofs.Below.{and-first, and-second}
-use Rattle.words.specs.Words.{lowBits, signed, exactSum, outside}
-use Rattle.sine.specs.Sine.{angle, firstThree, polynomial, entry}
-use Rattle.exponential.specs.Exponential.{tableSize, bound, entry as exponentialEntry, exponential}
-use Rattle.exponential.proofs.Entries.{right, right-entry}
-use Rattle.envelope.specs.Envelope.{overflows, decayed, rounded, enveloped}
-use Rattle.product.specs.Product.{scaled, product}
+use Rattle.base_lists.specs.Lists.{isOneOf, count, zeros}
+use Rattle.base_lists.proofs.Below.{and-first, and-second}
+use Rattle.base_words.specs.Words.{lowBits, signed, exactSum, outside}
+use Rattle.generator_sine.specs.Sine.{angle, firstThree, polynomial, entry}
+use Rattle.generator_exponential.specs.Exponential.{tableSize, bound, entry as exponentialEntry, exponential}
+use Rattle.generator_exponential.proofs.Entries.{right, right-entry}
+use Rattle.generator_envelope.specs.Envelope.{overflows, decayed, rounded, enveloped}
+use Rattle.modifier_product.specs.Product.{scaled, product}
 use Rattle.layout.specs.Layout.{tAt}
 use Rattle.layout.proofs.UpdateTicks.{counted-length}
-use Rattle.modes.specs.Modes.{runningA, runningB, wait, readData, writeDAC, envelopeOn, free, adds, replaces, builtRun, builtOscillator}
-use Rattle.modes.proofs.RunModes.{replaces-alone}
+use Rattle.layout_modes.specs.Modes.{runningA, runningB, wait, readData, writeDAC, envelopeOn, free, adds, replaces, builtRun, builtOscillator}
+use Rattle.layout_modes.proofs.RunModes.{replaces-alone}
 use Rattle.machine.specs.Questions.{regions, testAt, goodGmode, freshMachine}
-use Rattle.machine.proofs.SoundMachine.{reaches, single-below, sound-set, sound-with-ticks, sound-generator}
-use Rattle.machine.proofs.FreshMachine.{fresh-length, fresh-sound}
-use Rattle.order.specs.Order.{eachOnce, question5, question6, IsOrder}
-use Rattle.order.proofs.Entries.{order-passes}
-use Rattle.order_lists.specs.Sequences.{keep, some, lastOf, placeOf, before}
-use Rattle.order_lists.proofs.Orders.{some-from, last-below}
-use Rattle.order_agreement.specs.Agreement.{settingsOf, replacesWord, addsToWord, lastReplacing, afterReplacing, SameWord, Agree}
+use Rattle.machine.proofs.ValidMachine.{reaches, single-below, valid-set, valid-with-ticks, valid-generator}
+use Rattle.machine.proofs.FreshMachine.{fresh-length, fresh-valid}
+use Rattle.pass_order.specs.Order.{eachOnce, question5, question6, IsOrder}
+use Rattle.pass_order.proofs.Entries.{order-passes}
+use Rattle.base_sequences.specs.Sequences.{keep, some, lastOf, placeOf, before}
+use Rattle.base_sequences.proofs.Orders.{some-from, last-below}
+use Rattle.compare_agreement.specs.Agreement.{settingsOf, replacesWord, addsToWord, lastReplacing, afterReplacing, SameWord, Agree}
 use Rattle.pass_laws.specs.Good.{Good}
 use Rattle.equal_orders.specs.Equal.{Equal}
 use Rattle.equal_orders.specs.WorkedExamples.{word, AtTop, atTop, forth, back, TwoTicks, BothFeed, ofTwo, WorkedExamples}
 use Rattle.equal_orders.proofs.Theorem.{demand-3}
 use Rattle.generator.specs.declared.Generator.{Generator}
 use Rattle.generator.specs.Generator.{runMode, gqAfter, triggers}
-use Rattle.questions.specs.Questions.{asked}
+use Rattle.base_questions.specs.Questions.{asked}
 use Rattle.layout.specs.Machine.{Machine, Order, ticksOf, withUpdateTicks, gsumAt, gfmAt}
-use Rattle.texts.specs.Texts.{runModeAt, dacNumberAt}
-use Rattle.texts.specs.declared.Text.the-variants.{Of1978}
+use Rattle.layout_texts.specs.Texts.{runModeAt, dacNumberAt}
+use Rattle.layout_texts.specs.declared.Text.the-variants.{Of1978}
 
 -- Examples 1 to 9.
 sine-entries : (entry 0 ≡ 1) × (entry 1 ≡ 4) × (entry 1023 ≡ 2895) × (entry 2047 ≡ 4095)
@@ -226,7 +226,7 @@ module _ (m : Machine) (c : TwoTicks m readData runningA) where
   not-agreed-12 e ag =
       let s = settingsOf Of1978 m in
       let w = gsumAt m 0 in
-      let q : SameWord s w forth back = ag .words w 0 (sound-generator Of1978 m (c .good .is-sound) 0 (lit< tt) .gsum) (omega (arith, c .ticks)) word₀ in
+      let q : SameWord s w forth back = ag .words w 0 (valid-generator Of1978 m (c .good .is-valid) 0 (lit< tt) .gsum) (omega (arith, c .ticks)) word₀ in
       let on : addsToWord s w 1 ≡ true = rw (eq-eqb (gsumAt m 1) w (sym e)) adds₁ in
       let a : afterReplacing s w 1 forth ≡ true = ap (λ (g : ℕ). before g 1 forth) (first-last w word₀ .0) in
       let b : afterReplacing s w 1 back ≡ false = ap (λ (g : ℕ). before g 1 back) (first-last w word₀ .1) in
@@ -283,14 +283,14 @@ of-two-good mode₀ mode₁ sum₀ sum₁ fm₀ fm₁ a b c d e f =
       whole =
           length-set m6 21 mode₁ ∙ length-set m5 20 fm₁ ∙ length-set m4 19 sum₁ ∙ length-set m3 10 mode₀ ∙ length-set m2 9 fm₀ ∙ length-set m1 8 sum₀
           ∙ counted-length (set freshMachine tAt 2) ∙ length-set freshMachine tAt 2 ∙ fresh-length;
-      is-sound =
-          sound-set Of1978 m6
-          (sound-set Of1978 m5
-          (sound-set Of1978 m4
-          (sound-set Of1978 m3
-          (sound-set Of1978 m2
-          (sound-set Of1978 m1
-          (sound-with-ticks Of1978 freshMachine (fresh-sound Of1978) (reaches freshMachine fresh-length) tAt 2 (lit< tt) refl)
+      is-valid =
+          valid-set Of1978 m6
+          (valid-set Of1978 m5
+          (valid-set Of1978 m4
+          (valid-set Of1978 m3
+          (valid-set Of1978 m2
+          (valid-set Of1978 m1
+          (valid-with-ticks Of1978 freshMachine (fresh-valid Of1978) (reaches freshMachine fresh-length) tAt 2 (lit< tt) refl)
           8 sum₀ (single-below (lit< tt)) (lt-ltb sum₀ (2 ^ 6) c))
           9 fm₀ (single-below (lit< tt)) (lt-ltb fm₀ (2 ^ 7) e))
           10 mode₀ (single-below (lit< tt)) a)

@@ -5,13 +5,13 @@ use mathlib.Core.List.{List}
 use mathlib.Core.Path.{_≡_}
 use lib.ListN.{length, getD}
 use Rattle.layout.specs.Layout.{generatorAt, GN}
-use Rattle.old_modes.specs.OldModes.{oldRun, negativeGN}
-use Rattle.modes.specs.Modes.{readData, writeData, writeDAC}
-use Rattle.order.specs.Order.{inMode}
+use Rattle.layout_old_modes.specs.OldModes.{oldRun, negativeGN}
+use Rattle.layout_modes.specs.Modes.{readData, writeData, writeDAC}
+use Rattle.pass_order.specs.Order.{inMode}
 use Rattle.layout.specs.Machine.{Machine, Order, ticksOf, gmodeAt, gsumAt, gfmAt}
-use Rattle.texts.specs.Texts.{runModeAt, dacNumberAt}
-use Rattle.texts.specs.declared.Text.{Text}
-use Rattle.texts.specs.declared.Text.the-variants.{Of1978, Old}
+use Rattle.layout_texts.specs.Texts.{runModeAt, dacNumberAt}
+use Rattle.layout_texts.specs.declared.Text.{Text}
+use Rattle.layout_texts.specs.declared.Text.the-variants.{Of1978, Old}
 use Rattle.pass_model.specs.Pass.{Call, by, Outcome, writtenData, passOf}
 use Rattle.pass_laws.specs.Good.{Good}
 

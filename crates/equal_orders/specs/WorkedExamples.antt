@@ -7,17 +7,17 @@ use mathlib.Core.List.{[], _∷_}
 use Prim.Native.Nat.{ℕ}
 use lib.IntN.{ℤ, pos, negℤ}
 use lib.ListN.{set}
-use Rattle.words.specs.Words.{lowBits, signed}
-use Rattle.sine.specs.Sine.{entry}
-use Rattle.exponential.specs.Exponential.{tableSize, exponential}
-use Rattle.envelope.specs.Envelope.{enveloped}
-use Rattle.product.specs.Product.{product}
+use Rattle.base_words.specs.Words.{lowBits, signed}
+use Rattle.generator_sine.specs.Sine.{entry}
+use Rattle.generator_exponential.specs.Exponential.{tableSize, exponential}
+use Rattle.generator_envelope.specs.Envelope.{enveloped}
+use Rattle.modifier_product.specs.Product.{product}
 use Rattle.layout.specs.Layout.{tAt}
-use Rattle.modes.specs.Modes.{runningA, runningB, wait, readData, writeDAC, envelopeOn, free}
+use Rattle.layout_modes.specs.Modes.{runningA, runningB, wait, readData, writeDAC, envelopeOn, free}
 use Rattle.machine.specs.Questions.{freshMachine}
 use Rattle.layout.specs.Machine.{Machine, Order, ticksOf, withUpdateTicks, gsumAt, gfmAt}
-use Rattle.texts.specs.Texts.{runModeAt, dacNumberAt}
-use Rattle.texts.specs.declared.Text.the-variants.{Of1978}
+use Rattle.layout_texts.specs.Texts.{runModeAt, dacNumberAt}
+use Rattle.layout_texts.specs.declared.Text.the-variants.{Of1978}
 use Rattle.generator.specs.declared.Generator.{Generator}
 use Rattle.generator.specs.Generator.{runMode, gqAfter, triggers}
 use Rattle.pass_laws.specs.Good.{Good}

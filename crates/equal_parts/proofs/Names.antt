@@ -8,23 +8,23 @@ use native.Mathlib.Omega.{arith}
 use borrow.Author.Tests.{eqb-true, eqb-false, leb-true, ltb-true, ltb-false, not-true, not-false}
 use lib.Dec.{eqb, leb, ltb}
 use lib.ListN.{length, length-map}
-use Rattle.lists.specs.Lists.{countBelow}
-use Rattle.lists.proofs.Below.{beq-from}
-use Rattle.lists.proofs.Choices.{of-test}
+use Rattle.base_lists.specs.Lists.{countBelow}
+use Rattle.base_lists.proofs.Below.{beq-from}
+use Rattle.base_lists.proofs.Choices.{of-test}
 use Rattle.layout.specs.Layout.{dacs, quadrantWords}
 use Rattle.layout.specs.Machine.{Machine, Order, Items, ticksOf}
-use Rattle.texts.specs.declared.Text.{Text}
-use Rattle.order.specs.Order.{IsOrder, inMode}
-use Rattle.order.proofs.Entries.{order-passes}
-use Rattle.modes.specs.Modes.{writeData}
-use Rattle.order_lists.specs.Sequences.{keep, some, lastOf, firstFailing}
-use Rattle.order_lists.proofs.Failing.{failing-lowest, failing-nowhere}
-use Rattle.order_lists.proofs.Entries.{last-passes}
-use Rattle.order_lists.proofs.Orders.{last-below, length-keep}
-use Rattle.order_agreement.specs.Agreement.{Settings, settingsOf, awaits, replacesWord, lastReplacing}
-use Rattle.order_agreement.specs.Points.{Failing, neighbourSame, feederSame, writerSame, wordSame, writersOf, neighbourPoint, feederPoint, writerPoint, wordPoint, failingWord, firstPoint}
-use Rattle.order_agreement.proofs.Agreed.{and-parts, neighbour-from, feeder-from, word-from, word-at}
-use Rattle.order_agreement.proofs.FirstPoint.{FailsAt, fails-at}
+use Rattle.layout_texts.specs.declared.Text.{Text}
+use Rattle.pass_order.specs.Order.{IsOrder, inMode}
+use Rattle.pass_order.proofs.Entries.{order-passes}
+use Rattle.layout_modes.specs.Modes.{writeData}
+use Rattle.base_sequences.specs.Sequences.{keep, some, lastOf, firstFailing}
+use Rattle.base_sequences.proofs.Failing.{failing-lowest, failing-nowhere}
+use Rattle.base_sequences.proofs.Entries.{last-passes}
+use Rattle.base_sequences.proofs.Orders.{last-below, length-keep}
+use Rattle.compare_agreement.specs.Agreement.{Settings, settingsOf, awaits, replacesWord, lastReplacing}
+use Rattle.compare_agreement.specs.Points.{Failing, neighbourSame, feederSame, writerSame, wordSame, writersOf, neighbourPoint, feederPoint, writerPoint, wordPoint, failingWord, firstPoint}
+use Rattle.compare_agreement.proofs.Agreed.{and-parts, neighbour-from, feeder-from, word-from, word-at}
+use Rattle.compare_agreement.proofs.FirstPoint.{FailsAt, fails-at}
 use Rattle.compare.proofs.Answers.{compare-passes}
 use Rattle.parts.specs.Parts.{Parting, partsOf}
 use Rattle.parts.proofs.Answers.{parts-passes, parts-number, parts-shown, parts-refused}

@@ -8,33 +8,33 @@ use native.Mathlib.Omega.{arith}
 use borrow.Author.Tests.{eqb-true, eqb-false, eq-eqb, ne-eqb}
 use lib.Dec.{eqb, lit<}
 use lib.ListN.{length, getD}
-use Rattle.lists.specs.Lists.{countBelow}
-use Rattle.lists.proofs.Choices.{of-cond}
-use Rattle.lists.proofs.Counts.{count-below-same}
+use Rattle.base_lists.specs.Lists.{countBelow}
+use Rattle.base_lists.proofs.Choices.{of-cond}
+use Rattle.base_lists.proofs.Counts.{count-below-same}
 use Rattle.layout.specs.Machine.{Machine, Order, Items, Places, Memory, ticksOf}
-use Rattle.texts.specs.Texts.{runModeAt}
-use Rattle.texts.specs.declared.Text.{Text}
-use Rattle.modes.specs.Modes.{readData, writeData}
-use Rattle.modes.proofs.RunModes.{replaces-is}
-use Rattle.fills.proofs.Filled.{filled-length, filled-other, filled-at}
-use Rattle.machine.proofs.SoundMachine.{sound-controls}
-use Rattle.order.specs.Order.{inMode}
-use Rattle.order.proofs.Entries.{order-passes}
+use Rattle.layout_texts.specs.Texts.{runModeAt}
+use Rattle.layout_texts.specs.declared.Text.{Text}
+use Rattle.layout_modes.specs.Modes.{readData, writeData}
+use Rattle.layout_modes.proofs.RunModes.{replaces-is}
+use Rattle.base_fills.proofs.Filled.{filled-length, filled-other, filled-at}
+use Rattle.machine.proofs.ValidMachine.{valid-controls}
+use Rattle.pass_order.specs.Order.{inMode}
+use Rattle.pass_order.proofs.Entries.{order-passes}
 use Rattle.delay_questions.specs.Questions.{memoryGood}
 use Rattle.pass_model.specs.Generators.{generatorsOf}
 use Rattle.pass_model.specs.Pass.{Call, by, passRefusal, passOf}
-use Rattle.pass_model.proofs.Asked.{is-whole, is-sound}
+use Rattle.pass_model.proofs.Asked.{is-whole, is-valid}
 use Rattle.pass_laws.specs.Good.{Good}
 use Rattle.pass_laws.proofs.Passing.{pass-number}
-use Rattle.order_agreement.specs.Agreement.{settingsOf}
-use Rattle.order_agreement.specs.Points.{firstPoint}
-use Rattle.order_agreement.proofs.FirstPoint.{first-agrees}
-use Rattle.order_contents.specs.Contents.{contentsFor, itemFor, itemsFor}
+use Rattle.compare_agreement.specs.Agreement.{settingsOf}
+use Rattle.compare_agreement.specs.Points.{firstPoint}
+use Rattle.compare_agreement.proofs.FirstPoint.{first-agrees}
+use Rattle.parts_model.specs.Contents.{contentsFor, itemFor, itemsFor}
 use Rattle.compare.specs.Compare.{compareOf}
 use Rattle.compare.proofs.Answers.{compare-passes, compare-number, compare-agrees}
-use Rattle.equal_endings.specs.Ends.{takenIn}
+use Rattle.equal_endings.specs.AsCoded.{takenIn}
 use Rattle.equal_contents.proofs.Content.{Content}
-use Rattle.equal_witnesses.specs.Contents.{HasItems, SameHeard}
+use Rattle.equal_witnesses.specs.AsCoded.{HasItems, SameHeard}
 use Rattle.equal_witnesses.proofs.Points.{none-parted}
 use Rattle.equal_orders.specs.Equal.{SameSettings, Equal}
 use Rattle.equal_orders.proofs.Finished.{OrderPasses, pass-let, inactive-let, same-heard}
@@ -59,7 +59,7 @@ replacing-count text m = count-below-same (settingsOf text m .replacing) (λ g. 
 
 module _ (text : Text) (m : Machine) (good : Good text m) (o₁ o₂ : Order) (p₁ : OrderPasses (ticksOf m) o₁) (p₂ : OrderPasses (ticksOf m) o₂) (before : Items) (reads : inMode text m readData ≤ length before) where
   few : ticksOf m ≤ 256
-  few = sound-controls text m (good .is-sound) .tHigh
+  few = valid-controls text m (good .is-valid) .tHigh
 
   abbrev point : ℕ
   point = firstPoint (settingsOf text m) o₁ o₂ .point
@@ -187,4 +187,4 @@ module _ (text : Text) (m : Machine) (o₁ o₂ : Order) (contents : Machine) (i
       let asked = compare-passes text m o₁ o₂ (passed .compared) in
       let fails : firstPoint (settingsOf text m) o₁ o₂ .point ≢ 0 = λ z. h (ap (λ (r : Parting). r .point) (answer e) ∙ z) in
       rw (answer e, ne-eqb (firstPoint (settingsOf text m) o₁ o₂ .point) 0 fails)
-      (parting text m (record { whole = is-whole text m o₁ (asked .machine); is-sound = is-sound text m o₁ (asked .machine) }) o₁ o₂ (asked .first) (asked .second) items (passed .reads) fails)
+      (parting text m (record { whole = is-whole text m o₁ (asked .machine); is-valid = is-valid text m o₁ (asked .machine) }) o₁ o₂ (asked .first) (asked .second) items (passed .reads) fails)

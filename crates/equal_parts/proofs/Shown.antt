@@ -6,19 +6,19 @@ use Prim.Native.Nat.{ℕ, _≤_}
 use native.Mathlib.Omega.{arith}
 use lib.Dec.{eqb}
 use lib.ListN.{length}
-use Rattle.lists.specs.Lists.{zeros}
-use Rattle.lists.proofs.Counts.{count-below-le}
-use Rattle.lists.proofs.Zeros.{zeros-length}
+use Rattle.base_lists.specs.Lists.{zeros}
+use Rattle.base_lists.proofs.Counts.{count-below-le}
+use Rattle.base_lists.proofs.Zeros.{zeros-length}
 use Rattle.layout.specs.Layout.{generators, memoryWords}
 use Rattle.layout.specs.Machine.{Machine, Order, Items, ticksOf}
-use Rattle.texts.specs.Texts.{runModeAt}
-use Rattle.texts.specs.declared.Text.{Text}
-use Rattle.modes.specs.Modes.{writeData}
-use Rattle.order.specs.Order.{inMode}
+use Rattle.layout_texts.specs.Texts.{runModeAt}
+use Rattle.layout_texts.specs.declared.Text.{Text}
+use Rattle.layout_modes.specs.Modes.{writeData}
+use Rattle.pass_order.specs.Order.{inMode}
 use Rattle.pass_model.specs.Pass.{Call, plainCall, writtenData, passOf}
 use Rattle.pass_laws.proofs.Passing.{pass-number}
 use Rattle.pass_laws.proofs.PassCounts.{pass-counts}
-use Rattle.pass_laws.proofs.PassSound.{pass-sound}
+use Rattle.pass_laws.proofs.PassValid.{pass-valid}
 use Rattle.equal_orders.proofs.Finished.{zeros-good}
 use Rattle.parts.specs.Parts.{partsOf}
 use Rattle.parts.proofs.Answers.{is-ready, parts-number}
@@ -50,5 +50,5 @@ module _ (text : Text) (m : Machine) (o₁ o₂ : Order) (contents : Machine) (i
       let parted = shown .part (zeros generators) (zeros memoryWords) room zeros-good in
       let first = plainCall o₁ i (zeros generators) in
       let second = plainCall o₂ i (zeros generators) in
-      differs (passBy text c i o₁) (passBy text c i o₂) (pass-sound text c first (shown .good) .whole ∙ sym (pass-sound text c second (shown .good) .whole))
+      differs (passBy text c i o₁) (passBy text c i o₂) (pass-valid text c first (shown .good) .whole ∙ sym (pass-valid text c second (shown .good) .whole))
       (written-count text c first (parted .first-runs) ∙ sym (written-count text c second (parted .second-runs))) (parted .apart)

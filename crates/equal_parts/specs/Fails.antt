@@ -8,8 +8,8 @@ use mathlib.Core.Path.{_≡_}
 use lib.ListN.{length, getD}
 use Rattle.layout.specs.Layout.{dacs, quadrantWords}
 use Rattle.layout.specs.Machine.{Order}
-use Rattle.order_lists.specs.Sequences.{keep, lastOf, before}
-use Rattle.order_agreement.specs.Agreement.{Settings, replacesWord, SameWord}
+use Rattle.base_sequences.specs.Sequences.{keep, lastOf, before}
+use Rattle.compare_agreement.specs.Agreement.{Settings, replacesWord, SameWord}
 
 -- The writing generators, in order, as a list of their sources: GFM, or in the older text the generator itself.
 abbrev pub writtenSources : Settings → Order → List ℕ

@@ -5,9 +5,9 @@ use mathlib.Core.Bool.{true}
 use mathlib.Core.Path.{_≡_}
 use lib.ListN.{length, getD}
 use Rattle.layout.specs.Machine.{Machine, Order, Items, Places, Memory}
-use Rattle.texts.specs.declared.Text.{Text}
-use Rattle.modes.specs.Modes.{readData, writeData}
-use Rattle.order.specs.Order.{inMode}
+use Rattle.layout_texts.specs.declared.Text.{Text}
+use Rattle.layout_modes.specs.Modes.{readData, writeData}
+use Rattle.pass_order.specs.Order.{inMode}
 use Rattle.delay_questions.specs.Questions.{memoryGood}
 use Rattle.pass_model.specs.Pass.{Outcome, writtenData, passOf}
 use Rattle.pass_laws.specs.Good.{Good}

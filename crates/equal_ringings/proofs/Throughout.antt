@@ -10,22 +10,22 @@ use native.Mathlib.Omega.{arith}
 use borrow.Author.Tests.{eqb-false, ltb-true, ltb-false}
 use lib.Dec.{ltb}
 use lib.ListN.{getD}
-use Rattle.modes.specs.Modes.{wait, runningC, readData, writeData}
+use Rattle.layout_modes.specs.Modes.{wait, runningC, readData, writeData}
 use Rattle.layout.specs.Machine.{Machine, Order, Memory, ticksOf, gmodeAt}
-use Rattle.texts.specs.declared.Text.{Text}
-use Rattle.texts.specs.declared.Text.the-variants.{Of1978, Old}
-use Rattle.old_modes.specs.OldModes.{oldRun, negativeGN}
-use Rattle.machine.proofs.SoundMachine.{sound-controls}
+use Rattle.layout_texts.specs.declared.Text.{Text}
+use Rattle.layout_texts.specs.declared.Text.the-variants.{Of1978, Old}
+use Rattle.layout_old_modes.specs.OldModes.{oldRun, negativeGN}
+use Rattle.machine.proofs.ValidMachine.{valid-controls}
 use Rattle.pass_model.specs.Pass.{Call, passOf}
-use Rattle.pass_model.proofs.Asked.{is-whole, is-sound}
+use Rattle.pass_model.proofs.Asked.{is-whole, is-valid}
 use Rattle.pass_laws.specs.Good.{Good}
 use Rattle.pass_laws.specs.Passes.{PassData, callOf, Rung, rungBy}
 use Rattle.pass_laws.specs.Settings.{GeneratorKept}
-use Rattle.pass_laws.proofs.PassSound.{pass-sound}
+use Rattle.pass_laws.proofs.PassValid.{pass-valid}
 use Rattle.pass_laws.proofs.PassSettings.{pass-settings}
 use Rattle.pass_laws.proofs.PassModes.{pass-modes}
 use Rattle.pass_laws.proofs.Untaken.{untaken-mode}
-use Rattle.order_agreement.specs.Agreement.{Agree}
+use Rattle.compare_agreement.specs.Agreement.{Agree}
 use Rattle.compare.specs.Compare.{compareOf}
 use Rattle.compare.proofs.Answers.{compare-passes, compare-number}
 use Rattle.equal_orders.specs.Equal.{SameSending, SameSettings, Enough, Equal}
@@ -74,7 +74,7 @@ module _ (text : Text) where
 
   module _ (m : Machine) (good : Good text m) (quiet : NoneWaits text m) (call : Call) where
     few : ticksOf m ≤ 256
-    few = sound-controls text m (good .is-sound) .tHigh
+    few = valid-controls text m (good .is-valid) .tHigh
 
     -- A pass keeps the settings where no generator below T waits.
     mode-kept : (g : ℕ) → g < 256 → gmodeAt m g ≡ gmodeAt (passOf text m call .machine) g
@@ -133,7 +133,7 @@ module _ (text : Text) where
         let end = equal n good s call (enough-by n o₁ memory d e) in
         let calm = none-waits-same m n s few quiet in
         let next = passOf text n call .machine in
-        let rest = each-pass equal few quiet ds next (pass-sound text n call good) (settings-on m n next s (settings-kept n good calm call)) (passOf text n call .memory)
+        let rest = each-pass equal few quiet ds next (pass-valid text n call good) (settings-on m n next s (settings-kept n good calm call)) (passOf text n call .memory)
         (enough-kept n good calm call ds es) in
         ap₂ before (end .written) (rest ∙ ap₂ (λ (a : Machine) (b : Memory). rungBy text o₂ a b ds) (end .machine) (end .memory))
 
@@ -141,14 +141,14 @@ module _ (text : Text) where
   pub whole-ringings : (m : Machine) → Good text m → NoneWaits text m → (o₁ o₂ : Order) → Passes m o₁ → Passes m o₂ → EqualThroughout text m o₁ o₂ ↔ Agree text m o₁ o₂
   whole-ringings m good quiet o₁ o₂ p₁ p₂ =
       let demand = demand-3 text m good o₁ o₂ p₁ p₂ in
-      let few = sound-controls text m (good .is-sound) .tHigh in
+      let few = valid-controls text m (good .is-valid) .tHigh in
       (λ e. demand .0 (one-pass m o₁ o₂ e), λ a n g s memory ds e. each-pass m o₁ o₂ (demand .1 a) few quiet ds n g s memory e)
 
   -- So where a comparison passes its questions and no generator below T is in 1001 or 1101, it says yes just where the orders are equal throughout.
   pub compare-throughout : (m : Machine) (o₁ o₂ : Order) → compareOf text m o₁ o₂ .number ≡ 0 → NoneWaits text m → (compareOf text m o₁ o₂ .equal ≡ true) ↔ EqualThroughout text m o₁ o₂
   compare-throughout m o₁ o₂ n quiet =
       let passed = compare-passes text m o₁ o₂ (sym (compare-number text m o₁ o₂) ∙ n) in
-      let good : Good text m = record { whole = is-whole text m o₁ (passed .machine); is-sound = is-sound text m o₁ (passed .machine) } in
+      let good : Good text m = record { whole = is-whole text m o₁ (passed .machine); is-valid = is-valid text m o₁ (passed .machine) } in
       let whole = whole-ringings m good quiet o₁ o₂ (passed .first) (passed .second) in
       let demand = demand-3 text m good o₁ o₂ (passed .first) (passed .second) in
       let says = compare-says text m o₁ o₂ n in

@@ -7,26 +7,26 @@ use Prim.Native.Nat.{ℕ, zero, suc, _^_, _<_}
 use native.Mathlib.Omega.{arith}
 use lib.Dec.{lit≤, lit<}
 use lib.ListN.{getD, set, length-set}
-use Rattle.lists.specs.Lists.{zeros, count, countBelow, isOneOf}
-use Rattle.words.specs.Words.{lowBits, signed, sum, sumInto, exactSum, outside}
+use Rattle.base_lists.specs.Lists.{zeros, count, countBelow, isOneOf}
+use Rattle.base_words.specs.Words.{lowBits, signed, sum, sumInto, exactSum, outside}
 use Rattle.layout.specs.Layout.{tAt, counterAt, memoryWords}
 use Rattle.layout.specs.Machine.{Machine, Order, Memory, ticksOf, withUpdateTicks}
-use Rattle.texts.specs.declared.Text.the-variants.{Of1978}
+use Rattle.layout_texts.specs.declared.Text.the-variants.{Of1978}
 use Rattle.layout.proofs.UpdateTicks.{counted-length}
-use Rattle.questions.specs.Questions.{asked}
-use Rattle.modes.specs.Modes.{builtRun, builtOscillator, adds, replaces, free, oscillatorOn, envelopeOn}
-use Rattle.oscillator.specs.Oscillator.{waveOf, square}
-use Rattle.envelope.specs.Envelope.{overflows, decayed, qOf, level, rounded, enveloped}
+use Rattle.base_questions.specs.Questions.{asked}
+use Rattle.layout_modes.specs.Modes.{builtRun, builtOscillator, adds, replaces, free, oscillatorOn, envelopeOn}
+use Rattle.generator_oscillator.specs.Oscillator.{waveOf, square}
+use Rattle.generator_envelope.specs.Envelope.{overflows, decayed, qOf, level, rounded, enveloped}
 use Rattle.generator.specs.Generator.{loaded, stored, jOf, gjAfter, kOf, gkAfter, wOf, gqAfter, vOf, pOf, triggers, gmodeAfter, after}
 use Rattle.machine.specs.Questions.{freshMachine, regions, testAt}
-use Rattle.machine.proofs.SoundMachine.{reaches, single-below, sound-set, sound-with-ticks}
-use Rattle.machine.proofs.FreshMachine.{fresh-length, fresh-sound}
+use Rattle.machine.proofs.ValidMachine.{reaches, single-below, valid-set, valid-with-ticks}
+use Rattle.machine.proofs.FreshMachine.{fresh-length, fresh-valid}
 use Rattle.delay_questions.specs.Questions.{memoryGood, goodLine, linesGood, namedOnce, question11, question12}
-use Rattle.order.specs.Order.{eachOnce, inMode}
-use Rattle.order.proofs.Entries.{order-passes}
-use Rattle.sums.specs.Sums.{closed, sumsOf, quadrantOf, wordAt, sumAt, putSum, fAt}
-use Rattle.pass_model.specs.Generators.{takenBy, generatorOf, turn1978, told, fed, summed, step, steps, begun}
-use Rattle.pass_model.specs.Modifiers.{modifiedBy, modified, modify, modifierOf, withWrites, withWrite, lateView, earlyView, seen, given, beside, turnSeen, delayed}
+use Rattle.pass_order.specs.Order.{eachOnce, inMode}
+use Rattle.pass_order.proofs.Entries.{order-passes}
+use Rattle.pass_sums.specs.Sums.{closed, sumsOf, quadrantOf, wordAt, sumAt, putSum, fAt}
+use Rattle.pass_model.specs.Generators.{takenBy, generatorOf, turn1978, triggeredBelow, fed, summed, step, steps, begun}
+use Rattle.pass_model.specs.Modifiers.{modifiedBy, modified, modify, modifierOf, withWrites, withWrite, lateView, earlyView, seen, given, secondInput, turnSeen, delayed}
 use Rattle.modifier.specs.Modifier.{loaded as modifierLoaded, stored as modifierStored}
 use Rattle.modifier_turn.specs.Turn.{turnOf, readsLate}
 use Rattle.modifier_mixers.specs.Mixers.{inactive}
@@ -34,12 +34,12 @@ use Rattle.pass_model.specs.Pass.{Outcome, passRefusal, passOf, ran, finished, 
 use Rattle.pass_model.proofs.Asked.{past-memory}
 use Rattle.pass_laws.specs.Good.{Good}
 use Rattle.pass_laws.proofs.Passing.{good-passes, let-through}
-use Rattle.pass_laws.proofs.PassSound.{pass-sound}
+use Rattle.pass_laws.proofs.PassValid.{pass-valid}
 use Rattle.pass_laws.proofs.PassDelays.{pass-memory}
-use Rattle.order_lists.specs.Sequences.{keep, some, lastOf, placeOf, before, firstFailing}
-use Rattle.order_agreement.specs.Agreement.{settingsOf, Agree}
-use Rattle.order_agreement.specs.Points.{agrees, neighbourPoint, feederPoint, writerPoint, wordPoint}
-use Rattle.order_agreement.proofs.Agreed.{points-agree}
+use Rattle.base_sequences.specs.Sequences.{keep, some, lastOf, placeOf, before, firstFailing}
+use Rattle.compare_agreement.specs.Agreement.{settingsOf, Agree}
+use Rattle.compare_agreement.specs.Points.{agrees, neighbourPoint, feederPoint, writerPoint, wordPoint}
+use Rattle.compare_agreement.proofs.Agreed.{points-agree}
 use Rattle.equal_orders.specs.Equal.{SameSettings, Enough}
 use Rattle.equal_orders.proofs.Finished.{zeros-good}
 use Rattle.equal_orders.proofs.Theorem.{demand-3}
@@ -62,15 +62,15 @@ good =
       whole =
           length-set m6 32 450 ∙ length-set m5 21 578 ∙ length-set m4 18 4095 ∙ length-set m3 10 898 ∙ length-set m2 8 5 ∙ length-set m1 6 16777215 ∙ length-set m0 5 1
           ∙ counted-length (set freshMachine tAt 3) ∙ length-set freshMachine tAt 3 ∙ fresh-length;
-      is-sound =
-          sound-set Of1978 m6
-          (sound-set Of1978 m5
-          (sound-set Of1978 m4
-          (sound-set Of1978 m3
-          (sound-set Of1978 m2
-          (sound-set Of1978 m1
-          (sound-set Of1978 m0
-          (sound-with-ticks Of1978 freshMachine (fresh-sound Of1978) (reaches freshMachine fresh-length) tAt 3 (lit< tt) refl)
+      is-valid =
+          valid-set Of1978 m6
+          (valid-set Of1978 m5
+          (valid-set Of1978 m4
+          (valid-set Of1978 m3
+          (valid-set Of1978 m2
+          (valid-set Of1978 m1
+          (valid-set Of1978 m0
+          (valid-with-ticks Of1978 freshMachine (fresh-valid Of1978) (reaches freshMachine fresh-length) tAt 3 (lit< tt) refl)
           5 1 (single-below (lit< tt)) refl)
           6 16777215 (single-below (lit< tt)) refl)
           8 5 (single-below (lit< tt)) refl)
@@ -112,10 +112,10 @@ first-let order p =
     past-memory Of1978 wokenLater (callOf order (zeros memoryWords) oneItem) (good-passes Of1978 wokenLater good) p (lit≤ tt) (lit≤ tt) zeros-good ∙ units-pass
 
 first-ran : ran Of1978 wokenLater (callOf wokenFirst (zeros memoryWords) oneItem) .machine ≡ woken
-unfolding wokenLater freshMachine withUpdateTicks zeros step steps told fed summed turn1978 generatorOf loaded stored sumsOf quadrantOf wordAt sumAt putSum fAt begun
+unfolding wokenLater freshMachine withUpdateTicks zeros step steps triggeredBelow fed summed turn1978 generatorOf loaded stored sumsOf quadrantOf wordAt sumAt putSum fAt begun
     jOf gjAfter kOf gkAfter wOf gqAfter vOf pOf triggers gmodeAfter after waveOf square overflows decayed qOf level rounded enveloped
     lowBits signed sum sumInto exactSum outside adds replaces free oscillatorOn envelopeOn isOneOf
-    ran finished generatorsTaken takenBy completed counted closed modifiedBy modified modify modifierOf withWrites withWrite lateView earlyView seen given beside turnSeen delayed
+    ran finished generatorsTaken takenBy completed counted closed modifiedBy modified modify modifierOf withWrites withWrite lateView earlyView seen given secondInput turnSeen delayed
     modifierLoaded modifierStored turnOf readsLate inactive
 first-ran = refl
 
@@ -149,7 +149,7 @@ last-pass =
 
 -- The second pass runs too: word 0 of generator-last, at 3,904, is 0 by the one order and 131,040 by the other.
 woken-good : Good Of1978 woken
-woken-good = rw first-pass at (pass-sound Of1978 wokenLater (callOf wokenFirst (zeros memoryWords) oneItem) good)
+woken-good = rw first-pass at (pass-valid Of1978 wokenLater (callOf wokenFirst (zeros memoryWords) oneItem) good)
 
 woken-three : ticksOf woken ≡ 3
 unfolding wokenLater freshMachine withUpdateTicks zeros
@@ -164,18 +164,18 @@ unfolding wokenLater freshMachine withUpdateTicks zeros countBelow inMode
 second-let order p memory g = past-memory Of1978 woken (callOf order memory oneItem) (good-passes Of1978 woken woken-good) p (lit≤ tt) (lit≤ tt) g ∙ woken-units
 
 second-first : (memory : Memory) → getD (ran Of1978 woken (callOf wokenFirst memory oneItem) .machine) 3904 0 ≡ 0
-unfolding wokenLater freshMachine withUpdateTicks zeros step steps told fed summed turn1978 generatorOf loaded stored sumsOf quadrantOf wordAt sumAt putSum fAt begun
+unfolding wokenLater freshMachine withUpdateTicks zeros step steps triggeredBelow fed summed turn1978 generatorOf loaded stored sumsOf quadrantOf wordAt sumAt putSum fAt begun
     jOf gjAfter kOf gkAfter wOf gqAfter vOf pOf triggers gmodeAfter after waveOf square overflows decayed qOf level rounded enveloped
     lowBits signed sum sumInto exactSum outside adds replaces free oscillatorOn envelopeOn isOneOf
-    ran finished generatorsTaken takenBy completed counted closed modifiedBy modified modify modifierOf withWrites withWrite lateView earlyView seen given beside turnSeen delayed
+    ran finished generatorsTaken takenBy completed counted closed modifiedBy modified modify modifierOf withWrites withWrite lateView earlyView seen given secondInput turnSeen delayed
     modifierLoaded modifierStored turnOf readsLate inactive
 second-first memory = refl
 
 second-last : (memory : Memory) → getD (ran Of1978 woken (callOf wokenLast memory oneItem) .machine) 3904 0 ≡ 131040
-unfolding wokenLater freshMachine withUpdateTicks zeros step steps told fed summed turn1978 generatorOf loaded stored sumsOf quadrantOf wordAt sumAt putSum fAt begun
+unfolding wokenLater freshMachine withUpdateTicks zeros step steps triggeredBelow fed summed turn1978 generatorOf loaded stored sumsOf quadrantOf wordAt sumAt putSum fAt begun
     jOf gjAfter kOf gkAfter wOf gqAfter vOf pOf triggers gmodeAfter after waveOf square overflows decayed qOf level rounded enveloped
     lowBits signed sum sumInto exactSum outside adds replaces free oscillatorOn envelopeOn isOneOf
-    ran finished generatorsTaken takenBy completed counted closed modifiedBy modified modify modifierOf withWrites withWrite lateView earlyView seen given beside turnSeen delayed
+    ran finished generatorsTaken takenBy completed counted closed modifiedBy modified modify modifierOf withWrites withWrite lateView earlyView seen given secondInput turnSeen delayed
     modifierLoaded modifierStored turnOf readsLate inactive
 second-last memory = refl
 

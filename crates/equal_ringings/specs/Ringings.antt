@@ -4,10 +4,10 @@ use Prim.Native.Nat.{ℕ, _<_}
 use mathlib.Core.List.{List, [], _∷_}
 use mathlib.Core.Logic.{_≢_}
 use mathlib.Core.Path.{_≡_}
-use Rattle.modes.specs.Modes.{wait, runningC}
+use Rattle.layout_modes.specs.Modes.{wait, runningC}
 use Rattle.layout.specs.Machine.{Machine, Order, Memory, ticksOf}
-use Rattle.texts.specs.Texts.{runModeAt}
-use Rattle.texts.specs.declared.Text.{Text}
+use Rattle.layout_texts.specs.Texts.{runModeAt}
+use Rattle.layout_texts.specs.declared.Text.{Text}
 use Rattle.pass_laws.specs.Good.{Good}
 use Rattle.pass_laws.specs.Passes.{PassData, callOf, rungBy}
 use Rattle.equal_orders.specs.Equal.{SameSettings, Enough}

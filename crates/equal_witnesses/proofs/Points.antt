@@ -11,30 +11,29 @@ use borrow.Author.Tests.{eqb-true, eq-eqb, ne-eqb, ltb-true, ltb-false}
 use lib.Dec.{eqb, ltb}
 use lib.ListN.{length, getD, take, drop, length-map}
 use lib.Seq.{sets, sets-eq, take-at}
-use Rattle.lists.specs.Lists.{countBelow, zeros}
-use Rattle.lists.proofs.Below.{beq-true, beq-from}
-use Rattle.lists.proofs.Choices.{of-cond}
-use Rattle.lists.proofs.Counts.{count-below-le}
-use Rattle.lists.proofs.Zeros.{zeros-length}
+use Rattle.base_lists.specs.Lists.{countBelow, zeros}
+use Rattle.base_lists.proofs.Below.{beq-true, beq-from}
+use Rattle.base_lists.proofs.Choices.{of-cond}
+use Rattle.base_lists.proofs.Counts.{count-below-le}
+use Rattle.base_lists.proofs.Zeros.{zeros-length}
 use Rattle.layout.specs.Layout.{generators, dacs, quadrantWords, dacAt}
 use Rattle.layout.specs.Machine.{Machine, Order, Items, Places}
-use Rattle.fills.specs.Fills.{filled}
-use Rattle.fills.proofs.Filled.{filled-length, filled-whole}
-use Rattle.order.specs.Order.{IsOrder}
+use Rattle.base_fills.specs.Fills.{filled}
+use Rattle.base_fills.proofs.Filled.{filled-length, filled-whole}
+use Rattle.pass_order.specs.Order.{IsOrder}
 use Rattle.pass_model.specs.Generators.{Generators}
-use Rattle.order_lists.specs.Sequences.{keep, lastOf, before, latest, firstFailing}
-use Rattle.order_lists.proofs.Failing.{failing-lowest, failing-nowhere}
-use Rattle.order_lists.proofs.Mapped.{map-tells}
-use Rattle.order_lists.proofs.Orders.{keep-below, length-keep}
-use Rattle.order_agreement.specs.Agreement.{Settings, replacesWord, lastReplacing, placeReplacing, afterReplacing, SameWord, Agreeing}
-use Rattle.order_agreement.specs.Points.{Failing, neighbourSame, feederSame, writerSame, wordSame, adderSame, writersOf, soundingAt, firstPoint}
-use Rattle.order_agreement.proofs.Agreed.{on-condition, condition-met, neighbour-at, feeder-at, writer-at, word-at, none-agree}
-use Rattle.order_agreement.proofs.FirstPoint.{by-point}
-use Rattle.order_contents.specs.Contents.{byPoint, itemFor}
-use Rattle.equal_endings.specs.Follows.{turnAt, pAt, sendsAt, Follows}
-use Rattle.equal_endings.specs.Ends.{toldIn, takenIn, wordAfter, StageEnds}
+use Rattle.base_sequences.specs.Sequences.{keep, lastOf, before, latest, firstFailing}
+use Rattle.base_sequences.proofs.Failing.{failing-lowest, failing-nowhere}
+use Rattle.base_sequences.proofs.Mapped.{map-tells}
+use Rattle.base_sequences.proofs.Orders.{keep-below, length-keep}
+use Rattle.compare_agreement.specs.Agreement.{Settings, replacesWord, lastReplacing, placeReplacing, afterReplacing, SameWord, Agreeing}
+use Rattle.compare_agreement.specs.Points.{Failing, neighbourSame, feederSame, writerSame, wordSame, adderSame, writersOf, soundingAt, firstPoint}
+use Rattle.compare_agreement.proofs.Agreed.{on-condition, condition-met, neighbour-at, feeder-at, writer-at, word-at, none-agree}
+use Rattle.compare_agreement.proofs.FirstPoint.{by-point}
+use Rattle.parts_model.specs.Contents.{byPoint, itemFor}
+use Rattle.equal_endings.specs.AsCoded.{turnAt, pAt, sendsAt, Follows, triggeredBelowIn, takenIn, wordAfter, StageEnds}
 use Rattle.equal_endings.proofs.Ends.{stage-ends}
-use Rattle.equal_witnesses.specs.Contents.{Contents, HasItems, SameHeard}
+use Rattle.equal_witnesses.specs.AsCoded.{Contents, HasItems, SameHeard}
 use Rattle.equal_witnesses.proofs.Readings.{told-is, fed-is, last-feeder-low, place-is, last-is, adder-is, last-low, last-replaces}
 
 -- What is heard tells.
@@ -78,7 +77,7 @@ module _ (of : Generators) (s : Settings) (Like : Machine → Type 0) (follows :
       ends₂ : StageEnds of n s items places o₂ (takenIn of n items places o₂)
       ends₂ = stage-ends of s n (follows n like) items places o₂ is₂
 
-      modes-same : (g : ℕ) → g < s .ticks → turnAt of n g (toldIn of n o₁ g) .unit .gmode ≡ turnAt of n g (toldIn of n o₂ g) .unit .gmode
+      modes-same : (g : ℕ) → g < s .ticks → turnAt of n g (triggeredBelowIn of n o₁ g) .unit .gmode ≡ turnAt of n g (triggeredBelowIn of n o₂ g) .unit .gmode
       modes-same g h = sym (ends₁ .own g h .gmode) ∙ heard .modes g (omega (arith, few)) ∙ ends₂ .own g h .gmode
 
       dacs-same : (d : ℕ) → d < dacs → latest (s .feeds d) (sendsAt of n) o₁ (getD n (dacAt d) 0) ≡ latest (s .feeds d) (sendsAt of n) o₂ (getD n (dacAt d) 0)
@@ -106,7 +105,7 @@ module _ (of : Generators) (s : Settings) (Like : Machine → Type 0) (follows :
           let n = c .triggering in
           let k = s .distance + g in
           sym (told-is of s Like follows c o₁ is₁ g (omega arith) t)
-          ∙ c .tells k h w (toldIn of n o₁ k) (toldIn of n o₂ k) (modes-same n (c .triggering-like) heard k h)
+          ∙ c .tells k h w (triggeredBelowIn of n o₁ k) (triggeredBelowIn of n o₂ k) (modes-same n (c .triggering-like) heard k h)
           ∙ told-is of s Like follows c o₂ is₂ g (omega arith) t
 
       neighbours-heard : (g : ℕ) → g < s .ticks → neighbourSame s o₁ o₂ g ≡ true

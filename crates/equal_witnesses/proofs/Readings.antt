@@ -8,21 +8,20 @@ use native.Mathlib.Omega.{arith}
 use borrow.Author.Tests.{eqb-true, eqb-false, le-leb}
 use lib.Dec.{eqb}
 use lib.ListN.{getD}
-use Rattle.lists.specs.Lists.{count, countBelow}
-use Rattle.lists.proofs.Below.{and-second}
-use Rattle.lists.proofs.Counts.{count-below-le}
+use Rattle.base_lists.specs.Lists.{count, countBelow}
+use Rattle.base_lists.proofs.Below.{and-second}
+use Rattle.base_lists.proofs.Counts.{count-below-le}
 use Rattle.layout.specs.Machine.{Machine, Order, Items}
-use Rattle.order.specs.Order.{IsOrder}
+use Rattle.pass_order.specs.Order.{IsOrder}
 use Rattle.pass_model.specs.Generators.{Generators}
-use Rattle.order_lists.specs.Sequences.{keep, some, lastOf, before, latest}
-use Rattle.order_lists.proofs.Entries.{keep-count, last-passes, last-entry}
-use Rattle.order_lists.proofs.Places.{place-inside}
-use Rattle.order_lists.proofs.Orders.{some-from, last-below, length-keep}
-use Rattle.order_lists.proofs.Totals.{total-none, total-one}
-use Rattle.order_agreement.specs.Agreement.{Settings, replacesWord, addsToWord, lastReplacing, placeReplacing, afterReplacing}
-use Rattle.equal_endings.specs.Follows.{pAt, sendsAt, Follows}
-use Rattle.equal_endings.specs.Ends.{toldIn, wordAfter}
-use Rattle.equal_witnesses.specs.Contents.{Contents, HasItems}
+use Rattle.base_sequences.specs.Sequences.{keep, some, lastOf, before, latest}
+use Rattle.base_sequences.proofs.Entries.{keep-count, last-passes, last-entry}
+use Rattle.base_sequences.proofs.Places.{place-inside}
+use Rattle.base_sequences.proofs.Orders.{some-from, last-below, length-keep}
+use Rattle.base_sequences.proofs.Totals.{total-none, total-one}
+use Rattle.compare_agreement.specs.Agreement.{Settings, replacesWord, addsToWord, lastReplacing, placeReplacing, afterReplacing}
+use Rattle.equal_endings.specs.AsCoded.{pAt, sendsAt, Follows, triggeredBelowIn, wordAfter}
+use Rattle.equal_witnesses.specs.AsCoded.{Contents, HasItems}
 
 -- What a silent generator brings.
 nothing : (a b : Bool) (n : ℕ) → n ≡ 0 → cond (a && b) n 0 ≡ 0
@@ -33,8 +32,8 @@ nothing false b n q = refl
 module _ (of : Generators) (s : Settings) (Like : Machine → Type 0) (follows : (n : Machine) → Like n → Follows of s n) (c : Contents of s Like)
     (order : Order) (o : IsOrder (s .ticks) order) where
   -- A generator is told just where its lower neighbour, which can trigger, stands before it.
-  pub told-is : (g : ℕ) → g < s .ticks → s .triggering g ≡ true → toldIn of (c .triggering) order (s .distance + g) ≡ before g (s .distance + g) order
-  unfolding toldIn
+  pub told-is : (g : ℕ) → g < s .ticks → s .triggering g ≡ true → triggeredBelowIn of (c .triggering) order (s .distance + g) ≡ before g (s .distance + g) order
+  unfolding triggeredBelowIn
   told-is g h t =
       let same = follows (c .triggering) (c .triggering-like) .distance in
       let back : s .distance + g - s .distance ≡ g = omega arith in
@@ -73,8 +72,8 @@ module _ (of : Generators) (s : Settings) (Like : Machine → Type 0) (follows :
     place-low = rw (← (length-keep (s .ticks) order (o .once) (o .below) (s .replacing))) (place-inside last (keep (s .replacing) order) last-there)
 
     -- What an adding generator brings after it.
-    abbrev brought : Machine → ℕ → ℕ
-    brought n g = cond (addsToWord s w g && afterReplacing s w g order) (pAt of n g) 0
+    abbrev contribution : Machine → ℕ → ℕ
+    contribution n g = cond (addsToWord s w g && afterReplacing s w g order) (pAt of n g) 0
 
     -- With no generator sounding and items that count: the place of the last replacing one among all.
     pub place-is : (k : ℕ) → s .ticks ≤ k → (items : Items) → HasItems s (λ i. i) items → wordAfter of (c .sounding k) s items order w ≡ placeReplacing s w order
@@ -82,7 +81,7 @@ module _ (of : Generators) (s : Settings) (Like : Machine → Type 0) (follows :
     place-is k high items counting =
         let n = c .sounding k in
         let silent : (g : ℕ) → g < s .ticks → pAt of n g ≡ 0 = λ g l. c .others-silent k g l (λ e. omega arith) in
-        let none = total-none (brought n) order
+        let none = total-none (contribution n) order
         (λ i l. nothing (addsToWord s w (getD order i 0)) (afterReplacing s w (getD order i 0) order) _ (silent (getD order i 0) (o .below i l))) in
         rw (replaced, silent last last-low, counting (placeReplacing s w order) place-low, none)
         (omega (arith, place-low, count-below-le (s .replacing) (s .ticks), follows n (c .sounding-like k) .few))
@@ -95,7 +94,7 @@ module _ (of : Generators) (s : Settings) (Like : Machine → Type 0) (follows :
       one-sounds : wordAfter of n s items order w ≡ (pAt of n last + cond (addsToWord s w k && afterReplacing s w k order) (pAt of n k) 0) % 2 ^ 20
       unfolding wordAfter
       one-sounds =
-          let one = total-one (s .ticks) order (o .once) (o .below) (brought n) k low
+          let one = total-one (s .ticks) order (o .once) (o .below) (contribution n) k low
           (λ g l d. nothing (addsToWord s w g) (afterReplacing s w g order) _ (c .others-silent k g l d)) in
           rw (replaced, silent (placeReplacing s w order) place-low, one)
           (ap (λ (x : ℕ). (x + cond (addsToWord s w k && afterReplacing s w k order) (pAt of n k) 0) % 2 ^ 20) (omega arith))

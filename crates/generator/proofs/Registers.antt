@@ -5,10 +5,10 @@ use mathlib.Core.List.{List}
 use Prim.Native.Nat.{ℕ, _^_, _<_}
 use native.Mathlib.Omega.{arith}
 use lib.Dec.{eqb}
-use Rattle.words.proofs.Residues.{either-low, low-lt}
-use Rattle.words.specs.Words.{sum, sumInto, exactSum}
-use Rattle.modes.specs.Modes.{oscillatorOn, envelopeOn, free, wait, runningC}
-use Rattle.envelope.specs.Envelope.{overflows, decayed}
+use Rattle.base_words.proofs.Residues.{either-low, low-lt}
+use Rattle.base_words.specs.Words.{sum, sumInto, exactSum}
+use Rattle.layout_modes.specs.Modes.{oscillatorOn, envelopeOn, free, wait, runningC}
+use Rattle.generator_envelope.specs.Envelope.{overflows, decayed}
 use Rattle.generator.specs.declared.Generator.{Generator}
 use Rattle.generator.specs.Generator.{loaded, Ranged, runMode, gjAfter, gkAfter, gqAfter, gmodeAfter, pOf, after, triggers}
 
@@ -38,9 +38,9 @@ unfolding decayed
 decayed-low b gq gp h = either-low (overflows gq gp && not b) h (low-lt 24 (exactSum 20 gq gp))
 
 -- After a turn too.
-pub after-ranged : (g : Generator) (f : ℕ) (told : Bool) → Ranged g → Ranged (after g f told)
+pub after-ranged : (g : Generator) (f : ℕ) (triggeredBelow : Bool) → Ranged g → Ranged (after g f triggeredBelow)
 unfolding after gjAfter gkAfter gqAfter gmodeAfter sum sumInto
-after-ranged g f told r =
+after-ranged g f triggeredBelow r =
     record {
       go-low = r .go-low;
       gj-low = either-low (oscillatorOn (runMode g)) (low-lt 28 _) (r .gj-low);
@@ -52,5 +52,5 @@ after-ranged g f told r =
       gl-low = r .gl-low;
       gsum-low = r .gsum-low;
       gfm-low = r .gfm-low;
-      gmode-low = either-low (eqb (runMode g) runningC && triggers g) (omega arith) (either-low (eqb (runMode g) wait && told) (omega arith) (r .gmode-low));
+      gmode-low = either-low (eqb (runMode g) runningC && triggers g) (omega arith) (either-low (eqb (runMode g) wait && triggeredBelow) (omega arith) (r .gmode-low));
     }

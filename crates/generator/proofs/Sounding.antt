@@ -6,11 +6,11 @@ use Prim.Native.Nat.{ℕ, _/_, _^_, _<_}
 use borrow.Author.Tests.{eqb-true}
 use lib.Dec.{eqb, lit<}
 use lib.IntN.{ℤ}
-use Rattle.lists.proofs.Choices.{of-cond}
-use Rattle.words.specs.Words.{lowBits, signed}
-use Rattle.sine.specs.Sine.{firstThree, polynomial, angle, entry, indexOf, negative, magnitude}
-use Rattle.oscillator.specs.Oscillator.{sawtooth, square, pulse, sineWave, sineAt, multiple, ratio, sumOfCosines, waveOf}
-use Rattle.envelope.specs.Envelope.{rounded, enveloped}
+use Rattle.base_lists.proofs.Choices.{of-cond}
+use Rattle.base_words.specs.Words.{lowBits, signed}
+use Rattle.generator_sine.specs.Sine.{firstThree, polynomial, angle, entry, indexOf, negative, magnitude}
+use Rattle.generator_oscillator.specs.Oscillator.{sawtooth, square, pulse, sineWave, sineAt, multiple, ratio, sumOfCosines, waveOf}
+use Rattle.generator_envelope.specs.Envelope.{rounded, enveloped}
 use Rattle.generator.specs.declared.Generator.{Generator}
 use Rattle.generator.specs.Generator.{oscillatorMode, jOf, kOf, leftRange, wOf, vOf, pOf}
 

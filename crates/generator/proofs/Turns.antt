@@ -7,19 +7,19 @@ use native.Mathlib.Omega.{arith}
 use lib.Dec.{eqb}
 use lib.IntN.{ℤ}
 use borrow.Author.Tests.{ne-eqb}
-use Rattle.words.specs.declared.SignMagnitude.{SignMagnitude}
-use Rattle.words.specs.Words.{lowBits, sum, sumInto, leaves, valueOf}
-use Rattle.modes.specs.declared.Switches.{Switches}
-use Rattle.modes.specs.Modes.{oscillatorOn, envelopeOn, free, wait, runningC, switchesOf, withRunMode}
-use Rattle.modes.proofs.RunModes.{oscillator-tells, free-tells}
-use Rattle.modes.proofs.Exclusions.{quiet, off-not-on}
-use Rattle.oscillator.specs.Oscillator.{Wave, waveOf, sineWave, sumOfCosines}
-use Rattle.envelope.specs.Envelope.{overflows, decayed, enveloped}
-use Rattle.lists.specs.Lists.{isOneOf}
+use Rattle.base_words.specs.declared.SignMagnitude.{SignMagnitude}
+use Rattle.base_words.specs.Words.{lowBits, sum, sumInto, leaves, valueOf}
+use Rattle.layout_modes.specs.declared.Switches.{Switches}
+use Rattle.layout_modes.specs.Modes.{oscillatorOn, envelopeOn, free, wait, runningC, switchesOf, withRunMode}
+use Rattle.layout_modes.proofs.RunModes.{oscillator-tells, free-tells}
+use Rattle.layout_modes.proofs.Exclusions.{quiet, off-not-on}
+use Rattle.generator_oscillator.specs.Oscillator.{Wave, waveOf, sineWave, sumOfCosines}
+use Rattle.generator_envelope.specs.Envelope.{overflows, decayed, enveloped}
+use Rattle.base_lists.specs.Lists.{isOneOf}
 use Rattle.generator.specs.declared.Generator.{Generator}
 use Rattle.generator.specs.declared.Sounded.{Sounded}
 use Rattle.generator.specs.Generator.{updated, Ranged, runMode, oscillatorMode, jOf, kOf, leftRange, wOf, vOf, pOf, gjAfter, gkAfter, gqAfter, gmodeAfter, triggers, after, soundedOf}
-use Rattle.generator.specs.Steps.{phaseOf, oscillated, kBy, leftBy, outputBy, advancedBy, endedOf}
+use Rattle.generator.specs.AsCoded.{phaseOf, oscillated, kBy, leftBy, outputBy, advancedBy, endedOf}
 
 -- J, of the exact sum of step 1.
 pub phase-low : (g : Generator) (f : ℕ) → lowBits 20 (phaseOf g f) ≡ jOf g f
@@ -130,18 +130,18 @@ pub still-ranged : (o : Bool) (g : Generator) (j : ℕ) → Ranged g → (oscill
 still-ranged o g j r = (rw (oscillated-gq o g j) (r .gq-low), rw (oscillated-gp o g j) (r .gp-low))
 
 -- The turn of a generator that waits.
-pub turn-waits : (g : Generator) (f : ℕ) (told : Bool) → runMode g ≡ wait →
-    after g f told
-    ≡ updated g (sumInto 28 20 (g .gj) (g .go)) (sum 20 (g .gk) (jOf g f)) (g .gq) (cond told (withRunMode runningC (g .gmode)) (g .gmode))
+pub turn-waits : (g : Generator) (f : ℕ) (triggeredBelow : Bool) → runMode g ≡ wait →
+    after g f triggeredBelow
+    ≡ updated g (sumInto 28 20 (g .gj) (g .go)) (sum 20 (g .gk) (jOf g f)) (g .gq) (cond triggeredBelow (withRunMode runningC (g .gmode)) (g .gmode))
 unfolding after gjAfter gkAfter gqAfter gmodeAfter oscillatorOn envelopeOn isOneOf
-turn-waits g f told h = rw h
+turn-waits g f triggeredBelow h = rw h
 
 -- A generator with nothing on is as it was after its turn.
-pub rests : (g : Generator) (f : ℕ) (told : Bool) → envelopeOn (runMode g) ≡ false → oscillatorOn (runMode g) ≡ false → after g f told ≡ g
+pub rests : (g : Generator) (f : ℕ) (triggeredBelow : Bool) → envelopeOn (runMode g) ≡ false → oscillatorOn (runMode g) ≡ false → after g f triggeredBelow ≡ g
 unfolding after gjAfter gkAfter gqAfter gmodeAfter triggers oscillatorOn isOneOf
-rests g f told e o = rw (o, e, quiet (runMode g) e .not-free, and-false, off-not-on oscillatorOn (runMode g) wait o refl)
+rests g f triggeredBelow e o = rw (o, e, quiet (runMode g) e .not-free, and-false, off-not-on oscillatorOn (runMode g) wait o refl)
 
 -- What a generator that doesn't wait is told makes no difference.
-pub after-untold : (g : Generator) (f : ℕ) (told : Bool) → eqb (runMode g) wait ≡ false → after g f told ≡ after g f false
+pub after-untold : (g : Generator) (f : ℕ) (triggeredBelow : Bool) → eqb (runMode g) wait ≡ false → after g f triggeredBelow ≡ after g f false
 unfolding after gmodeAfter
-after-untold g f told h = rw h
+after-untold g f triggeredBelow h = rw h

@@ -8,10 +8,10 @@ use lib.IntN.{ℤ}
 use lib.ListN.{getD, set}
 use Rattle.layout.specs.Layout.{GO, GJ, GK, GN, GM, GP, GQ, GL, GSUM, GFM, GMODE}
 use Rattle.layout.specs.Widths.{goBits, gjBits, gkBits, gnBits, gmBits, gpBits, gqBits, glBits, gsumBits, gfmBits, gmodeBits}
-use Rattle.words.specs.Words.{lowBits, sum, sumInto, leaves}
-use Rattle.modes.specs.Modes.{oscillatorOn, envelopeOn, free, wait, runningC, withRunMode}
-use Rattle.oscillator.specs.Oscillator.{waveOf}
-use Rattle.envelope.specs.Envelope.{overflows, decayed, level, enveloped}
+use Rattle.base_words.specs.Words.{lowBits, sum, sumInto, leaves}
+use Rattle.layout_modes.specs.Modes.{oscillatorOn, envelopeOn, free, wait, runningC, withRunMode}
+use Rattle.generator_oscillator.specs.Oscillator.{waveOf}
+use Rattle.generator_envelope.specs.Envelope.{overflows, decayed, level, enveloped}
 use Rattle.generator.specs.declared.Generator.{Generator}
 use Rattle.generator.specs.declared.Sounded.{Sounded}
 
@@ -119,14 +119,14 @@ triggers g = free (runMode g) && overflows (g .gq) (g .gp)
 
 -- GMODE afterwards: 1101 goes to 1001 as it triggers; 1001 goes to 1101 where it is told that its lower neighbour was taken earlier in this pass and triggered.
 unfoldable pub gmodeAfter : Generator → Bool → ℕ
-gmodeAfter g told =
+gmodeAfter g triggeredBelow =
     cond (eqb (runMode g) runningC && triggers g) (withRunMode wait (g .gmode))
-    (cond (eqb (runMode g) wait && told) (withRunMode runningC (g .gmode))
+    (cond (eqb (runMode g) wait && triggeredBelow) (withRunMode runningC (g .gmode))
     (g .gmode))
 
 -- The generator after its turn.
 unfoldable pub after : Generator → ℕ → Bool → Generator
-after g f told = updated g (gjAfter g) (gkAfter g f) (gqAfter g) (gmodeAfter g told)
+after g f triggeredBelow = updated g (gjAfter g) (gkAfter g f) (gqAfter g) (gmodeAfter g triggeredBelow)
 
 -- What a generator whose envelope is on brings. It is not in 1001, so what it is told makes no difference.
 unfoldable pub soundedOf : Generator → ℕ → Sounded

@@ -1,2 +1,2 @@
 pub mod Generator
-pub mod Steps
+pub mod AsCoded

@@ -4,18 +4,18 @@ ghost use mathlib.Core.Path.{_≡_};
 ghost use mathlib.Core.Bool.{true};
 ghost use lib.Dec.{eqb};
 ghost use lib.ListN.{length};
-ghost use Rattle.words.specs.Words.{lowBits, signed, sum, sumInto};
-ghost use Rattle.sine.specs.Sine.{quarter};
-ghost use Rattle.exponential.specs.Exponential.{tableSize, entries};
-ghost use Rattle.modes.specs.Modes.{switchesOf, envelopeOn, wait, withRunMode};
-ghost use Rattle.oscillator.specs.Oscillator.{Wave, waveOf, sineWave, sumOfCosines};
-ghost use Rattle.envelope.specs.Envelope.{overflows, decayed, enveloped};
+ghost use Rattle.base_words.specs.Words.{lowBits, signed, sum, sumInto};
+ghost use Rattle.generator_sine.specs.Sine.{quarter};
+ghost use Rattle.generator_exponential.specs.Exponential.{tableSize, entries};
+ghost use Rattle.layout_modes.specs.Modes.{switchesOf, envelopeOn, wait, withRunMode};
+ghost use Rattle.generator_oscillator.specs.Oscillator.{Wave, waveOf, sineWave, sumOfCosines};
+ghost use Rattle.generator_envelope.specs.Envelope.{overflows, decayed, enveloped};
 ghost use Rattle.generator.specs.Generator.{loaded, stored, updated, Ranged, runMode, oscillatorMode, after, soundedOf};
-ghost use Rattle.generator.specs.Steps.{phaseOf, oscillated, leftBy, outputBy, advancedBy, endedOf};
-use exponential::Entries;
-use modes::Switches;
-use sine::Quarter;
-use words::SignMagnitude;
+ghost use Rattle.generator.specs.AsCoded.{phaseOf, oscillated, leftBy, outputBy, advancedBy, endedOf};
+use base_words::SignMagnitude;
+use generator_exponential::Entries;
+use generator_sine::Quarter;
+use layout_modes::Switches;
 
 pub struct Generator {
     pub go: u32,
@@ -87,7 +87,7 @@ impl Generator {
         requires { ⌜ f < 2 ^ 20 ⌝ }
         ensures { λ r. ⌜ signed 32 r ≡ phaseOf self f ⌝ }
     {
-        words::exact20(self.gj / 256, f)
+        base_words::exact20(self.gj / 256, f)
     }
 
     // Step 2: GO is added into GJ.
@@ -95,7 +95,7 @@ impl Generator {
         requires { ⌜ Ranged self ⌝ }
         ensures { λ r. ⌜ r ≡ updated self (sumInto 28 20 (self .gj) (self .go)) (self .gk) (self .gq) (self .gmode) ⌝ }
     {
-        self.gj = words::into28(self.gj, self.go);
+        self.gj = base_words::into28(self.gj, self.go);
         self
     }
 
@@ -104,7 +104,7 @@ impl Generator {
         requires { ⌜ (self .gk < 2 ^ 20) × (j < 2 ^ 20) ⌝ }
         ensures { λ r. ⌜ r ≡ updated self (self .gj) (sum 20 (self .gk) j) (self .gq) (self .gmode) ⌝ }
     {
-        self.gk = words::add20(self.gk, j);
+        self.gk = base_words::add20(self.gk, j);
         self
     }
 
@@ -113,7 +113,7 @@ impl Generator {
         requires { ⌜ (self .gq < 2 ^ 24) × (self .gp < 2 ^ 20) ⌝ }
         ensures { λ r. ⌜ r ≡ updated self (self .gj) (self .gk) (decayed (eqb free 1) (self .gq) (self .gp)) (self .gmode) ⌝ }
     {
-        self.gq = envelope::decayed(free, self.gq, self.gp);
+        self.gq = generator_envelope::decayed(free, self.gq, self.gp);
         self
     }
 
@@ -122,7 +122,7 @@ impl Generator {
         requires { ⌜ (self .gq < 2 ^ 24) × (self .gp < 2 ^ 20) ⌝ }
         ensures { λ r. ⌜ r ≡ overflows (self .gq) (self .gp) ⌝ }
     {
-        envelope::overflows(self.gq, self.gp)
+        generator_envelope::overflows(self.gq, self.gp)
     }
 
     // Another run mode, the other bits of GMODE kept.
@@ -153,11 +153,11 @@ impl Generator {
         requires { ⌜ j < 2 ^ 20 ⌝ }
         ensures { λ r. ⌜ r ≡ leftBy (eqb on 1) self (signed 32 exact) j ⌝ }
     {
-        if words::beyond20(exact) {
+        if base_words::beyond20(exact) {
             return true;
         }
         if on == 1 {
-            return words::leaves20(self.gk, j);
+            return base_words::leaves20(self.gk, j);
         }
         false
     }
@@ -171,12 +171,12 @@ impl Generator {
     {
         let mode = self.gmode % 16;
         if mode == 1 {
-            return oscillator::sawtooth(k);
+            return generator_oscillator::sawtooth(k);
         }
         if mode == 2 {
-            return oscillator::square(k);
+            return generator_oscillator::square(k);
         }
-        oscillator::pulse(self.left_range(on, exact, j))
+        generator_oscillator::pulse(self.left_range(on, exact, j))
     }
 
     // Steps 6 and 9 in the oscillator modes 0000 and 1000: P, of K and V.
@@ -185,7 +185,7 @@ impl Generator {
         requires { ⌜ (self .gm < 2 ^ 4) × (k < 2 ^ 13) × (v < 2 ^ 12) ⌝ }
         ensures { λ r. ⌜ r ≡ lowBits 20 (enveloped (sineWave k (self .gm)) v) ⌝ }
     {
-        envelope::enveloped(oscillator::sine_wave(sine, k, self.gm), v)
+        generator_envelope::enveloped(generator_oscillator::sine_wave(sine, k, self.gm), v)
     }
 
     // Steps 6 and 9 in the oscillator mode 0100.
@@ -194,7 +194,10 @@ impl Generator {
         requires { ⌜ (self .gn < 2 ^ 11) × (self .gm < 2 ^ 4) × (k < 2 ^ 13) × (v < 2 ^ 12) ⌝ }
         ensures { λ r. ⌜ r ≡ lowBits 20 (enveloped (sumOfCosines k (self .gn) (self .gm)) v) ⌝ }
     {
-        envelope::enveloped(oscillator::sum_of_cosines(sine, k, self.gn, self.gm), v)
+        generator_envelope::enveloped(
+            generator_oscillator::sum_of_cosines(sine, k, self.gn, self.gm),
+            v,
+        )
     }
 
     // Steps 3 and 6 to 9: P, of the exact sum of step 1, J and whether the oscillator is on. K is the high 13 bits of J or of GK.
@@ -204,7 +207,7 @@ impl Generator {
         requires { ⌜ j < 2 ^ 20 ⌝ }
         ensures { λ r. ⌜ r ≡ outputBy (eqb on 1) self (signed 32 exact) j ⌝ }
     {
-        let v = envelope::level(decay, self.gmode / 16 % 4, self.gl, self.gq);
+        let v = generator_envelope::level(decay, self.gmode / 16 % 4, self.gl, self.gq);
         if self.gmode % 16 == 8 {
             return self.sine_under(sine, j / 128, v);
         }
@@ -215,7 +218,7 @@ impl Generator {
             return self.cosines_under(sine, self.gk / 128, v);
         }
         if self.gmode % 16 < 4 {
-            return envelope::enveloped(self.shaped(on, exact, j, self.gk / 128), v);
+            return generator_envelope::enveloped(self.shaped(on, exact, j, self.gk / 128), v);
         }
         self.sine_under(sine, self.gk / 128, v)
     }
@@ -247,8 +250,8 @@ impl Generator {
     fn ended(self) -> Generator
         ensures { λ r. ⌜ r ≡ endedOf self ⌝ }
     {
-        if self.gmode / 64 == modes::RUNNING_C {
-            return self.with_run_mode(modes::WAIT);
+        if self.gmode / 64 == layout_modes::RUNNING_C {
+            return self.with_run_mode(layout_modes::WAIT);
         }
         self
     }
@@ -262,7 +265,7 @@ impl Generator {
         ensures { λ r. ⌜ r ≡ soundedOf self f ⌝ }
     {
         let exact = self.phase(f);
-        let j = words::low20(exact);
+        let j = base_words::low20(exact);
         let p = self.output(sine, decay, on.oscillator, exact, j);
         let sounded = self.advance(on, j, p);
         if sounded.triggers {
@@ -278,15 +281,15 @@ impl Generator {
     }
 
     // The turn of a generator in 1001, told whether its lower neighbour has triggered in this pass.
-    pub fn wait(self, f: u32, told: bool) -> Generator
+    pub fn await_trigger(self, f: u32, below: bool) -> Generator
         requires { ⌜ Ranged self ⌝ }
         requires { ⌜ (runMode self ≡ wait) × (f < 2 ^ 20) ⌝ }
-        ensures { λ r. ⌜ r ≡ after self f told ⌝ }
+        ensures { λ r. ⌜ r ≡ after self f below ⌝ }
     {
-        let j = words::low20(self.phase(f));
+        let j = base_words::low20(self.phase(f));
         let turned = self.oscillate(1, j);
-        if told {
-            return turned.with_run_mode(modes::RUNNING_C);
+        if below {
+            return turned.with_run_mode(layout_modes::RUNNING_C);
         }
         turned
     }

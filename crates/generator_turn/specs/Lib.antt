@@ -1,1 +1,1 @@
-pub mod GeneratorTurn
+pub mod AsCoded

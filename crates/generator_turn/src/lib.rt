@@ -2,20 +2,20 @@
 ghost use mathlib.Core.Path.{_≡_};
 ghost use mathlib.Core.Bool.{true};
 ghost use Prim.Native.Nat.{_<_, _^_};
-ghost use Rattle.sine.specs.Sine.{quarter};
-ghost use Rattle.exponential.specs.Exponential.{tableSize, entries};
-ghost use Rattle.modes.specs.Modes.{switchesOf, envelopeOn, wait};
+ghost use Rattle.generator_sine.specs.Sine.{quarter};
+ghost use Rattle.generator_exponential.specs.Exponential.{tableSize, entries};
+ghost use Rattle.layout_modes.specs.Modes.{switchesOf, envelopeOn, wait};
 ghost use Rattle.generator.specs.Generator.{Ranged};
-ghost use Rattle.generator_turn.specs.GeneratorTurn.{runOf, afterOf, soundedBy, sendsOf, dacOf};
-use exponential::Entries;
+ghost use Rattle.generator_turn.specs.AsCoded.{runOf, afterOf, soundedBy, sendsOf, dacOf};
 use generator::Generator;
 use generator::Sounded;
-use modes::Switches;
-use sine::Quarter;
-use texts::Text;
+use generator_exponential::Entries;
+use generator_sine::Quarter;
+use layout_modes::Switches;
+use layout_texts::Text;
 
 // The turn of a generator whose envelope is on; on is its run mode's switches.
-pub fn play(
+pub fn turn_playing(
     text: Text,
     unit: Generator,
     sine: &Quarter,
@@ -31,19 +31,19 @@ pub fn play(
 {
     match text {
         Text::Of1978 => unit.play(sine, decay, on, f),
-        Text::Old => old_generator::play(unit, sine, decay, on, f),
+        Text::Old => generator_old::play(unit, sine, decay, on, f),
     }
 }
 
 // The turn of a generator that waits, told whether its lower neighbour has triggered in this pass.
-pub fn wait(text: Text, unit: Generator, f: u32, told: bool) -> Generator
+pub fn turn_waiting(text: Text, unit: Generator, f: u32, below: bool) -> Generator
     requires { ⌜ Ranged unit ⌝ }
     requires { ⌜ (runOf text unit ≡ wait) × (f < 2 ^ 20) ⌝ }
-    ensures { λ r. ⌜ r ≡ afterOf text unit f told ⌝ }
+    ensures { λ r. ⌜ r ≡ afterOf text unit f below ⌝ }
 {
     match text {
-        Text::Of1978 => unit.wait(f, told),
-        Text::Old => old_generator::wait(unit, f, told),
+        Text::Of1978 => unit.await_trigger(f, below),
+        Text::Old => generator_old::await_trigger(unit, f, below),
     }
 }
 
@@ -55,7 +55,7 @@ pub fn sends(text: Text, unit: Generator, f: u32) -> u32
 {
     match text {
         Text::Of1978 => f,
-        Text::Old => old_generator::angle(unit, f),
+        Text::Old => generator_old::angle(unit, f),
     }
 }
 

@@ -8,14 +8,14 @@ use Prim.Native.Nat.{ℕ, _+_, _≤_}
 use native.Mathlib.Omega.{arith}
 use borrow.Author.Tests.{ne-eqb, leb-true}
 use Rattle.layout.specs.Machine.{Machine, ticksOf}
-use Rattle.texts.specs.declared.Text.the-variants.{Of1978}
-use Rattle.questions.specs.Questions.{Question, asked}
+use Rattle.layout_texts.specs.declared.Text.the-variants.{Of1978}
+use Rattle.base_questions.specs.Questions.{Question, asked}
 use Rattle.machine.specs.Questions.{question1, question2}
 use Rattle.machine.proofs.Asked.{machine-passes}
-use Rattle.join_model.specs.Join.{Answer, question16, question17, question18, joinRefusal, joinOf}
-use Rattle.join_questions.specs.Marks.{Usable, marksOf}
+use Rattle.join_model.specs.Join.{JoinAnswer, question16, question17, question18, joinRefusal, joinOf}
+use Rattle.join_questions.specs.AsCoded.{Usable, marksOf}
 use Rattle.join_questions.proofs.Answers.{is-usable}
-use Rattle.join.specs.Stores.{stored}
+use Rattle.join.specs.AsCoded.{stored}
 use Rattle.join.proofs.Stored.{stored-joined}
 
 -- Four questions, then others.
@@ -60,11 +60,11 @@ module _ (a b : Machine) {n : ℕ} (e : n ≡ asked (question1 a ∷ question2 O
   abbrev pairs : List Question
   pairs = question16 a b ∷ question17 a b ∷ question18 a b ∷ []
 
-  refused : (k : ℕ) → k ≡ joinRefusal a b → k ≢ 0 → _≡_ {A = Answer} (record { number = k; machine = a }) (joinOf a b)
+  refused : (k : ℕ) → k ≡ joinRefusal a b → k ≢ 0 → _≡_ {A = JoinAnswer} (record { number = k; machine = a }) (joinOf a b)
   unfolding joinOf
   refused k f h = rw (← f, ne-eqb k 0 h)
 
-  pub refused-first : n ≢ 0 → _≡_ {A = Answer} (record { number = n; machine = a }) (joinOf a b)
+  pub refused-first : n ≢ 0 → _≡_ {A = JoinAnswer} (record { number = n; machine = a }) (joinOf a b)
   unfolding joinRefusal
   refused-first h = refused n (four-refuse (question1 a) (question2 Of1978 a) (question1 b) (question2 Of1978 b) pairs e h) h
 
@@ -82,13 +82,13 @@ module _ (a b : Machine) {n : ℕ} (e : n ≡ asked (question1 a ∷ question2 O
       unfolding joinRefusal
       later = f ∙ sym (passed .2)
 
-      pub refused-pair : k ≢ 0 → _≡_ {A = Answer} (record { number = k; machine = a }) (joinOf a b)
+      pub refused-pair : k ≢ 0 → _≡_ {A = JoinAnswer} (record { number = k; machine = a }) (joinOf a b)
       refused-pair h = refused k later h
 
       pub both-fit : k ≡ 0 → ticksOf a + ticksOf b ≤ 256
       both-fit y = leb-true (ticksOf a + ticksOf b) 256 (first-pass (question16 a b) (question17 a b) (question18 a b) (λ q. omega arith) (sym f ∙ y))
 
-      pub both-joined : k ≡ 0 → {used : List Bool} → used ≡ marksOf b → {m : Machine} → m ≡ stored a b used → _≡_ {A = Answer} (record { number = 0; machine = m }) (joinOf a b)
+      pub both-joined : k ≡ 0 → {used : List Bool} → used ≡ marksOf b → {m : Machine} → m ≡ stored a b used → _≡_ {A = JoinAnswer} (record { number = 0; machine = m }) (joinOf a b)
       unfolding joinOf
       both-joined y marks is =
           rw (← later, y, is, stored-joined a b (machine-passes Of1978 a (passed .0) .0) (both-fit y) (both-usable .1) marks)

@@ -10,16 +10,16 @@ use borrow.Author.Tests.{eqb-true, eqb-false, ne-eqb}
 use lib.Dec.{eqb, lit≤}
 use lib.ListN.{length, getD, set, drop, length-set}
 use lib.Seq.{getD-set-same, getD-set-other, getD-drop, ext-getD}
-use Rattle.lists.specs.Lists.{tabulate}
-use Rattle.lists.proofs.Tables.{tabulate-length, tabulate-at}
-use Rattle.fills.proofs.Filled.{filled-length}
+use Rattle.base_lists.specs.Lists.{tabulate}
+use Rattle.base_lists.proofs.Tables.{tabulate-length, tabulate-at}
+use Rattle.base_fills.proofs.Filled.{filled-length}
 use Rattle.layout.specs.Layout.{machineLength, generatorAt, tAt, nAt, updateTicksAt}
 use Rattle.layout.specs.Machine.{Machine, ticksOf, updateTicks}
 use Rattle.join_model.specs.Join.{usesWord, usesDac, among, broughtOver, firstWord, joinedWord, joined}
 use Rattle.join_model.proofs.JoinedWords.{among-before, low-stays, high-stays}
-use Rattle.join_questions.specs.Marks.{Usable, dacsUsedAt, marksOf}
+use Rattle.join_questions.specs.AsCoded.{Usable, dacsUsedAt, marksOf}
 use Rattle.join_questions.proofs.Marking.{word-marks, dac-marks}
-use Rattle.join.specs.Stores.{copied, broughtFrom, broughtUsed, stored}
+use Rattle.join.specs.AsCoded.{copied, broughtFrom, broughtUsed, stored}
 use Rattle.join.proofs.Storing.{among-true, filled-word, choice, chosen-length, chosen-word}
 
 module _ (a b : Machine) (whole : length a ≡ machineLength) (sum : ticksOf a + ticksOf b ≤ 256) (used : List Bool) where

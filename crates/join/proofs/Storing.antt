@@ -8,15 +8,15 @@ use native.Mathlib.Omega.{arith}
 use borrow.Author.Tests.{leb-true, ltb-true}
 use lib.Dec.{leb, ltb, lit<}
 use lib.ListN.{length, getD, set, take, drop}
-use Rattle.lists.proofs.Below.{and-first, and-second}
-use Rattle.lists.proofs.Parts.{part-from}
-use Rattle.fills.specs.Fills.{filled}
-use Rattle.fills.proofs.Filled.{filled-length, filled-other, filled-at, filled-next}
+use Rattle.base_lists.proofs.Below.{and-first, and-second}
+use Rattle.base_lists.proofs.Parts.{part-from}
+use Rattle.base_fills.specs.Fills.{filled}
+use Rattle.base_fills.proofs.Filled.{filled-length, filled-other, filled-at, filled-next}
 use Rattle.join_model.specs.Join.{among}
 use Rattle.join_model.proofs.JoinedWords.{among-in}
 use Rattle.layout.specs.Layout.{tAt, nAt, updateTicksAt}
 use Rattle.layout.specs.Machine.{Machine, ticksOf, updateTicks}
-use Rattle.join.specs.Stores.{chosen, copied, broughtUsed, stored}
+use Rattle.join.specs.AsCoded.{chosen, copied, broughtUsed, stored}
 
 -- One word more.
 pub copy-next : (at k : ℕ) (f : ℕ → ℕ) (m : List ℕ) {now : List ℕ} → now ≡ filled at 1 k f m → set now (at + k) (f k) ≡ filled at 1 (k + 1) f m

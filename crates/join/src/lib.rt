@@ -3,12 +3,12 @@ ghost use mathlib.Core.Path.{_≡_};
 ghost use mathlib.Core.Bool.{cond};
 ghost use Prim.Native.Nat.{_+_, _≤_};
 ghost use lib.ListN.{length, getD, set};
-ghost use Rattle.fills.specs.Fills.{filled};
+ghost use Rattle.base_fills.specs.Fills.{filled};
 ghost use Rattle.layout.specs.Layout.{generators, tAt, updateTicksAt};
 ghost use Rattle.layout.specs.Machine.{Reaches, ticksOf};
 ghost use Rattle.join_model.specs.Join.{joinOf};
-ghost use Rattle.join_questions.specs.Marks.{marksLength};
-ghost use Rattle.join.specs.Stores.{chosen, broughtUsed, stored};
+ghost use Rattle.join_questions.specs.AsCoded.{marksLength};
+ghost use Rattle.join.specs.AsCoded.{chosen, broughtUsed, stored};
 use join_questions::Uses;
 
 // Copies the first n words of a run into another, from a place on.

@@ -9,15 +9,15 @@ use native.Mathlib.Nat.{add-zero, zero-add}
 use borrow.Author.Tests.{ltb-true, ltb-false}
 use lib.Dec.{ltb, lit<}
 use lib.ListN.{getD}
-use Rattle.modes.specs.Modes.{readData, writeData, writeDAC}
+use Rattle.layout_modes.specs.Modes.{readData, writeData, writeDAC}
 use Rattle.layout.specs.Layout.{generatorAt, dacs, quadrantWords, GSUM, GFM, GMODE}
 use Rattle.layout.specs.Machine.{Machine, ticksOf, gsumAt, gfmAt}
-use Rattle.texts.specs.Texts.{runModeAt, dacNumberAt}
-use Rattle.texts.specs.declared.Text.the-variants.{Of1978}
-use Rattle.machine.proofs.SoundMachine.{sound-controls}
+use Rattle.layout_texts.specs.Texts.{runModeAt, dacNumberAt}
+use Rattle.layout_texts.specs.declared.Text.the-variants.{Of1978}
+use Rattle.machine.proofs.ValidMachine.{valid-controls}
 use Rattle.pass_laws.specs.Good.{Good}
 use Rattle.join_model.specs.Join.{usesWord, usesDac, joined}
-use Rattle.join_model.specs.Bells.{SelfContained, Other, Bell}
+use Rattle.join_model.specs.AsCoded.{SelfContained, Other, Bell}
 use Rattle.join_model.proofs.Used.{uses-sum, uses-feeder}
 use Rattle.join_model.proofs.JoinedWords.{ticks-joined, first-generator, second-generator, modifier-word, this-word, last-word, dac-word, joined-good}
 use Rattle.join_model.proofs.Pairs.{Pair}
@@ -130,7 +130,7 @@ module _ (a b : Machine) (p : Pair a b) where
                   by-bell (λ h. Other b (ticksOf a) h → runModeAt Of1978 j h ≡ writeDAC → dacNumberAt Of1978 j h ≢ d)
                   (λ g i m q e. dacs-apart d k (uses-feeder a g i d (sym (mode-first g i) ∙ q) (sym (dac-first g i) ∙ e)) u) (λ g i m q e. m g i refl) h l n;
               seam = λ h.
-                  let some = sound-controls Of1978 b (p .good-b .is-sound) .tLow in
+                  let some = valid-controls Of1978 b (p .good-b .is-valid) .tLow in
                   let z : ticksOf a ≡ ticksOf a + 0 = omega arith in
                   let same : runModeAt Of1978 j (ticksOf a) ≡ runModeAt Of1978 b 0 = ap (runModeAt Of1978 j) z ∙ mode-second 0 (omega (arith, some)) in
                   (λ e. p .seam .0 (sym same ∙ e), λ e. p .seam .1 (sym same ∙ e));

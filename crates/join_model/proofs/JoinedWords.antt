@@ -8,15 +8,15 @@ use native.Mathlib.Omega.{arith}
 use borrow.Author.Tests.{eqb-true, eqb-false, ne-eqb, le-leb, lt-leb, lt-ltb, le-ltb, leb-true, ltb-true}
 use lib.Dec.{eqb, leb, ltb, lit<, lit≤}
 use lib.ListN.{length, getD}
-use Rattle.lists.proofs.Below.{and-first, and-second}
-use Rattle.lists.proofs.Tables.{tabulate-at, tabulate-length}
+use Rattle.base_lists.proofs.Below.{and-first, and-second}
+use Rattle.base_lists.proofs.Tables.{tabulate-at, tabulate-length}
 use Rattle.layout.specs.Layout.{machineLength, generatorAt, modifierAt, quadrantAt, dacAt, tAt, nAt, updateTicksAt, MMODE}
 use Rattle.layout.specs.Machine.{Machine, ticksOf, updateTicksOf, functionAt}
-use Rattle.texts.specs.declared.Text.the-variants.{Of1978}
+use Rattle.layout_texts.specs.declared.Text.the-variants.{Of1978}
 use Rattle.machine.specs.Questions.{regions, testAt}
 use Rattle.machine.proofs.Regions.{region, start, unit-test}
-use Rattle.machine.proofs.SoundMachine.{sound-at, sound-from, sound-controls}
-use Rattle.sums.specs.Sums.{generatorThis, generatorLast}
+use Rattle.machine.proofs.ValidMachine.{valid-at, valid-from, valid-controls}
+use Rattle.pass_sums.specs.Sums.{generatorThis, generatorLast}
 use Rattle.pass_laws.specs.Good.{Good}
 use Rattle.join_model.specs.Join.{usesWord, usesDac, among, broughtOver, firstWord, joinedWord, joined}
 
@@ -173,12 +173,12 @@ module _ (a b : Machine) (sum : ticksOf a + ticksOf b ≤ 256) where
             ∙ ap (λ (n : ℕ). testAt (regions Of1978) n (getD b r 0)) there
             ∙ shift-test (ticksOf a + g) g k (getD b r 0) (omega arith) (omega arith) (omega arith)
             ∙ sym (ap (λ (n : ℕ). testAt (regions Of1978) n (getD b r 0)) here)
-            ∙ sound-at Of1978 b (gb .is-sound) r (omega arith)
-        go false ex true ey z ez = rw (outside-word i (omega arith) ex, ey) (sound-at Of1978 b (gb .is-sound) i h)
+            ∙ valid-at Of1978 b (gb .is-valid) r (omega arith)
+        go false ex true ey z ez = rw (outside-word i (omega arith) ex, ey) (valid-at Of1978 b (gb .is-valid) i h)
         go false ex false ey true ez =
-            rw (eqb-true i tAt ez) (ap (testAt (regions Of1978) tAt) ticks-joined ∙ ticks-test (ticksOf a + ticksOf b) (omega (arith, sound-controls Of1978 a (ga .is-sound) .tLow)) sum)
+            rw (eqb-true i tAt ez) (ap (testAt (regions Of1978) tAt) ticks-joined ∙ ticks-test (ticksOf a + ticksOf b) (omega (arith, valid-controls Of1978 a (ga .is-valid) .tLow)) sum)
         go false ex false ey false ez =
-            rw (first-word i (omega arith) ex ey (eqb-false i tAt ez) (λ e. omega arith)) (sound-at Of1978 a (ga .is-sound) i h)
+            rw (first-word i (omega arith) ex ey (eqb-false i tAt ez) (λ e. omega arith)) (valid-at Of1978 a (ga .is-valid) i h)
 
     pub joined-good : Good Of1978 (joined a b)
-    joined-good = record { whole = joined-length; is-sound = sound-from Of1978 (joined a b) word-passes count-joined }
+    joined-good = record { whole = joined-length; is-valid = valid-from Of1978 (joined a b) word-passes count-joined }

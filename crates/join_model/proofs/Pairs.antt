@@ -8,17 +8,17 @@ use Prim.Native.Nat.{ℕ, _+_, _≤_, _<_}
 use borrow.Author.Tests.{eqb-true, eqb-false, leb-true, ltb-true}
 use lib.Dec.{eqb}
 use lib.ListN.{length}
-use Rattle.lists.proofs.Below.{and-first, and-second, below-at}
-use Rattle.modes.specs.Modes.{wait, runningC, readData, writeData}
+use Rattle.base_lists.proofs.Below.{and-first, and-second, below-at}
+use Rattle.layout_modes.specs.Modes.{wait, runningC, readData, writeData}
 use Rattle.layout.specs.Layout.{machineLength, quadrantWords, dacs}
 use Rattle.layout.specs.Machine.{Machine, ticksOf, gfmAt, functionAt}
-use Rattle.texts.specs.Texts.{runModeAt}
-use Rattle.texts.specs.declared.Text.the-variants.{Of1978}
-use Rattle.questions.specs.Questions.{Question, asked}
+use Rattle.layout_texts.specs.Texts.{runModeAt}
+use Rattle.layout_texts.specs.declared.Text.the-variants.{Of1978}
+use Rattle.base_questions.specs.Questions.{Question, asked}
 use Rattle.machine.specs.Questions.{question1, question2}
 use Rattle.pass_laws.specs.Good.{Good}
 use Rattle.join_model.specs.Join.{usesWord, usesDac, readsData, writesData, ownInput, ownGenerator, ownGenerators, idleModifiers, selfContained, awaitsNeighbour, wordsApart, dacsApart, joined, joinRefusal, joinOf, question16, question17, question18}
-use Rattle.join_model.specs.Bells.{SelfContained}
+use Rattle.join_model.specs.AsCoded.{SelfContained}
 
 not-true : (x : Bool) → not x ≡ true → x ≡ false
 not-true true e = absurd (true≢false (sym e))
@@ -113,8 +113,8 @@ module _ (a b : Machine) (e : joinOf a b .number ≡ 0) where
       let s7 = asked-yes (question18 a b) [] (eqb-false 18 0 refl) (s6 .1) in
       let three = all-three (selfContained a) (selfContained b) (not (awaitsNeighbour b)) (s6 .0) in
       record {
-        good-a = record { whole = eqb-true (length a) machineLength (s1 .0); is-sound = s2 .0 };
-        good-b = record { whole = eqb-true (length b) machineLength (s3 .0); is-sound = s4 .0 };
+        good-a = record { whole = eqb-true (length a) machineLength (s1 .0); is-valid = s2 .0 };
+        good-b = record { whole = eqb-true (length b) machineLength (s3 .0); is-valid = s4 .0 };
         sum = leb-true (ticksOf a + ticksOf b) 256 (s5 .0);
         own-a = self-contained a (three .0);
         own-b = self-contained b (three .1);

@@ -5,12 +5,12 @@ use mathlib.Core.Bool.{Bool, true, false, not, _||_, true≢false}
 use Prim.Native.Nat.{ℕ, _<_}
 use borrow.Author.Tests.{eq-eqb}
 use lib.Dec.{eqb}
-use Rattle.lists.specs.Lists.{allBelow}
-use Rattle.lists.proofs.Below.{below-at, below-same}
+use Rattle.base_lists.specs.Lists.{allBelow}
+use Rattle.base_lists.proofs.Below.{below-at, below-same}
 use Rattle.layout.specs.Machine.{Machine, ticksOf, gsumAt, gfmAt}
-use Rattle.modes.specs.Modes.{writeDAC}
-use Rattle.texts.specs.Texts.{runModeAt, dacNumberAt}
-use Rattle.texts.specs.declared.Text.the-variants.{Of1978}
+use Rattle.layout_modes.specs.Modes.{writeDAC}
+use Rattle.layout_texts.specs.Texts.{runModeAt, dacNumberAt}
+use Rattle.layout_texts.specs.declared.Text.the-variants.{Of1978}
 use Rattle.join_model.specs.Join.{anyBelow, namesWord, feedsDac, usesWord, usesDac}
 
 -- A test that some number below n passes.

@@ -5,15 +5,15 @@ use mathlib.Core.Bool.{Bool, cond, not, _&&_, _||_}
 use mathlib.Core.List.{[], _∷_}
 use lib.Dec.{eqb, leb, ltb}
 use lib.ListN.{getD}
-use Rattle.lists.specs.Lists.{tabulate, allBelow}
-use Rattle.modes.specs.Modes.{wait, runningC, readData, writeData, writeDAC}
+use Rattle.base_lists.specs.Lists.{tabulate, allBelow}
+use Rattle.layout_modes.specs.Modes.{wait, runningC, readData, writeData, writeDAC}
 use Rattle.layout.specs.Layout.{machineLength, generatorAt, quadrantAt, dacAt, tAt, nAt, updateTicksAt, dacs, quadrantWords, generators}
 use Rattle.layout.specs.Machine.{Machine, ticksOf, updateTicks, gsumAt, gfmAt, functionAt}
-use Rattle.texts.specs.Texts.{runModeAt, dacNumberAt}
-use Rattle.texts.specs.declared.Text.the-variants.{Of1978}
-use Rattle.questions.specs.Questions.{Question, asked}
+use Rattle.layout_texts.specs.Texts.{runModeAt, dacNumberAt}
+use Rattle.layout_texts.specs.declared.Text.the-variants.{Of1978}
+use Rattle.base_questions.specs.Questions.{Question, asked}
 use Rattle.machine.specs.Questions.{question1, question2}
-use Rattle.sums.specs.Sums.{generatorThis, generatorLast}
+use Rattle.pass_sums.specs.Sums.{generatorThis, generatorLast}
 
 -- Some number below n passes a test.
 abbrev pub anyBelow : (ℕ → Bool) → ℕ → Bool
@@ -113,11 +113,11 @@ joinRefusal a b =
     asked (question1 a ∷ question2 Of1978 a ∷ question1 b ∷ question2 Of1978 b ∷ question16 a b ∷ question17 a b ∷ question18 a b ∷ [])
 
 -- What the call answers and leaves of the first machine: the joined one, and in a refusal what it was.
-pub record Answer : Type 0 where
+pub record JoinAnswer : Type 0 where
   pub number : ℕ
   pub machine : Machine
 
-unfoldable pub joinOf : Machine → Machine → Answer
+unfoldable pub joinOf : Machine → Machine → JoinAnswer
 joinOf a b =
     let n = joinRefusal a b in
     record { number = n; machine = cond (eqb n 0) (joined a b) a }

@@ -1,3 +1,3 @@
 pub mod Join
 pub mod Plays
-pub mod Bells
+pub mod AsCoded

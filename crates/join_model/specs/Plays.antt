@@ -6,7 +6,7 @@ use mathlib.Core.Path.{_≡_}
 use lib.ListN.{getD}
 use Rattle.layout.specs.Layout.{generatorAt, generatorWords, quadrantAt, quadrantWords, dacAt, dacs}
 use Rattle.layout.specs.Machine.{Machine, ticksOf}
-use Rattle.sums.specs.Sums.{generatorThis, generatorLast}
+use Rattle.pass_sums.specs.Sums.{generatorThis, generatorLast}
 use Rattle.join_model.specs.Join.{usesWord, usesDac}
 
 -- A bell is the generators of a machine below its T, with the sum words and DACs that it uses. Its generators stand in machine m from one place on and in machine n from another:

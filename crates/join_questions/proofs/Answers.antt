@@ -11,18 +11,18 @@ use native.Mathlib.Numerals.{add-one}
 use borrow.Author.Tests.{ltb-true, ltb-false, eq-eqb, ne-eqb, not-true, not-false}
 use lib.Dec.{eqb, ltb}
 use lib.ListN.{getD}
-use Rattle.lists.proofs.Below.{below-same}
+use Rattle.base_lists.proofs.Below.{below-same}
 use Rattle.layout.specs.Layout.{modifierAt, MMODE, modifierWords, quadrantWords, dacs}
 use Rattle.layout.specs.Machine.{Machine, functionAt}
-use Rattle.texts.specs.declared.Text.the-variants.{Of1978}
-use Rattle.questions.specs.Questions.{asked}
-use Rattle.questions.proofs.Asked.{asked-first, asked-later}
+use Rattle.layout_texts.specs.declared.Text.the-variants.{Of1978}
+use Rattle.base_questions.specs.Questions.{asked}
+use Rattle.base_questions.proofs.Asked.{asked-first, asked-later}
 use Rattle.machine.specs.Questions.{question1, question2}
 use Rattle.machine.proofs.Asked.{machine-passes}
-use Rattle.machine.proofs.SoundMachine.{reaches, sound-generator, sound-controls}
-use Rattle.machine_sweep.specs.Columns.{everyWord}
+use Rattle.machine.proofs.ValidMachine.{reaches, valid-generator, valid-controls}
+use Rattle.machine_sweep.specs.AsCoded.{everyWord}
 use Rattle.join_model.specs.Join.{usesWord, usesDac, idleModifiers, wordsApart, dacsApart, question16, question17, question18}
-use Rattle.join_questions.specs.Marks.{Usable, dacsUsedAt, marksOf, marksApart}
+use Rattle.join_questions.specs.AsCoded.{Usable, dacsUsedAt, marksOf, marksApart}
 use Rattle.join_questions.proofs.Marking.{word-marks, dac-marks}
 
 -- A machine that passes questions 1 and 2 can be marked.
@@ -31,9 +31,9 @@ is-usable m e =
     let passed = machine-passes Of1978 m e in
     record {
       reaches = reaches m (passed .0);
-      ticks = sound-controls Of1978 m (passed .1) .tHigh;
-      gsums = λ g h. sound-generator Of1978 m (passed .1) g h .gsum;
-      gfms = λ g h. sound-generator Of1978 m (passed .1) g h .gfm;
+      ticks = valid-controls Of1978 m (passed .1) .tHigh;
+      gsums = λ g h. valid-generator Of1978 m (passed .1) g h .gsum;
+      gfms = λ g h. valid-generator Of1978 m (passed .1) g h .gfm;
     }
 
 -- A function of 00000 is a MMODE below 16.

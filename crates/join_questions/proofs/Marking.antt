@@ -10,14 +10,14 @@ use borrow.Author.Tests.{eqb-true, eqb-false, eq-eqb, ne-eqb}
 use lib.Dec.{eqb}
 use lib.ListN.{length, getD, set, replicate, length-set, length-replicate}
 use lib.Seq.{getD-set-same, getD-set-other}
-use Rattle.lists.specs.Lists.{allBelow}
+use Rattle.base_lists.specs.Lists.{allBelow}
 use Rattle.layout.specs.Layout.{dacs}
 use Rattle.layout.specs.Machine.{Machine, ticksOf, gsumAt, gfmAt}
-use Rattle.modes.specs.Modes.{writeDAC}
-use Rattle.texts.specs.Texts.{runModeAt, dacNumberAt}
-use Rattle.texts.specs.declared.Text.the-variants.{Of1978}
+use Rattle.layout_modes.specs.Modes.{writeDAC}
+use Rattle.layout_texts.specs.Texts.{runModeAt, dacNumberAt}
+use Rattle.layout_texts.specs.declared.Text.the-variants.{Of1978}
 use Rattle.join_model.specs.Join.{anyBelow, namesWord, feedsDac, usesWord, usesDac}
-use Rattle.join_questions.specs.Marks.{Usable, marksLength, dacsUsedAt, marked, markedTo, marksOf}
+use Rattle.join_questions.specs.AsCoded.{Usable, marksLength, dacsUsedAt, usesMarked, markedTo, marksOf}
 
 -- Some number below n + 1 passes a test where n does or one below it.
 any-next : (p : ℕ → Bool) (n : ℕ) → anyBelow p (suc n) ≡ (p n || anyBelow p n)
@@ -44,13 +44,13 @@ pub marks-none : (m : Machine) → replicate marksLength false ≡ markedTo m 0
 unfolding markedTo
 marks-none m = refl
 
-pub marks-next : (m : Machine) (g : ℕ) {now next : List Bool} → now ≡ markedTo m g → next ≡ marked m now g → next ≡ markedTo m (g + 1)
+pub marks-next : (m : Machine) (g : ℕ) {now next : List Bool} → now ≡ markedTo m g → next ≡ usesMarked m now g → next ≡ markedTo m (g + 1)
 unfolding markedTo
 marks-next m g e f = rw (add-one g, f, e)
 
 module _ (m : Machine) (u : Usable m) where
-  marked-length : (used : List Bool) (g : ℕ) → length (marked m used g) ≡ length used
-  unfolding marked
+  marked-length : (used : List Bool) (g : ℕ) → length (usesMarked m used g) ≡ length used
+  unfolding usesMarked
   marked-length used g = go (eqb (runModeAt Of1978 m g) writeDAC)
     where
       words : length (set (set used (gsumAt m g) true) (gfmAt m g) true) ≡ length used
@@ -75,8 +75,8 @@ module _ (m : Machine) (u : Usable m) where
         set-mark (set used (gsumAt m g) true) (gfmAt m g) k (omega (arith, length-set used (gsumAt m g) true, whole, u .gfms g h))
         ∙ ap (λ (x : Bool). eqb (gfmAt m g) k || x) (set-mark used (gsumAt m g) k (omega (arith, whole, u .gsums g h)))
 
-    word-mark : (w : ℕ) → w < dacsUsedAt → getD (marked m used g) w false ≡ (namesWord m w g || getD used w false)
-    unfolding marked
+    word-mark : (w : ℕ) → w < dacsUsedAt → getD (usesMarked m used g) w false ≡ (namesWord m w g || getD used w false)
+    unfolding usesMarked
     word-mark w l = go (eqb (runModeAt Of1978 m g) writeDAC) ∙ two w ∙ shuffled (eqb (gfmAt m g) w) (eqb (gsumAt m g) w) (getD used w false)
       where
         go : (x : Bool) → getD (cond x (set words (dacsUsedAt + dacNumberAt Of1978 m g) true) words) w false ≡ getD words w false
@@ -89,8 +89,8 @@ module _ (m : Machine) (u : Usable m) where
         shuffled false true z = refl
         shuffled false false z = refl
 
-    dac-mark : (d : ℕ) → d < dacs → getD (marked m used g) (dacsUsedAt + d) false ≡ (feedsDac m d g || getD used (dacsUsedAt + d) false)
-    unfolding marked
+    dac-mark : (d : ℕ) → d < dacs → getD (usesMarked m used g) (dacsUsedAt + d) false ≡ (feedsDac m d g || getD used (dacsUsedAt + d) false)
+    unfolding usesMarked
     dac-mark d l = go (eqb (runModeAt Of1978 m g) writeDAC)
       where
         past : getD words (dacsUsedAt + d) false ≡ getD used (dacsUsedAt + d) false

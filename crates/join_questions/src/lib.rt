@@ -5,13 +5,13 @@ ghost use mathlib.Core.List.{[], _∷_};
 ghost use Prim.Native.Nat.{_+_, _≤_, _<_};
 ghost use lib.Dec.{ltb};
 ghost use Rattle.layout.specs.Layout.{generators, quadrantWords, dacs, modifierAt, modifierWords, MMODE};
-ghost use Rattle.machine_sweep.specs.Columns.{everyWord};
-ghost use Rattle.questions.specs.Questions.{asked};
+ghost use Rattle.machine_sweep.specs.AsCoded.{everyWord};
+ghost use Rattle.base_questions.specs.Questions.{asked};
 ghost use Rattle.machine.specs.Questions.{question1, question2};
-ghost use Rattle.texts.specs.declared.Text.the-variants.{Of1978};
+ghost use Rattle.layout_texts.specs.declared.Text.the-variants.{Of1978};
 ghost use Rattle.join_model.specs.Join.{ownGenerator, ownGenerators, selfContained, awaitsNeighbour, question16, question17, question18};
-ghost use Rattle.join_questions.specs.Marks.{Usable, dacsUsedAt, marksLength, marked, marksOf, marksApart};
-use texts::Text;
+ghost use Rattle.join_questions.specs.AsCoded.{Usable, dacsUsedAt, marksLength, usesMarked, marksOf, marksApart};
+use layout_texts::Text;
 
 // The marks of what a machine uses: of the words that a GSUM or GFM can name, and, from DACS_USED_AT on, of the DACs.
 pub const DACS_USED_AT: usize = 128;
@@ -22,15 +22,15 @@ pub type Uses = [bool; 144];
 fn mark(m: &[u32], used: &mut Uses, g: usize)
     requires { ⌜ Usable (now m) ⌝ }
     requires { ⌜ g < generators ⌝ }
-    ensures { λ _. ⌜ now (used .exit) ≡ marked (now (m .entry)) (now (used .entry)) g ⌝ }
+    ensures { λ _. ⌜ now (used .exit) ≡ usesMarked (now (m .entry)) (now (used .entry)) g ⌝ }
 {
-    let run = texts::run_mode(Text::Of1978, m, g);
+    let run = layout_texts::run_mode(Text::Of1978, m, g);
     let sum = layout::gsum(m, g);
     let input = layout::wide(layout::gfm(m, g));
-    let dac = texts::dac_number(Text::Of1978, m, g);
+    let dac = layout_texts::dac_number(Text::Of1978, m, g);
     used[sum] = true;
     used[input] = true;
-    if run == modes::WRITE_DAC {
+    if run == layout_modes::WRITE_DAC {
         used[DACS_USED_AT + dac] = true;
     }
 }
@@ -70,9 +70,9 @@ fn own_generator(m: &[u32], g: usize) -> bool
     requires { ⌜ g < generators ⌝ }
     ensures { λ r. ⌜ r ≡ ownGenerator (now (m .entry)) g ⌝ }
 {
-    let run = texts::run_mode(Text::Of1978, m, g);
+    let run = layout_texts::run_mode(Text::Of1978, m, g);
     let input = layout::gfm(m, g);
-    (run != modes::READ_DATA) & ((run != modes::WRITE_DATA) & (input < 64))
+    (run != layout_modes::READ_DATA) & ((run != layout_modes::WRITE_DATA) & (input < 64))
 }
 
 // Whether all generators below T are so.
@@ -113,8 +113,8 @@ fn awaits_neighbour(m: &[u32]) -> bool
     requires { ⌜ Usable (now m) ⌝ }
     ensures { λ r. ⌜ r ≡ awaitsNeighbour (now (m .entry)) ⌝ }
 {
-    let run = texts::run_mode(Text::Of1978, m, 0);
-    (run == modes::WAIT) | (run == modes::RUNNING_C)
+    let run = layout_texts::run_mode(Text::Of1978, m, 0);
+    (run == layout_modes::WAIT) | (run == layout_modes::RUNNING_C)
 }
 
 // Question 16: the sum of both T is at most 256.

@@ -3,21 +3,21 @@ ghost use mathlib.Core.Path.{_≡_};
 ghost use lib.ListN.{drop};
 ghost use Rattle.machine.specs.Questions.{freshAnswer, freshRun};
 ghost use Rattle.pass_model.specs.Pass.{passOf};
-ghost use Rattle.update.specs.Update.{outcome, updateOf, takenCount};
+ghost use Rattle.command_update.specs.Update.{outcome, updateOf, takenCount};
 ghost use mathlib.Core.Bool.{cond};
 ghost use Rattle.compare.specs.Compare.{compareOf};
 ghost use Rattle.any_order.specs.AnyOrder.{anyOrderOf};
-ghost use Rattle.kept_answer.specs.Keeping.{keepOf, changeOf};
+ghost use Rattle.any_order_kept.specs.Keeping.{keepOf, changeOf};
 ghost use Rattle.parts.specs.Parts.{partsOf};
 ghost use Rattle.join_model.specs.Join.{joinOf};
-ghost use Rattle.texts.specs.declared.Text.the-variants.{Of1978, Old};
+ghost use Rattle.layout_texts.specs.declared.Text.the-variants.{Of1978, Old};
 ghost use Rattle.chain.specs.Chain.{chainOf};
-ghost use Rattle.bench_read.specs.Read.{readInto};
-ghost use Rattle.bench_block.specs.Block.{blockOf};
+ghost use Rattle.file_read.specs.Read.{readInto};
+ghost use Rattle.ring_block.specs.Block.{blockOf};
+use any_order_sums::Kept;
 use chain_numbers::Numbers;
-use order_sums::Kept;
-use sums::Clipped;
-use texts::Text;
+use layout_texts::Text;
+use pass_sums::Clipped;
 
 // A fresh machine.
 #[no_mangle]
@@ -111,7 +111,7 @@ pub extern "C" fn karvelorn_update(m: &mut [u32], commands: &[u32], taken: &mut 
     ensures { λ _. ⌜ now (taken .exit) ≡ takenCount (now (m .entry)) (now (commands .entry)) ⌝ }
 {
     let mut number: u32 = 0;
-    let left = update::update(m, commands, &mut number);
+    let left = command_update::update(m, commands, &mut number);
     *taken = commands.len() - left.len();
     number
 }
@@ -170,7 +170,7 @@ pub extern "C" fn karvelorn_any_order(m: &[u32], alike: &mut u32) -> u32
 pub extern "C" fn karvelorn_keep(m: &[u32], kept: &mut Kept) -> u32
     ensures { λ r. ⌜ record { number = r; kept = now (kept .exit) } ≡ keepOf (now (m .entry)) (now (kept .entry)) ⌝ }
 {
-    kept_answer::keep(m, kept)
+    any_order_kept::keep(m, kept)
 }
 
 // A change of one partial, with what is kept brought up to date. The answer is the number of the refusing question or 0.
@@ -184,7 +184,7 @@ pub extern "C" fn karvelorn_change(
 ) -> u32
     ensures { λ r. ⌜ record { number = r; machine = now (m .exit); kept = now (kept .exit) } ≡ changeOf (now (m .entry)) (now (kept .entry)) (record { kind = kind; generator = generator; value = value }) ⌝ }
 {
-    kept_answer::change(m, kept, kind, generator, value)
+    any_order_kept::change(m, kept, kind, generator, value)
 }
 
 // What parts two orders of a machine of a text. The answer is the number of the refusing question or 0; point gets 0 where they are equal, else the first of
@@ -276,7 +276,7 @@ pub extern "C" fn karvelorn_read(
 ) -> u32
     ensures { λ r. ⌜ record { number = r; text = now (text .exit); passes = now (passes .exit); count = now (count .exit); machine = now (m .exit); commands = now (commands .exit) } ≡ readInto (now (file .entry)) (now (m .entry)) (now (commands .entry)) ⌝ }
 {
-    let answer = bench_read::read(file, m, commands);
+    let answer = file_read::read(file, m, commands);
     *text = answer.text;
     *passes = answer.passes;
     *count = answer.count;
@@ -298,7 +298,7 @@ fn ring(
 ) -> u32
     ensures { λ r. ⌜ record { number = r; done = now (done .exit); taken = now (taken .exit); machine = now (m .exit); memory = now (memory .exit); frames = now (frames .exit) } ≡ blockOf text (now (m .entry)) (record { memory = now (memory .entry); commands = now (commands .entry); order = now (order .entry); passes = passes; dacs = now (dacs .entry); frames = now (frames .entry) }) ⌝ }
 {
-    let block = bench_block::ring(text, m, memory, commands, order, passes, dacs, frames);
+    let block = ring_block::ring(text, m, memory, commands, order, passes, dacs, frames);
     *done = block.done;
     *taken = block.taken;
     block.number

@@ -2,7 +2,7 @@ pub mod Words
 pub mod Regions
 pub mod Limits
 pub mod Sweep
-pub mod SoundMachine
+pub mod ValidMachine
 pub mod FreshMachine
 pub mod Asked
 pub mod NarrowCounter

@@ -7,14 +7,14 @@ use Prim.Native.Nat.{ℕ, zero, suc, _+_, _*_, _%_, _^_, _<_}
 use native.Mathlib.Nat.{not-suc-le-zero, le-of-suc-le-suc, mod-lt}
 use lib.Dec.{ltb}
 use lib.ListN.{length, getD}
-use Rattle.lists.specs.Lists.{allBelow}
-use Rattle.lists.proofs.Below.{below-same}
-use Rattle.lists.proofs.Tables.{tabulate-at, tabulate-length}
-use Rattle.machine_sweep.specs.Columns.{swept}
+use Rattle.base_lists.specs.Lists.{allBelow}
+use Rattle.base_lists.proofs.Below.{below-same}
+use Rattle.base_lists.proofs.Tables.{tabulate-at, tabulate-length}
+use Rattle.machine_sweep.specs.AsCoded.{swept}
 use Rattle.machine_sweep.proofs.EveryColumn.{everyColumn, limitTests, tests-length, tests-at}
 use Rattle.machine_sweep.proofs.Rows.{swept-columns}
 use Rattle.machine.specs.Questions.{Register, width}
-use Rattle.machine.specs.Loops.{limitsOf, repeated}
+use Rattle.machine.specs.AsCoded.{limitsOf, repeated}
 use Rattle.machine.proofs.Regions.{region-words}
 
 -- n words from a place are below the limits, which repeat.

@@ -8,13 +8,13 @@ use native.Mathlib.Omega.{arith}
 use borrow.Author.Tests.{ltb-true, lt-ltb, eqb-true}
 use lib.Dec.{eqb, lit<}
 use lib.ListN.{getD, set}
-use Rattle.lists.proofs.Below.{below-at, below-from}
+use Rattle.base_lists.proofs.Below.{below-at, below-from}
 use Rattle.layout.specs.Layout.{machineLength, counterAt}
 use Rattle.layout.specs.Widths.{counterBits}
-use Rattle.texts.specs.declared.Text.{Text}
-use Rattle.machine.specs.Questions.{regions, testAt, wordPasses, sound}
-use Rattle.machine.specs.NarrowCounter.{narrowCounterBits, narrowPasses, narrowSound}
-use Rattle.machine.proofs.SoundMachine.{single-above, sound-set}
+use Rattle.layout_texts.specs.declared.Text.{Text}
+use Rattle.machine.specs.Questions.{regions, testAt, wordPasses, valid}
+use Rattle.machine.specs.NarrowCounter.{narrowCounterBits, narrowPasses, narrowValid}
+use Rattle.machine.proofs.ValidMachine.{single-above, valid-set}
 
 -- The counter's test, older and now, and that of any other word.
 narrow-counter : (text : Text) (m : List ℕ) → narrowPasses text m counterAt ≡ true → getD m counterAt 0 < 2 ^ narrowCounterBits
@@ -41,10 +41,10 @@ narrow-passes text m i p = go (eqb i counterAt) refl where
       ap (wordPasses text m) at ∙ counter-passes text m (omega (arith, narrow-counter text m (ap (narrowPasses text m) (sym at) ∙ p)))
   go false q = sym (other-passes text m i q) ∙ p
 
-pub narrow-sound : (text : Text) (m : List ℕ) → narrowSound text m ≡ true → sound text m ≡ true
-unfolding narrowSound sound
-narrow-sound text m e = below-from (wordPasses text m) machineLength (λ i h. narrow-passes text m i (below-at (narrowPasses text m) machineLength e i h))
+pub narrow-valid : (text : Text) (m : List ℕ) → narrowValid text m ≡ true → valid text m ≡ true
+unfolding narrowValid valid
+narrow-valid text m e = below-from (wordPasses text m) machineLength (λ i h. narrow-passes text m i (below-at (narrowPasses text m) machineLength e i h))
 
 -- Every number of 32 bits may be the counter's.
-pub any-counter : (text : Text) (m : List ℕ) → sound text m ≡ true → (n : ℕ) → n < 2 ^ counterBits → sound text (set m counterAt n) ≡ true
-any-counter text m e n l = sound-set text m e counterAt n (single-above (lit< tt) (lit< tt)) (counter-test text n l)
+pub any-counter : (text : Text) (m : List ℕ) → valid text m ≡ true → (n : ℕ) → n < 2 ^ counterBits → valid text (set m counterAt n) ≡ true
+any-counter text m e n l = valid-set text m e counterAt n (single-above (lit< tt) (lit< tt)) (counter-test text n l)

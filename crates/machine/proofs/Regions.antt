@@ -9,8 +9,8 @@ use native.Mathlib.Nat.{not-suc-le-zero, lt-of-lt-of-le, mul-zero, mul-comm, mul
 use borrow.Author.Tests.{ltb-true, ltb-false, lt-ltb, le-ltb}
 use lib.Dec.{ltb}
 use lib.ListN.{length, getD}
-use Rattle.lists.specs.Lists.{allBelow}
-use Rattle.lists.proofs.Below.{both-ways, and-first, and-second, and-both, below-at, below-from}
+use Rattle.base_lists.specs.Lists.{allBelow}
+use Rattle.base_lists.proofs.Below.{both-ways, and-first, and-second, and-both, below-at, below-from}
 use Rattle.machine.specs.Questions.{Region, testAt}
 use Rattle.machine_sweep.proofs.EveryColumn.{everyColumn, column-at, column-from}
 

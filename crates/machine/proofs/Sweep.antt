@@ -8,16 +8,16 @@ use native.Mathlib.Omega.{arith}
 use borrow.Author.Tests.{ne-eqb}
 use lib.Dec.{ltb, leb·zero, lit<}
 use lib.ListN.{getD}
-use Rattle.lists.specs.Lists.{allBelow}
-use Rattle.lists.proofs.Below.{below-same}
+use Rattle.base_lists.specs.Lists.{allBelow}
+use Rattle.base_lists.proofs.Below.{below-same}
 use Rattle.layout.specs.Layout.{updateTicksAt}
-use Rattle.texts.specs.declared.Text.{Text}
-use Rattle.texts.specs.declared.Text.the-variants.{Of1978, Old}
-use Rattle.machine_sweep.specs.Columns.{everyWord}
+use Rattle.layout_texts.specs.declared.Text.{Text}
+use Rattle.layout_texts.specs.declared.Text.the-variants.{Of1978, Old}
+use Rattle.machine_sweep.specs.AsCoded.{everyWord}
 use Rattle.machine_sweep.proofs.Words.{word-from}
 use Rattle.machine_sweep.proofs.EveryColumn.{everyColumn, limitTests, word-and}
-use Rattle.machine.specs.Questions.{bits, goodGmode, goodAddress, goodMmode, test, delayMode, generatorRegisters, modifierRegisters, delayRegisters, regions, testAt, wordPasses, sound}
-use Rattle.machine.specs.Loops.{limitsOf, modesField, functionField, delayField, modesBuilt, functionsBuilt, generatorsWithin, modifiersWithin, controlsWithin, delaysWithin, ticksCounted}
+use Rattle.machine.specs.Questions.{bits, goodGmode, goodAddress, goodMmode, test, delayMode, generatorRegisters, modifierRegisters, delayRegisters, regions, testAt, wordPasses, valid}
+use Rattle.machine.specs.AsCoded.{limitsOf, modesField, functionField, delayField, modesBuilt, functionsBuilt, generatorsWithin, modifiersWithin, controlsWithin, delaysWithin, ticksCounted}
 use Rattle.machine.proofs.Words.{gmode-is, old-gmode-is, address-and, mmode-is, delay-mode-is}
 use Rattle.machine.proofs.Limits.{region-swept}
 use Rattle.machine.proofs.Regions.{wordsOf, region, everyRegion, regions-columns}
@@ -33,9 +33,9 @@ by-region text m =
     below-same (wordPasses text m) (λ i. testAt (regions text) i (getD m i 0)) updateTicksAt
     (λ i h. rw (ne-eqb i updateTicksAt (λ e. omega arith)))
 
-pub sound-columns : (text : Text) (m : List ℕ) → sound text m ≡ (everyRegion (regions text) m 0 && ticksCounted m)
-unfolding sound wordPasses
-sound-columns text m =
+pub valid-columns : (text : Text) (m : List ℕ) → valid text m ≡ (everyRegion (regions text) m 0 && ticksCounted m)
+unfolding valid wordPasses
+valid-columns text m =
     and-comm (ticksCounted m) (allBelow (wordPasses text m) updateTicksAt)
     ∙ ap (λ (b : Bool). b && ticksCounted m)
     (by-region text m ∙ ap (allBelow (λ i. testAt (regions text) i (getD m i 0))) (sym (regions-cover text)) ∙ regions-columns (regions text) m)
@@ -127,11 +127,11 @@ six : (a b c d e f : Bool) → (a && (b && (c && true && (d && true && (e && (f 
 six a b c d e f = simp (and-assoc, and-true)
 
 -- The sweep's answer.
-pub sound-swept : (text : Text) (m : List ℕ)
-    → sound text m ≡ (generatorsWithin text m && modifiersWithin text m && everyWord (bits 20) m 3840 1 0 256 && everyWord (bits 20) m 4096 1 0 16 && controlsWithin m && delaysWithin m && ticksCounted m)
+pub valid-swept : (text : Text) (m : List ℕ)
+    → valid text m ≡ (generatorsWithin text m && modifiersWithin text m && everyWord (bits 20) m 3840 1 0 256 && everyWord (bits 20) m 4096 1 0 16 && controlsWithin m && delaysWithin m && ticksCounted m)
 unfolding regions
-sound-swept text m =
-    sound-columns text m
+valid-swept text m =
+    valid-columns text m
     ∙ ap (λ (b : Bool). b && ticksCounted m) (six (everyColumn (region (regions text) 0 .tests) m 0 11 0 256) (everyColumn (region (regions text) 1 .tests) m 2816 8 0 128)
     (everyWord (bits 20) m 3840 1 0 256) (everyWord (bits 20) m 4096 1 0 16) (everyColumn (region (regions text) 4 .tests) m 4112 7 0 1)
     (everyColumn (region (regions text) 5 .tests) m 4119 7 0 32))

@@ -7,14 +7,14 @@ use native.Mathlib.Omega.{arith}
 use native.Mathlib.Nat.{mod-eq-of-lt}
 use borrow.Author.Tests.{ltb-true, ltb-false, lt-ltb, eq-eqb, ne-eqb}
 use lib.Dec.{eqb, ltb}
-use Rattle.lists.proofs.Below.{and-first, and-second, and-both}
-use Rattle.modes.specs.Modes.{builtRun, builtOscillator}
-use Rattle.old_modes.specs.OldModes.{oldBuiltModes}
-use Rattle.built_codes.specs.BuiltCodes.{builtFunction, oldBuiltFunction, builtMode}
+use Rattle.base_lists.proofs.Below.{and-first, and-second, and-both}
+use Rattle.layout_modes.specs.Modes.{builtRun, builtOscillator}
+use Rattle.layout_old_modes.specs.OldModes.{oldBuiltModes}
+use Rattle.layout_codes.specs.BuiltCodes.{builtFunction, oldBuiltFunction, builtMode}
 use Rattle.machine.specs.Questions.{bits, builtModes, goodGmode, builtSource, goodAddress, builtMmode, goodMmode, test, delayMode}
-use Rattle.machine.specs.Loops.{modesField, functionField, delayField}
-use Rattle.texts.specs.declared.Text.{Text}
-use Rattle.texts.specs.declared.Text.the-variants.{Of1978, Old}
+use Rattle.machine.specs.AsCoded.{modesField, functionField, delayField}
+use Rattle.layout_texts.specs.declared.Text.{Text}
+use Rattle.layout_texts.specs.declared.Text.the-variants.{Of1978, Old}
 
 -- Eight bits of which the top two are not 11 are the numbers below 192.
 pub address-is : (x : ℕ) → ltb x 192 ≡ goodAddress x

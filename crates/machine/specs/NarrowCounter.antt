@@ -5,9 +5,9 @@ use mathlib.Core.Bool.{Bool, cond}
 use mathlib.Core.List.{List}
 use lib.Dec.{eqb}
 use lib.ListN.{getD}
-use Rattle.lists.specs.Lists.{allBelow}
+use Rattle.base_lists.specs.Lists.{allBelow}
 use Rattle.layout.specs.Layout.{machineLength, counterAt}
-use Rattle.texts.specs.declared.Text.{Text}
+use Rattle.layout_texts.specs.declared.Text.{Text}
 use Rattle.machine.specs.Questions.{bits, wordPasses}
 
 -- The counter's width then.
@@ -19,5 +19,5 @@ unfoldable pub narrowPasses : Text → List ℕ → ℕ → Bool
 narrowPasses text m i = cond (eqb i counterAt) (bits narrowCounterBits (getD m i 0)) (wordPasses text m i)
 
 -- Question 2 then.
-unfoldable pub narrowSound : Text → List ℕ → Bool
-narrowSound text m = allBelow (narrowPasses text m) machineLength
+unfoldable pub narrowValid : Text → List ℕ → Bool
+narrowValid text m = allBelow (narrowPasses text m) machineLength

@@ -3,12 +3,12 @@ ghost use mathlib.Core.Path.{_≡_};
 ghost use mathlib.Core.List.{[], _∷_};
 ghost use lib.ListN.{length};
 ghost use Rattle.layout.specs.Machine.{Reaches};
-ghost use Rattle.machine.specs.Questions.{question1, question2, sound, goodAddress, generatorRegisters, modifierRegisters, delayRegisters, freshAnswer, freshRun};
-ghost use Rattle.machine.specs.Loops.{limitsOf, repeated, modesBuilt, generatorsWithin, functionsBuilt, modifiersWithin, controlsWithin, delaysWithin, ticksCounted};
-ghost use Rattle.questions.specs.Questions.{asked};
-ghost use Rattle.texts.specs.declared.Text.the-variants.{Of1978, Old};
-ghost use Rattle.lists.specs.Lists.{zeros};
-use texts::Text;
+ghost use Rattle.machine.specs.Questions.{question1, question2, valid, goodAddress, generatorRegisters, modifierRegisters, delayRegisters, freshAnswer, freshRun};
+ghost use Rattle.machine.specs.AsCoded.{limitsOf, repeated, modesBuilt, generatorsWithin, functionsBuilt, modifiersWithin, controlsWithin, delaysWithin, ticksCounted};
+ghost use Rattle.base_questions.specs.Questions.{asked};
+ghost use Rattle.layout_texts.specs.declared.Text.the-variants.{Of1978, Old};
+ghost use Rattle.base_lists.specs.Lists.{zeros};
+use layout_texts::Text;
 
 // What the registers of a generator are below, for the four generators of a row.
 const GENERATOR_LIMITS: [u32; 44] = [
@@ -1527,11 +1527,11 @@ fn functions_built(text: Text, m: &[u32]) -> bool
     let step = layout::MODIFIER_WORDS;
     match text {
         Text::Of1978 => {
-            let functions = machine_sweep::flags(built_codes::BUILT_FUNCTION);
+            let functions = machine_sweep::flags(layout_codes::BUILT_FUNCTION);
             machine_sweep::fields_flagged(&functions, m, at, step, n, 4)
         }
         Text::Old => {
-            let functions = machine_sweep::flags(built_codes::OLD_BUILT_FUNCTION);
+            let functions = machine_sweep::flags(layout_codes::OLD_BUILT_FUNCTION);
             machine_sweep::fields_flagged(&functions, m, at, step, n, 4)
         }
     }
@@ -1577,7 +1577,7 @@ fn delays_within(m: &[u32]) -> bool
     ensures { λ r. ⌜ r ≡ delaysWithin (now (m .entry)) ⌝ }
 {
     let limits = delay_limits();
-    let built = machine_sweep::flags(65537 * built_codes::BUILT_MODE);
+    let built = machine_sweep::flags(65537 * layout_codes::BUILT_MODE);
     let at = layout::DELAYS_AT;
     let n = layout::DELAYS;
     let step = layout::DELAY_WORDS;
@@ -1597,9 +1597,9 @@ fn ticks_counted(m: &[u32]) -> bool
 }
 
 // Question 2: all words within their width and range, with built modes and no MIN or MRM top bits 11, and the update ticks those of T and N.
-pub fn sound(text: Text, m: &[u32]) -> bool
+pub fn valid(text: Text, m: &[u32]) -> bool
     requires { ⌜ Reaches (now m) ⌝ }
-    ensures { λ r. ⌜ r ≡ sound text (now (m .entry)) ⌝ }
+    ensures { λ r. ⌜ r ≡ valid text (now (m .entry)) ⌝ }
 {
     let sums = machine_sweep::words_below(
         m,
@@ -1625,7 +1625,7 @@ pub fn refusal(text: Text, m: &[u32]) -> u32
     if m.len() != layout::MACHINE_LENGTH {
         return 1;
     }
-    if !sound(text, m) {
+    if !valid(text, m) {
         return 2;
     }
     0

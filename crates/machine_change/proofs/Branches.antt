@@ -7,15 +7,15 @@ use Prim.Native.Nat.{ℕ, _+_, _-_, _*_, _/_, _%_, _<_, _≤_}
 use borrow.Author.Tests.{eq-eqb, ne-eqb, ltb-true, lt-ltb, le-ltb, leb-true}
 use lib.Dec.{leb, ltb}
 use lib.ListN.{getD, set}
-use Rattle.lists.proofs.Below.{and-first, and-second}
+use Rattle.base_lists.proofs.Below.{and-first, and-second}
 use Rattle.layout.specs.Layout.{generatorAt, tAt, nAt, updateTicksAt, GO, GSUM, GFM, GMODE}
 use Rattle.layout.specs.Machine.{Machine, Reaches, ticksOf, updateTicks, withUpdateTicks}
 use Rattle.layout.proofs.UpdateTicks.{ticks-by-t}
-use Rattle.modes.specs.Modes.{builtRun, builtOscillator}
-use Rattle.texts.specs.declared.Text.the-variants.{Of1978}
+use Rattle.layout_modes.specs.Modes.{builtRun, builtOscillator}
+use Rattle.layout_texts.specs.declared.Text.the-variants.{Of1978}
 use Rattle.machine.specs.Questions.{goodGmode}
 use Rattle.machine_change.specs.Change.{Change, gmodeChange, gsumChange, gfmChange, tickMore, tickFewer, registerChanged, withTicks, changedBy, concerned}
-use Rattle.machine_change.specs.Words.{valueFits, letThrough}
+use Rattle.machine_change.specs.AsCoded.{valueFits, letThrough}
 
 -- A GMODE.
 pub not-built : (x : ℕ) → 1024 ≤ x → false ≡ goodGmode Of1978 x

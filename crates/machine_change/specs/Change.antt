@@ -7,8 +7,8 @@ use lib.Dec.{eqb, leb, ltb}
 use lib.ListN.{getD, set}
 use Rattle.layout.specs.Layout.{generators, dacs, generatorAt, tAt, updateTicksAt, GO, GSUM, GFM, GMODE}
 use Rattle.layout.specs.Machine.{Machine, ticksOf, withUpdateTicks}
-use Rattle.texts.specs.declared.Text.the-variants.{Of1978}
-use Rattle.questions.specs.Questions.{asked}
+use Rattle.layout_texts.specs.declared.Text.the-variants.{Of1978}
+use Rattle.base_questions.specs.Questions.{asked}
 use Rattle.machine.specs.Questions.{question1, question2}
 
 -- The kinds of changes, by number.

@@ -1,2 +1,2 @@
 pub mod Change
-pub mod Words
+pub mod AsCoded

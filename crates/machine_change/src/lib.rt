@@ -5,10 +5,10 @@ ghost use lib.ListN.{length};
 ghost use Prim.Native.Nat.{_<_, _≤_};
 ghost use Rattle.layout.specs.Layout.{machineLength, generators};
 ghost use Rattle.layout.specs.Machine.{Reaches, ticksOf};
-ghost use Rattle.machine.specs.Questions.{sound, goodGmode};
-ghost use Rattle.texts.specs.declared.Text.the-variants.{Of1978};
+ghost use Rattle.machine.specs.Questions.{valid, goodGmode};
+ghost use Rattle.layout_texts.specs.declared.Text.the-variants.{Of1978};
 ghost use Rattle.machine_change.specs.Change.{registerChanged, withTicks, changedBy, concerned};
-ghost use Rattle.machine_change.specs.Words.{valueFits, letThrough};
+ghost use Rattle.machine_change.specs.AsCoded.{valueFits, letThrough};
 
 // The kinds of changes: of GMODE, of GSUM, of GFM, of the DAC number, one tick more, one tick fewer.
 pub const GMODE_CHANGE: u32 = 0;
@@ -30,7 +30,7 @@ fn built_gmode(gmode: u32) -> bool
     if layout::GMODE_LIMIT <= gmode {
         return false;
     }
-    modes::built_run(gmode / 64) & modes::built_oscillator(gmode % 16)
+    layout_modes::built_run(gmode / 64) & layout_modes::built_oscillator(gmode % 16)
 }
 
 // Whether the value of a change of a generator's word fits.
@@ -91,7 +91,7 @@ fn set_ticks(m: &mut [u32], t: u32)
 
 // A generator's word is set; of GO the low 4 bits alone.
 fn set_register(m: &mut [u32], kind: u32, generator: u32, value: u32)
-    requires { ⌜ (length (now m) ≡ machineLength) × (sound Of1978 (now m) ≡ true) ⌝ }
+    requires { ⌜ (length (now m) ≡ machineLength) × (valid Of1978 (now m) ≡ true) ⌝ }
     requires { ⌜ (generator < generators) × (valueFits kind value ≡ true) ⌝ }
     ensures { λ _. ⌜ now (m .exit) ≡ registerChanged (now (m .entry)) (record { kind = kind; generator = generator; value = value }) ⌝ }
 {
@@ -113,7 +113,7 @@ fn set_register(m: &mut [u32], kind: u32, generator: u32, value: u32)
 
 // The change is made.
 pub fn make(m: &mut [u32], kind: u32, generator: u32, value: u32)
-    requires { ⌜ (length (now m) ≡ machineLength) × (sound Of1978 (now m) ≡ true) ⌝ }
+    requires { ⌜ (length (now m) ≡ machineLength) × (valid Of1978 (now m) ≡ true) ⌝ }
     requires { ⌜ letThrough (now m) (record { kind = kind; generator = generator; value = value }) ≡ true ⌝ }
     ensures { λ _. ⌜ now (m .exit) ≡ changedBy (now (m .entry)) (record { kind = kind; generator = generator; value = value }) ⌝ }
 {

@@ -8,8 +8,8 @@ use native.Mathlib.Omega.{arith}
 use native.Mathlib.Nat.{not-suc-le-zero, le-of-suc-le-suc, add-zero, add-suc, suc-add}
 use lib.Dec.{ltb}
 use lib.ListN.{length, getD}
-use Rattle.lists.proofs.Below.{and-first, and-second, and-both, below-at, below-from, below-same, below-and}
-use Rattle.machine_sweep.specs.Columns.{everyWord}
+use Rattle.base_lists.proofs.Below.{and-first, and-second, and-both, below-at, below-from, below-same, below-and}
+use Rattle.machine_sweep.specs.AsCoded.{everyWord}
 
 -- The tests of all words of units, one column after the other, from word j of the units on.
 abbrev pub everyColumn : List (ℕ → Bool) → List ℕ → ℕ → ℕ → ℕ → ℕ → Bool

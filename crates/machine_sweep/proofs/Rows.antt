@@ -12,8 +12,8 @@ use lib.Dec.{ltb}
 use lib.Bits.{bitOr, or-lt, or-add-and, and-le-l, and-le-r}
 use lib.Pow.{pow-pos}
 use lib.ListN.{length, getD}
-use Rattle.lists.proofs.Below.{both-ways, and-first, and-second, and-both, below-at, below-from}
-use Rattle.machine_sweep.specs.Columns.{column, everyWord, rowsBelow, swept}
+use Rattle.base_lists.proofs.Below.{both-ways, and-first, and-second, and-both, below-at, below-from}
+use Rattle.machine_sweep.specs.AsCoded.{column, everyWord, rowsBelow, swept}
 use Rattle.machine_sweep.proofs.EveryColumn.{everyColumn, column-at, column-from, limitTests, tests-length, tests-at}
 
 -- Eight words or-ed, one of each row.

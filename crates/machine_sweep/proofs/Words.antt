@@ -9,11 +9,11 @@ use native.Mathlib.Numerals.{add-one}
 use native.Mathlib.Omega.{arith}
 use lib.Dec.{T, eqb}
 use lib.ListN.{length, getD, set, replicate}
-use Rattle.lists.specs.Lists.{allBelow, tabulate}
-use Rattle.lists.proofs.Below.{below-same}
-use Rattle.lists.proofs.Tables.{tabulate-at, tabulate-length}
-use Rattle.lists.proofs.Masks.{bit-tests}
-use Rattle.machine_sweep.specs.Columns.{everyWord, flagOf, flagsOf}
+use Rattle.base_lists.specs.Lists.{allBelow, tabulate}
+use Rattle.base_lists.proofs.Below.{below-same}
+use Rattle.base_lists.proofs.Tables.{tabulate-at, tabulate-length}
+use Rattle.base_lists.proofs.Masks.{bit-tests}
+use Rattle.machine_sweep.specs.AsCoded.{everyWord, flagOf, flagsOf}
 
 -- The word of unit k is inside the run where that of the last unit is.
 pub word-inside : (at step k n size : ℕ) → k < n → at + step * n < size + step → at + step * k < size

@@ -4,7 +4,7 @@ ghost use mathlib.Core.Bool.{false};
 ghost use Prim.Native.Nat.{_+_, _*_, _/_, _%_, _^_, _<_, _≤_};
 ghost use lib.Dec.{ltb};
 ghost use lib.ListN.{length, getD};
-ghost use Rattle.machine_sweep.specs.Columns.{everyWord, rowsBelow, swept, flagsOf};
+ghost use Rattle.machine_sweep.specs.AsCoded.{everyWord, rowsBelow, swept, flagsOf};
 
 // Eight rows of words, one for each limit. The limits are powers of two, so that the or of a column's eight words tells of them all.
 fn rows_below(limits: &[u32], m: &[u32], at: usize) -> bool

@@ -6,9 +6,9 @@ use Prim.Native.Nat.{ℕ, _^_, _<_}
 use native.Mathlib.Nat.{mod-lt}
 use lib.Dec.{lit≤}
 use lib.Pow.{pow-pos}
-use Rattle.words.specs.Words.{Word}
-use Rattle.words.proofs.Residues.{either-low, low-lt, sum-low, sumInto-low}
-use Rattle.product.proofs.Widths.{product-low}
+use Rattle.base_words.specs.Words.{Word}
+use Rattle.base_words.proofs.Residues.{either-low, low-lt, sum-low, sumInto-low}
+use Rattle.modifier_product.proofs.Widths.{product-low}
 use Rattle.modifier.specs.declared.Modifier.{Modifier}
 use Rattle.modifier.specs.Modifier.{loaded, Ranged, timesM1, timesM0, timesSignal}
 

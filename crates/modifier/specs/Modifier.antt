@@ -5,8 +5,8 @@ use Prim.Native.Nat.{ℕ, _+_, _/_, _%_, _^_, _<_}
 use lib.ListN.{getD, set}
 use Rattle.layout.specs.Layout.{M0, M1, L0, L1, MIN, MRM, MSUM, MMODE}
 use Rattle.layout.specs.Widths.{coefficientBits, latchBits, addressBits, msumBits, mmodeBits}
-use Rattle.words.specs.Words.{sumInto}
-use Rattle.product.specs.Product.{product, integerProduct, wholeProduct}
+use Rattle.base_words.specs.Words.{sumInto}
+use Rattle.modifier_product.specs.Product.{product, integerProduct, wholeProduct}
 use Rattle.modifier.specs.declared.Modifier.{Modifier}
 use Rattle.modifier.specs.declared.Turned.{Turned}
 

@@ -2,7 +2,7 @@
 ghost use mathlib.Core.Path.{_≡_};
 ghost use Prim.Native.Nat.{_≤_, _<_, _^_};
 ghost use lib.ListN.{length};
-ghost use Rattle.words.specs.Words.{sum, Word};
+ghost use Rattle.base_words.specs.Words.{sum, Word};
 ghost use Rattle.modifier.specs.Modifier.{loaded, stored, Ranged, functionOf, timesM1, timesM0, timesSignal, integerM1, integerM0, wholeM0, gives};
 
 pub struct Modifier {
@@ -27,7 +27,7 @@ pub fn added(x: u32, y: u32) -> u32
     requires { ⌜ (x < 2 ^ 20) × (y < 2 ^ 20) ⌝ }
     ensures { λ r. ⌜ Word (sum 20 x y) r ⌝ }
 {
-    words::add20(x, y)
+    base_words::add20(x, y)
 }
 
 impl Modifier {
@@ -80,7 +80,7 @@ impl Modifier {
         requires { ⌜ x < 2 ^ 20 ⌝ }
         ensures { λ r. ⌜ Word (timesM1 self x) r ⌝ }
     {
-        product::multiply(self.mmode % 4, x, self.m1 / 1024)
+        modifier_product::multiply(self.mmode % 4, x, self.m1 / 1024)
     }
 
     // x*M0, a second multiplication.
@@ -89,7 +89,7 @@ impl Modifier {
         requires { ⌜ x < 2 ^ 20 ⌝ }
         ensures { λ r. ⌜ Word (timesM0 self x) r ⌝ }
     {
-        product::multiply(self.mmode / 4 % 4, x, self.m0 / 1024)
+        modifier_product::multiply(self.mmode / 4 % 4, x, self.m0 / 1024)
     }
 
     // x*y of two signals, a second multiplication.
@@ -97,7 +97,7 @@ impl Modifier {
         requires { ⌜ (x < 2 ^ 20) × (y < 2 ^ 20) ⌝ }
         ensures { λ r. ⌜ Word (timesSignal self x y) r ⌝ }
     {
-        product::multiply(self.mmode / 4 % 4, x, y)
+        modifier_product::multiply(self.mmode / 4 % 4, x, y)
     }
 
     // x*M1 as an integer product.
@@ -106,7 +106,7 @@ impl Modifier {
         requires { ⌜ x < 2 ^ 20 ⌝ }
         ensures { λ r. ⌜ Word (integerM1 self x) r ⌝ }
     {
-        product::multiply_integer(self.mmode % 4, x, self.m1 / 1024)
+        modifier_product::multiply_integer(self.mmode % 4, x, self.m1 / 1024)
     }
 
     // x*M0 as an integer product.
@@ -115,7 +115,7 @@ impl Modifier {
         requires { ⌜ x < 2 ^ 20 ⌝ }
         ensures { λ r. ⌜ Word (integerM0 self x) r ⌝ }
     {
-        product::multiply_integer(self.mmode / 4 % 4, x, self.m0 / 1024)
+        modifier_product::multiply_integer(self.mmode / 4 % 4, x, self.m0 / 1024)
     }
 
     // x*M0 as an integer product of the older text.
@@ -124,7 +124,7 @@ impl Modifier {
         requires { ⌜ x < 2 ^ 20 ⌝ }
         ensures { λ r. ⌜ Word (wholeM0 self x) r ⌝ }
     {
-        product::multiply_whole(self.mmode / 4 % 4, x, self.m0 / 1024)
+        modifier_product::multiply_whole(self.mmode / 4 % 4, x, self.m0 / 1024)
     }
 
     // What a turn gives that leaves these registers.

@@ -3,7 +3,7 @@
 use Prim.Native.Nat.{ℕ, _%_, _^_}
 use mathlib.Core.Bool.{Bool}
 use lib.Dec.{eqb}
-use Rattle.words.specs.Words.{sum}
+use Rattle.base_words.specs.Words.{sum}
 use Rattle.modifier.specs.declared.Modifier.{Modifier}
 use Rattle.modifier.specs.declared.Turned.{Turned}
 use Rattle.modifier.specs.Modifier.{functionOf, updated, timesM0, timesM1, gives}

@@ -1,7 +1,7 @@
 -- The turns with poles and zeros, in the order and the words of the 1978 text's "Modifiers, Processing".
 -- Assumes nothing.
 use Prim.Native.Nat.{ℕ}
-use Rattle.words.specs.Words.{sum}
+use Rattle.base_words.specs.Words.{sum}
 use Rattle.modifier.specs.declared.Modifier.{Modifier}
 use Rattle.modifier.specs.declared.Turned.{Turned}
 use Rattle.modifier.specs.Modifier.{timesM1, timesM0, timesSignal, gives, withL1, shifted, plusM0, plusM1}

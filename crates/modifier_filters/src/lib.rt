@@ -2,7 +2,7 @@
 ghost use mathlib.Core.Path.{_≡_};
 ghost use Prim.Native.Nat.{_<_, _^_};
 ghost use Rattle.modifier.specs.Modifier.{Ranged, shifted};
-ghost use Rattle.words.specs.Words.{Word};
+ghost use Rattle.base_words.specs.Words.{Word};
 ghost use Rattle.modifier_filters.specs.Filters.{onePole, filtered, oneZero, twoPoles, m0Variable, m1Variable, twoPolesM0Variable, twoPolesM1Variable, twoZeros, twoZerosM0Variable, twoZerosM1Variable};
 use modifier::Modifier;
 use modifier::Turned;
@@ -60,7 +60,7 @@ fn m0_variable(t: Turned, b: u32) -> Turned
     ensures { λ r. ⌜ r ≡ m0Variable t b ⌝ }
 {
     let mut v = t.unit;
-    v.m0 = words::into30(v.m0, b);
+    v.m0 = base_words::into30(v.m0, b);
     v.gives(t.s)
 }
 
@@ -70,7 +70,7 @@ fn m1_variable(t: Turned, b: u32) -> Turned
     ensures { λ r. ⌜ r ≡ m1Variable t b ⌝ }
 {
     let mut v = t.unit;
-    v.m1 = words::into30(v.m1, b);
+    v.m1 = base_words::into30(v.m1, b);
     v.gives(t.s)
 }
 

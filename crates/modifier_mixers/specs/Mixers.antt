@@ -4,8 +4,8 @@ use mathlib.Core.Bool.{cond}
 use Prim.Native.Nat.{ℕ}
 use lib.Dec.{eqb}
 use lib.IntN.{negsuc}
-use Rattle.words.specs.Words.{lowBits, sum}
-use Rattle.product.specs.Product.{less}
+use Rattle.base_words.specs.Words.{lowBits, sum}
+use Rattle.modifier_product.specs.Product.{less}
 use Rattle.modifier.specs.declared.Modifier.{Modifier}
 use Rattle.modifier.specs.declared.Turned.{Turned}
 use Rattle.modifier.specs.Modifier.{timesM1, timesM0, integerM1, integerM0, gives}

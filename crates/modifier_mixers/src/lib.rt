@@ -39,7 +39,7 @@ pub fn signum(u: Modifier, a: u32, b: u32) -> Turned
 {
     let x = u.times_m0(a);
     let y = u.times_m1(b);
-    if product::less20(x, y) {
+    if modifier_product::less20(x, y) {
         return u.gives(1048575);
     }
     if x == y {
@@ -56,7 +56,7 @@ pub fn minimum(u: Modifier, a: u32, b: u32) -> Turned
 {
     let x = u.times_m0(a);
     let y = u.times_m1(b);
-    if product::less20(x, y) {
+    if modifier_product::less20(x, y) {
         return u.gives(x);
     }
     u.gives(y)
@@ -70,7 +70,7 @@ pub fn maximum(u: Modifier, a: u32, b: u32) -> Turned
 {
     let x = u.times_m0(a);
     let y = u.times_m1(b);
-    if product::less20(x, y) {
+    if modifier_product::less20(x, y) {
         return u.gives(y);
     }
     u.gives(x)
@@ -83,7 +83,7 @@ pub fn threshold(u: Modifier, a: u32, b: u32) -> Turned
     ensures { λ r. ⌜ r ≡ threshold u a b ⌝ }
 {
     let x = modifier::added(u.times_m0(a), u.l0);
-    if product::less20(x, 0) {
+    if modifier_product::less20(x, 0) {
         return u.gives(0);
     }
     u.gives(u.times_m1(b))

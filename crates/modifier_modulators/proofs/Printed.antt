@@ -8,8 +8,8 @@ use lib.Dec.{eqb}
 use lib.IntN.{ℤ, pos, negsuc, _*ℤ_}
 use lib.Signed.{ltZ}
 use borrow.Author.Tests.{eqb-true}
-use Rattle.words.specs.Words.{signed}
-use Rattle.product.specs.Product.{opposite}
+use Rattle.base_words.specs.Words.{signed}
+use Rattle.modifier_product.specs.Product.{opposite}
 use Rattle.modifier.specs.declared.Modifier.{Modifier}
 use Rattle.modifier.specs.Modifier.{timesM1, timesM0, gives, withL1}
 use Rattle.modifier_modulators.specs.Modulators.{minusEpsilon, pulser}

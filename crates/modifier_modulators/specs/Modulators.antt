@@ -3,8 +3,8 @@
 use mathlib.Core.Bool.{cond}
 use Prim.Native.Nat.{ℕ, _-_, _^_}
 use lib.Dec.{eqb}
-use Rattle.words.specs.Words.{sum}
-use Rattle.product.specs.Product.{opposite, half}
+use Rattle.base_words.specs.Words.{sum}
+use Rattle.modifier_product.specs.Product.{opposite, half}
 use Rattle.modifier.specs.declared.Modifier.{Modifier}
 use Rattle.modifier.specs.declared.Turned.{Turned}
 use Rattle.modifier.specs.Modifier.{timesM1, timesM0, timesSignal, integerM1, integerM0, gives, withL1}

@@ -2,7 +2,7 @@
 ghost use mathlib.Core.Path.{_≡_};
 ghost use Prim.Native.Nat.{_<_, _^_};
 ghost use Rattle.modifier.specs.Modifier.{Ranged};
-ghost use Rattle.words.specs.Words.{Word};
+ghost use Rattle.base_words.specs.Words.{Word};
 ghost use Rattle.modifier_modulators.specs.Modulators.{latch, pulser, amplitudeModulation, fourQuadrant, noise, uniformNoise, triggeredNoise};
 use modifier::Modifier;
 use modifier::Turned;
@@ -41,7 +41,7 @@ pub fn pulser(u: Modifier, b: u32, z: u32) -> Turned
     if temp0 == 0 {
         return v.gives(z);
     }
-    if product::opposite20(temp0, temp1) {
+    if modifier_product::opposite20(temp0, temp1) {
         return v.gives(MINUS_EPSILON);
     }
     v.gives(0)
@@ -55,7 +55,7 @@ pub fn amplitude_modulation(u: Modifier, a: u32, b: u32) -> Turned
 {
     let s = u.times_m1(u.l1);
     let mut v = u;
-    v.l1 = u.times_signal(a, product::half20(b));
+    v.l1 = u.times_signal(a, modifier_product::half20(b));
     v.gives(s)
 }
 

@@ -2,7 +2,7 @@
 -- Assumes nothing.
 use mathlib.Core.Path.{_≡_, refl, _∙_, sym}
 use Prim.Native.Nat.{ℕ}
-use Rattle.built_codes.specs.BuiltCodes.{builtFunctions}
+use Rattle.layout_codes.specs.BuiltCodes.{builtFunctions}
 use Rattle.modifier.specs.declared.Modifier.{Modifier}
 use Rattle.modifier.specs.declared.Turned.{Turned}
 use Rattle.modifier.specs.Modifier.{functionOf}

@@ -9,25 +9,25 @@ use native.Mathlib.Omega.{arith}
 use borrow.Author.Tests.{eqb-true, eqb-false, eq-eqb, ne-eqb, leb-true, le-leb, lt-leb}
 use lib.Dec.{eqb, leb}
 use lib.ListN.{length}
-use Rattle.lists.proofs.Counts.{count-below-le}
+use Rattle.base_lists.proofs.Counts.{count-below-le}
 use Rattle.layout.specs.Layout.{machineLength, generators}
 use Rattle.layout.specs.Machine.{Machine, Order, Items, ticksOf}
-use Rattle.texts.specs.Texts.{runModeAt}
-use Rattle.texts.specs.declared.Text.{Text}
-use Rattle.questions.specs.Questions.{asked}
-use Rattle.modes.specs.Modes.{readData}
+use Rattle.layout_texts.specs.Texts.{runModeAt}
+use Rattle.layout_texts.specs.declared.Text.{Text}
+use Rattle.base_questions.specs.Questions.{asked}
+use Rattle.layout_modes.specs.Modes.{readData}
 use Rattle.machine.specs.Questions.{question1, question2}
 use Rattle.machine.proofs.Asked.{machine-passes}
-use Rattle.order.specs.Order.{question5, question6, question7, IsOrder, inMode}
-use Rattle.order_agreement.specs.Agreement.{settingsOf}
-use Rattle.order_agreement.specs.Points.{Failing, firstPoint}
-use Rattle.fills.specs.Fills.{filled}
-use Rattle.order_contents.specs.Contents.{contentsFor, itemFor, itemsFor}
-use Rattle.order_traces.specs.Traces.{Traceable}
+use Rattle.pass_order.specs.Order.{question5, question6, question7, IsOrder, inMode}
+use Rattle.compare_agreement.specs.Agreement.{settingsOf}
+use Rattle.compare_agreement.specs.Points.{Failing, firstPoint}
+use Rattle.base_fills.specs.Fills.{filled}
+use Rattle.parts_model.specs.Contents.{contentsFor, itemFor, itemsFor}
+use Rattle.compare_traces.specs.AsCoded.{Traceable}
 use Rattle.compare.specs.Compare.{compareRefusal}
 use Rattle.compare.proofs.Answers.{compare-passes}
 use Rattle.compare.proofs.Asked.{is-comparable}
-use Rattle.parts.specs.Parts.{Parting, partsRefusal, refused, shown, partsOf}
+use Rattle.parts.specs.Parts.{Parting, partsRefusal, partsRefused, shown, partsOf}
 
 module _ (text : Text) (m : Machine) (o₁ o₂ : Order) (contents : Machine) (items : Items) where
   -- The questions of a compare, then two more.
@@ -120,7 +120,7 @@ module _ (text : Text) (m : Machine) (o₁ o₂ : Order) (contents : Machine) (i
   parts-number = go (eqb (partsRefusal text m o₁ o₂ contents items) 0) refl
     where
       go : (b : Bool) → eqb (partsRefusal text m o₁ o₂ contents items) 0 ≡ b
-          → cond b (shown text m (firstPoint (settingsOf text m) o₁ o₂) contents items) (refused (partsRefusal text m o₁ o₂ contents items) contents items) .number
+          → cond b (shown text m (firstPoint (settingsOf text m) o₁ o₂) contents items) (partsRefused (partsRefusal text m o₁ o₂ contents items) contents items) .number
           ≡ partsRefusal text m o₁ o₂ contents items
       go true e = sym (eqb-true (partsRefusal text m o₁ o₂ contents items) 0 e)
       go false e = refl
@@ -130,13 +130,13 @@ module _ (text : Text) (m : Machine) (o₁ o₂ : Order) (contents : Machine) (i
   parts-shown e = rw e
 
   pub parts-refused : partsRefusal text m o₁ o₂ contents items ≢ 0
-      → partsOf text m o₁ o₂ contents items ≡ refused (partsRefusal text m o₁ o₂ contents items) contents items
+      → partsOf text m o₁ o₂ contents items ≡ partsRefused (partsRefusal text m o₁ o₂ contents items) contents items
   unfolding partsOf
   parts-refused h = rw (ne-eqb (partsRefusal text m o₁ o₂ contents items) 0 h)
 
   -- The answer by what the code finds.
   module _ {number : ℕ} (is : number ≡ partsRefusal text m o₁ o₂ contents items) where
-    pub says-refused : number ≢ 0 → refused number contents items ≡ partsOf text m o₁ o₂ contents items
+    pub says-refused : number ≢ 0 → partsRefused number contents items ≡ partsOf text m o₁ o₂ contents items
     unfolding partsOf
     says-refused h = rw (← is, ne-eqb number 0 h)
 

@@ -5,13 +5,13 @@ use mathlib.Core.Bool.{cond}
 use mathlib.Core.List.{[], _∷_}
 use lib.Dec.{eqb}
 use Rattle.layout.specs.Machine.{Machine, Order, Items, ticksOf}
-use Rattle.texts.specs.declared.Text.{Text}
-use Rattle.questions.specs.Questions.{asked}
+use Rattle.layout_texts.specs.declared.Text.{Text}
+use Rattle.base_questions.specs.Questions.{asked}
 use Rattle.machine.specs.Questions.{question1, question2}
-use Rattle.order.specs.Order.{question5, question6, question7}
-use Rattle.order_agreement.specs.Agreement.{settingsOf}
-use Rattle.order_agreement.specs.Points.{Failing, firstPoint}
-use Rattle.order_contents.specs.Contents.{contentsFor, itemsFor}
+use Rattle.pass_order.specs.Order.{question5, question6, question7}
+use Rattle.compare_agreement.specs.Agreement.{settingsOf}
+use Rattle.compare_agreement.specs.Points.{Failing, firstPoint}
+use Rattle.parts_model.specs.Contents.{contentsFor, itemsFor}
 
 -- What the call answers: the number of the refusing question or 0; the first point that fails, 1 to 4, and the lowest place at which it fails, both 0 for equal orders
 -- and in a refusal; and what the run and the read list for the contents hold afterwards.
@@ -37,8 +37,8 @@ partsRefusal text m o₁ o₂ contents items =
     ∷ [])
 
 -- A refused call changes nothing.
-abbrev pub refused : ℕ → Machine → Items → Parting
-refused n contents items = record { number = n; point = 0; place = 0; contents = contents; items = items }
+abbrev pub partsRefused : ℕ → Machine → Items → Parting
+partsRefused n contents items = record { number = n; point = 0; place = 0; contents = contents; items = items }
 
 -- The contents and the items by the first point that fails; where none does, the run and the list stay.
 abbrev pub shown : Text → Machine → Failing → Machine → Items → Parting
@@ -55,4 +55,4 @@ shown text m f contents items =
 unfoldable pub partsOf : Text → Machine → Order → Order → Machine → Items → Parting
 partsOf text m o₁ o₂ contents items =
     let n = partsRefusal text m o₁ o₂ contents items in
-    cond (eqb n 0) (shown text m (firstPoint (settingsOf text m) o₁ o₂) contents items) (refused n contents items)
+    cond (eqb n 0) (shown text m (firstPoint (settingsOf text m) o₁ o₂) contents items) (partsRefused n contents items)

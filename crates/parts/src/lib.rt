@@ -1,7 +1,7 @@
 // What parts two orders of the generators: the first point that fails, and contents that show it.
 ghost use mathlib.Core.Path.{_≡_};
 ghost use Rattle.parts.specs.Parts.{partsRefusal, partsOf};
-use texts::Text;
+use layout_texts::Text;
 
 // What the call answers: the number of the refusing question or 0, the first point that fails and the lowest place at which it fails.
 pub struct Parted {
@@ -28,7 +28,7 @@ fn refusal(
     if contents.len() != layout::MACHINE_LENGTH {
         return 1;
     }
-    let counts = order::in_modes(text, m);
+    let counts = pass_order::in_modes(text, m);
     if items.len() < counts.reads {
         return 7;
     }
@@ -54,7 +54,7 @@ pub fn parts(
             place: 0,
         };
     }
-    let failing = order_agrees::first_point(text, m, first, second);
+    let failing = compare_first::first_point(text, m, first, second);
     let point = failing.point;
     let place = failing.place;
     if point == 0 {
@@ -64,7 +64,7 @@ pub fn parts(
             place,
         };
     }
-    let counts = order::in_modes(text, m);
+    let counts = pass_order::in_modes(text, m);
     parts_contents::contents(text, m, point, failing.sounding, contents);
     parts_contents::items(point, failing.sounding, counts.reads, items);
     Parted {

@@ -7,9 +7,9 @@ use Prim.Native.Nat.{ℕ, _+_, _*_}
 use native.Mathlib.Omega.{arith}
 use lib.Dec.{eqb}
 use Rattle.layout.specs.Layout.{generators}
-use Rattle.fills.specs.Fills.{filled}
-use Rattle.fills.proofs.Filled.{filled-same}
-use Rattle.order_contents.specs.Contents.{itemFor}
+use Rattle.base_fills.specs.Fills.{filled}
+use Rattle.base_fills.proofs.Filled.{filled-same}
+use Rattle.parts_model.specs.Contents.{itemFor}
 
 -- Two counts, one after the other.
 pub counted : (first-at second-at step n a b c d : ℕ) (f g : ℕ → ℕ) {base run first second : List ℕ} → ((k : ℕ) → a + b * k ≡ f k) → ((k : ℕ) → c + d * k ≡ g k)

@@ -3,17 +3,17 @@ ghost use mathlib.Core.Path.{_≡_};
 ghost use Prim.Native.Nat.{_+_, _≤_};
 ghost use lib.ListN.{length};
 ghost use Rattle.layout.specs.Layout.{machineLength, generators};
-ghost use Rattle.fills.specs.Fills.{filled};
-ghost use Rattle.order_contents.specs.Contents.{withColumns, inactiveModifiers, withLast, triggeringContents, ownNumbers, sendingContents, waveColumns, soundingContents, contentsFor, itemFor};
-use texts::Text;
+ghost use Rattle.base_fills.specs.Fills.{filled};
+ghost use Rattle.parts_model.specs.Contents.{withColumns, inactiveModifiers, withLast, triggeringContents, ownNumbers, sendingContents, waveColumns, soundingContents, contentsFor, itemFor};
+use layout_texts::Text;
 
 // The machine, with every modifier inactive.
 fn inactive(m: &[u32], run: &mut [u32])
     requires { ⌜ (length (now m) ≡ machineLength) × (length (now run) ≡ machineLength) ⌝ }
     ensures { λ _. ⌜ now (run .exit) ≡ inactiveModifiers (now (m .entry)) ⌝ }
 {
-    fills::copy(m, run);
-    fills::fill(
+    base_fills::copy(m, run);
+    base_fills::fill(
         run,
         layout::MODIFIERS_AT + layout::MMODE,
         layout::MODIFIER_WORDS,
@@ -28,14 +28,14 @@ fn triggering(m: &[u32], run: &mut [u32])
     ensures { λ _. ⌜ now (run .exit) ≡ triggeringContents (now (m .entry)) ⌝ }
 {
     inactive(m, run);
-    fills::fill(
+    base_fills::fill(
         run,
         layout::GP,
         layout::GENERATOR_WORDS,
         layout::GENERATORS,
         1,
     );
-    fills::fill(
+    base_fills::fill(
         run,
         layout::GQ,
         layout::GENERATOR_WORDS,
@@ -50,14 +50,14 @@ fn level_last(m: &[u32], word: u32, run: &mut [u32])
     ensures { λ _. ⌜ now (run .exit) ≡ withLast (λ w. word) (λ w. word) (now (m .entry)) ⌝ }
 {
     inactive(m, run);
-    fills::fill(
+    base_fills::fill(
         run,
         layout::GENERATOR_LAST_AT,
         1,
         layout::QUADRANT_WORDS,
         word,
     );
-    fills::fill(
+    base_fills::fill(
         run,
         layout::MODIFIER_LAST_AT,
         1,
@@ -72,7 +72,7 @@ fn numbered_last(m: &[u32], run: &mut [u32])
     ensures { λ _. ⌜ now (run .exit) ≡ withLast (λ w. w) (λ w. 64 + w) (now (m .entry)) ⌝ }
 {
     inactive(m, run);
-    fills::count(
+    base_fills::count(
         run,
         layout::GENERATOR_LAST_AT,
         1,
@@ -80,7 +80,7 @@ fn numbered_last(m: &[u32], run: &mut [u32])
         0,
         1,
     );
-    fills::count(
+    base_fills::count(
         run,
         layout::MODIFIER_LAST_AT,
         1,
@@ -98,8 +98,8 @@ fn own_numbers(m: &[u32], run: &mut [u32])
     let step = layout::GENERATOR_WORDS;
     let n = layout::GENERATORS;
     level_last(m, 0, run);
-    fills::count(run, layout::GK, step, n, 0, 1);
-    fills::count(run, layout::GJ, step, n, 0, 256);
+    base_fills::count(run, layout::GK, step, n, 0, 1);
+    base_fills::count(run, layout::GJ, step, n, 0, 256);
 }
 
 // What is sent tells its source.
@@ -122,10 +122,10 @@ fn waves(text: Text, run: &mut [u32])
     let n = layout::GENERATORS;
     match text {
         Text::Of1978 => {
-            fills::fill(run, layout::GN, step, n, 1);
-            fills::fill(run, layout::GK, step, n, 128);
+            base_fills::fill(run, layout::GN, step, n, 1);
+            base_fills::fill(run, layout::GK, step, n, 128);
         }
-        Text::Old => fills::fill(run, layout::GK, step, n, 256),
+        Text::Old => base_fills::fill(run, layout::GK, step, n, 256),
     }
 }
 
@@ -138,9 +138,9 @@ fn sounding(text: Text, m: &[u32], s: usize, run: &mut [u32])
     let n = layout::GENERATORS;
     level_last(m, 1, run);
     waves(text, run);
-    fills::fill(run, layout::GJ, step, n, 134217472);
-    fills::fill(run, layout::GM, step, n, 0);
-    fills::fill(run, layout::GQ, step, n, 0);
+    base_fills::fill(run, layout::GJ, step, n, 134217472);
+    base_fills::fill(run, layout::GM, step, n, 0);
+    base_fills::fill(run, layout::GQ, step, n, 0);
     parts_levels::levels(text, m, s, run);
 }
 
@@ -166,8 +166,8 @@ pub fn items(point: u32, s: usize, n: usize, run: &mut [u32])
     ensures { λ _. ⌜ now (run .exit) ≡ filled 0 1 n (itemFor point s) (now (run .entry)) ⌝ }
 {
     if (point == 4) & (s == layout::GENERATORS) {
-        fills::count(run, 0, 1, n, 0, 1);
+        base_fills::count(run, 0, 1, n, 0, 1);
         return;
     }
-    fills::fill(run, 0, 1, n, 0);
+    base_fills::fill(run, 0, 1, n, 0);
 }

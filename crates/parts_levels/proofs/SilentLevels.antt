@@ -9,13 +9,13 @@ use native.Mathlib.Nat.{add-zero, mod-eq-of-lt}
 use borrow.Author.Tests.{ltb-true, eq-eqb, ne-eqb}
 use lib.Dec.{ltb}
 use lib.ListN.{getD}
-use Rattle.lists.proofs.Tests.{below}
+use Rattle.base_lists.proofs.Tests.{below}
 use Rattle.layout.specs.Machine.{Machine, gmodeAt}
 use Rattle.layout.specs.Widths.{glBits}
-use Rattle.old_modes.specs.OldModes.{oldEnvelope}
-use Rattle.texts.specs.declared.Text.{Text}
-use Rattle.texts.specs.declared.Text.the-variants.{Of1978, Old}
-use Rattle.order_contents.specs.Contents.{silentLevel, soundingLevel}
+use Rattle.layout_old_modes.specs.OldModes.{oldEnvelope}
+use Rattle.layout_texts.specs.declared.Text.{Text}
+use Rattle.layout_texts.specs.declared.Text.the-variants.{Of1978, Old}
+use Rattle.parts_model.specs.Contents.{silentLevel, soundingLevel}
 
 -- It is a word of 12 bits.
 pub level-low : (text : Text) (gmode : ℕ) → silentLevel text gmode < 2 ^ glBits

@@ -5,9 +5,9 @@ ghost use lib.ListN.{length};
 ghost use Rattle.layout.specs.Layout.{machineLength, generators, generatorWords, GL};
 ghost use Rattle.layout.specs.Machine.{Reaches};
 ghost use Rattle.layout.specs.Widths.{glBits};
-ghost use Rattle.fills.specs.Fills.{filled};
-ghost use Rattle.order_contents.specs.Contents.{silentLevel, soundingLevel};
-use texts::Text;
+ghost use Rattle.base_fills.specs.Fills.{filled};
+ghost use Rattle.parts_model.specs.Contents.{silentLevel, soundingLevel};
+use layout_texts::Text;
 
 // GL at which V is 0 where GQ is 0, by the envelope mode in GMODE.
 fn silent_level(text: Text, gmode: u32) -> u32

@@ -8,12 +8,12 @@ use borrow.Author.Tests.{ltb-true, ltb-false, lt-ltb, le-ltb}
 use lib.Dec.{ltb}
 use lib.ListN.{length, take, length-set}
 use lib.Seq.{length-take-le}
-use Rattle.lists.proofs.Choices.{of-cond, of-test}
+use Rattle.base_lists.proofs.Choices.{of-cond, of-test}
 use Rattle.layout.specs.Layout.{machineLength}
 use Rattle.layout.specs.Machine.{Machine, Order, Items, Places}
-use Rattle.texts.specs.declared.Text.{Text}
-use Rattle.sums.specs.Sums.{sumsOf}
-use Rattle.pass_model.specs.Generators.{generatorsOf, State, broughtBy, step, begun, takenBy}
+use Rattle.layout_texts.specs.declared.Text.{Text}
+use Rattle.pass_sums.specs.Sums.{sumsOf}
+use Rattle.pass_model.specs.Generators.{generatorsOf, State, contributionOf, step, begun, takenBy}
 use Rattle.pass_model.specs.Pass.{Call, Outcome, writtenData, generatorsTaken, finished, ran, refused, passOf}
 use Rattle.pass_model.proofs.Asked.{passes}
 use Rattle.pass_laws.proofs.Frames.{steps-keep-all}
@@ -27,7 +27,7 @@ use Rattle.parts_shown.proofs.Different.{is-first, no-place}
 step-places : (text : Text) (items : Items) (s : State) (g : ℕ) → length (step (generatorsOf text) items s g .places) ≡ length (s .places)
 unfolding step
 step-places text items s g =
-    of-cond (λ (l : Places). length l ≡ length (s .places)) (broughtBy (generatorsOf text) s g .writes) (length-set (s .places) (s .writes) (broughtBy (generatorsOf text) s g .sends)) refl
+    of-cond (λ (l : Places). length l ≡ length (s .places)) (contributionOf (generatorsOf text) s g .writes) (length-set (s .places) (s .writes) (contributionOf (generatorsOf text) s g .sends)) refl
 
 module _ (text : Text) (m : Machine) (call : Call) where
   -- A pass writes no more items than it has places.

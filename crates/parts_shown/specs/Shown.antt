@@ -7,10 +7,10 @@ use mathlib.Core.Logic.{_≢_}
 use mathlib.Core.Path.{_≡_}
 use lib.Dec.{eqb, ltb}
 use lib.ListN.{length, getD}
-use Rattle.lists.specs.Lists.{zeros}
+use Rattle.base_lists.specs.Lists.{zeros}
 use Rattle.layout.specs.Layout.{generators}
 use Rattle.layout.specs.Machine.{Machine, Order, Items}
-use Rattle.texts.specs.declared.Text.{Text}
+use Rattle.layout_texts.specs.declared.Text.{Text}
 use Rattle.pass_model.specs.Pass.{Outcome, plainCall, writtenData, passOf}
 use Rattle.parts_shown.specs.declared.Difference.{Difference}
 use Rattle.parts_shown.specs.declared.Difference.the-variants.{Word, Written}

@@ -3,7 +3,7 @@ ghost use mathlib.Core.Path.{_≡_};
 ghost use lib.ListN.{length};
 ghost use Rattle.pass_model.specs.Pass.{plainCall, passOf};
 ghost use Rattle.parts_shown.specs.Shown.{firstDifferent, differenceShown};
-use texts::Text;
+use layout_texts::Text;
 
 // By what two passes differ: a word of the machine, or an item of the written data.
 pub enum Difference {
@@ -43,7 +43,7 @@ fn pass_by(
     ensures { λ _. ⌜ now (places .exit) ≡ passOf text (now (contents .entry)) (plainCall (now (order .entry)) (now (items .entry)) (now (places .entry))) .places ⌝ }
 {
     let mut memory = [0u32; layout::MEMORY_WORDS];
-    fills::copy(contents, m);
+    base_fills::copy(contents, m);
     let done = pass::pass(text, m, order, items, places, &mut memory);
     done.written
 }

@@ -4,8 +4,8 @@ use mathlib.Core.Path.{_≡_, _∙_}
 use Prim.Native.Nat.{ℕ, _/_}
 use lib.ListN.{set}
 use Rattle.layout.specs.Machine.{Machine, Sums, ticksOf}
-use Rattle.texts.specs.declared.Text.{Text}
-use Rattle.sums.specs.Sums.{modifierThis, sumsOf, closed}
+use Rattle.layout_texts.specs.declared.Text.{Text}
+use Rattle.pass_sums.specs.Sums.{modifierThis, sumsOf, closed}
 use Rattle.pass_model.specs.Generators.{generatorsOf, begun, Taken, takenBy}
 use Rattle.pass_model.specs.Clipped.{Marks, noMarks, markedBy}
 use Rattle.pass_model.specs.Modifiers.{Held, modifiedBy}

@@ -2,15 +2,15 @@
 ghost use mathlib.Core.Path.{_≡_};
 ghost use Prim.Native.Nat.{_≤_};
 ghost use Rattle.layout.specs.Machine.{Reaches, ticksOf};
-ghost use Rattle.sine.specs.Sine.{quarter};
-ghost use Rattle.exponential.specs.Exponential.{tableSize, entries};
-ghost use Rattle.questions.specs.Questions.{asked};
+ghost use Rattle.generator_sine.specs.Sine.{quarter};
+ghost use Rattle.generator_exponential.specs.Exponential.{tableSize, entries};
+ghost use Rattle.base_questions.specs.Questions.{asked};
 ghost use Rattle.pass_model.specs.Pass.{counted, unitQuestions, ran, passRefusal, passOf};
-ghost use Rattle.pass_generators.specs.Loops.{Ready, Numbers};
-use exponential::Entries;
-use sine::Quarter;
-use sums::Clipped;
-use texts::Text;
+ghost use Rattle.pass_generators.specs.AsCoded.{Ready, Numbers};
+use generator_exponential::Entries;
+use generator_sine::Quarter;
+use layout_texts::Text;
+use pass_sums::Clipped;
 
 // What a pass answers: the number of the refusing question or 0, the items read and written, and a mark for each word of generator-this that left its range.
 pub struct Passed {
@@ -47,7 +47,7 @@ pub fn run(
     ensures { λ r. ⌜ record { number = r .number; read = r .read; written = r .written; clipped = r .clipped; machine = now (m .exit); places = now (places .exit); memory = now (memory .exit) } ≡ ran text (now (m .entry)) (record { order = now (order .entry); items = now (items .entry); places = now (places .entry); memory = now (memory .entry) }) ⌝ }
 {
     let t = layout::ticks(m);
-    let mut s = sums::load(m);
+    let mut s = pass_sums::load(m);
     let mut clipped = [0u8; layout::QUADRANT_WORDS];
     let done = pass_generators::generators(
         text,
@@ -61,7 +61,7 @@ pub fn run(
         decay,
     );
     pass_modifiers::modifiers(text, m, &mut s, memory, t, t / 2);
-    sums::close(m, &s);
+    pass_sums::close(m, &s);
     count(m);
     Passed {
         number: 0,
@@ -97,11 +97,11 @@ fn refusal(
     if first != 0 {
         return first;
     }
-    let second = order::order_refusal(order, layout::ticks(m));
+    let second = pass_order::order_refusal(order, layout::ticks(m));
     if second != 0 {
         return second;
     }
-    let needed = order::in_modes(text, m);
+    let needed = pass_order::in_modes(text, m);
     if items.len() < needed.reads {
         return 7;
     }
@@ -135,7 +135,7 @@ pub fn pass(
             clipped: unmarked,
         };
     }
-    let sine = sine::table();
-    let decay = exponential::table();
+    let sine = generator_sine::table();
+    let decay = generator_exponential::table();
     run(text, m, order, items, places, memory, &sine, &decay)
 }

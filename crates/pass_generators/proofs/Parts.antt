@@ -5,8 +5,8 @@ use mathlib.Core.List.{List, _++_, append-nil}
 use Prim.Native.Nat.{ℕ, _+_, _-_, _≤_}
 use lib.ListN.{length, set, take, drop, take-append-drop}
 use lib.Seq.{length-take-le}
-use Rattle.sums.proofs.Blocks.{set-behind, part-rest}
-use Rattle.lists.proofs.Parts.{part-from}
+use Rattle.pass_sums.proofs.Blocks.{set-behind, part-rest}
+use Rattle.base_lists.proofs.Parts.{part-from}
 use Rattle.layout.specs.Layout.{generatorAt}
 use Rattle.generator.specs.declared.Generator.{Generator}
 use Rattle.generator.specs.Generator.{stored}

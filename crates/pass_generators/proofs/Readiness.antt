@@ -10,15 +10,15 @@ use lib.ListN.{length}
 use borrow.Author.Tests.{eqb-true, eqb-false}
 use Rattle.layout.specs.Layout.{generatorAt, generatorWords, GJ, GK, GQ, GMODE}
 use Rattle.layout.specs.Machine.{Items}
-use Rattle.texts.specs.Texts.{distanceOf}
-use Rattle.texts.specs.declared.Text.{Text}
+use Rattle.layout_texts.specs.Texts.{distanceOf}
+use Rattle.layout_texts.specs.declared.Text.{Text}
 use Rattle.layout.proofs.Reach.{same-reach}
 use Rattle.generator.specs.declared.Generator.{Generator}
 use Rattle.generator.specs.Generator.{Ranged, stored}
-use Rattle.pass_model.specs.Generators.{generatorsOf, State, told, broughtBy, step}
+use Rattle.pass_model.specs.Generators.{generatorsOf, State, triggeredBelow, contributionOf, step}
 use Rattle.pass_model.proofs.Puts.{Apart, put-length, put-apart, put-gj, put-gk, put-gq, put-gmode, dac-apart, dac-length}
 use Rattle.pass_model.proofs.Keeps.{turn-keeps}
-use Rattle.pass_generators.specs.Loops.{WithinWidths, Ready}
+use Rattle.pass_generators.specs.AsCoded.{WithinWidths, Ready}
 
 -- Generator h after generator g was put back: as it was, or as it was put.
 low-after : (words : List ℕ) (g h : ℕ) (u : Generator) → g < 256 → h < 256 → Ready words → Ranged u → WithinWidths (stored words (generatorAt g) u) h
@@ -59,12 +59,12 @@ low-after words g h u hg hh ready r = go (eqb h g) refl
 pub step-ready : (text : Text) (items : Items) (s : State) (g : ℕ) → g < 256 → Ready (s .words) → Ready (step (generatorsOf text) items s g .words)
 unfolding step
 step-ready text items s g hg ready =
-    let b = broughtBy (generatorsOf text) s g in
+    let b = contributionOf (generatorsOf text) s g in
     let ws = stored (s .words) (generatorAt g) (b .unit) in
     record {
       reaches = same-reach (dac-length ws b ∙ put-length (s .words) g (b .unit)) (ready .reaches);
       low = λ h hh.
-          let l = low-after (s .words) g h (b .unit) hg hh ready (turn-keeps text (s .words) (s .sums) g (told (distanceOf text) (s .triggered) g) .ranged) in
+          let l = low-after (s .words) g h (b .unit) hg hh ready (turn-keeps text (s .words) (s .sums) g (triggeredBelow (distanceOf text) (s .triggered) g) .ranged) in
           record {
             gj-low = rw (dac-apart ws b (generatorAt h + GJ) (omega arith)) (l .gj-low);
             gk-low = rw (dac-apart ws b (generatorAt h + GK) (omega arith)) (l .gk-low);

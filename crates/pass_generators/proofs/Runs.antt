@@ -8,10 +8,10 @@ use native.Mathlib.Omega.{arith}
 use lib.ListN.{length, getD, drop, drop-of-length-le}
 use lib.Seq.{drop-cons}
 use Rattle.layout.specs.Machine.{Order, Items}
-use Rattle.texts.specs.declared.Text.{Text}
-use Rattle.pass_model.specs.Generators.{generatorsOf, State, broughtBy, step, steps, takenBy}
+use Rattle.layout_texts.specs.declared.Text.{Text}
+use Rattle.pass_model.specs.Generators.{generatorsOf, State, contributionOf, step, steps, takenBy}
 use Rattle.pass_model.specs.Clipped.{Marks, marked, markedBy}
-use Rattle.pass_generators.specs.Loops.{Ready}
+use Rattle.pass_generators.specs.AsCoded.{Ready}
 use Rattle.pass_generators.proofs.Readiness.{step-ready}
 
 -- One step further.
@@ -47,11 +47,11 @@ one-more false n = omega arith
 module _ (text : Text) (items : Items) (s : State) (g : ℕ) {t : State} (e : t ≡ step (generatorsOf text) items s g) where
   pub reads-most : t .reads ≤ s .reads + 1
   unfolding step
-  reads-most = rw e (one-more (broughtBy (generatorsOf text) s g .replaces) (s .reads))
+  reads-most = rw e (one-more (contributionOf (generatorsOf text) s g .replaces) (s .reads))
 
   pub writes-most : t .writes ≤ s .writes + 1
   unfolding step
-  writes-most = rw e (one-more (broughtBy (generatorsOf text) s g .writes) (s .writes))
+  writes-most = rw e (one-more (contributionOf (generatorsOf text) s g .writes) (s .writes))
 
   pub still-ready : g < 256 → Ready (s .words) → Ready (t .words)
   still-ready h r = rw e (step-ready text items s g h r)

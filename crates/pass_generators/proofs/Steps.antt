@@ -7,26 +7,26 @@ use Prim.Native.Nat.{ℕ, _+_, _<_}
 use native.Mathlib.Numerals.{add-one}
 use lib.Dec.{eqb}
 use lib.ListN.{getD, set}
-use Rattle.lists.specs.Lists.{isOneOf}
+use Rattle.base_lists.specs.Lists.{isOneOf}
 use Rattle.layout.specs.Layout.{generatorAt}
 use Rattle.layout.specs.Machine.{Machine, Items, Sums}
-use Rattle.modes.specs.declared.Switches.{Switches}
-use Rattle.modes.specs.Modes.{switchesOf, envelopeOn, oscillatorOn, wait, writeData, writeDAC}
-use Rattle.modes.proofs.RunModes.{adds-tells}
-use Rattle.modes.proofs.Exclusions.{quiet, idle, on-not-off, outputs}
-use Rattle.sums.specs.Sums.{fAt}
+use Rattle.layout_modes.specs.declared.Switches.{Switches}
+use Rattle.layout_modes.specs.Modes.{switchesOf, envelopeOn, oscillatorOn, wait, writeData, writeDAC}
+use Rattle.layout_modes.proofs.RunModes.{adds-tells}
+use Rattle.layout_modes.proofs.Exclusions.{quiet, idle, on-not-off, outputs}
+use Rattle.pass_sums.specs.Sums.{fAt}
 use Rattle.generator.specs.declared.Generator.{Generator}
 use Rattle.generator.specs.declared.Sounded.{Sounded}
-use Rattle.texts.specs.declared.Text.{Text}
-use Rattle.texts.specs.Texts.{distanceOf}
+use Rattle.layout_texts.specs.declared.Text.{Text}
+use Rattle.layout_texts.specs.Texts.{distanceOf}
 use Rattle.generator.specs.Generator.{stored}
-use Rattle.generator_turn.specs.GeneratorTurn.{runOf, afterOf, soundedBy}
+use Rattle.generator_turn.specs.AsCoded.{runOf, afterOf, soundedBy}
 use Rattle.generator_turn.proofs.Turns.{untold, rests-in, no-trigger}
-use Rattle.pass_model.specs.Generators.{generatorsOf, generatorOf, generatorTurn, State, told, fed, summed, step}
+use Rattle.pass_model.specs.Generators.{generatorsOf, generatorOf, generatorTurn, State, triggeredBelow, fed, summed, step}
 use Rattle.pass_model.proofs.Turns.{partsOf, turn-parts, waits-silent}
 use Rattle.pass_model.specs.Clipped.{Marks, sumLeaves, markedAt, marked}
-use Rattle.pass_outputs.specs.Outputs.{heard, heardLeaves, Sending, sent}
-use Rattle.pass_generators.specs.Loops.{WithinWidths, Sounding, sounded}
+use Rattle.pass_outputs.specs.AsCoded.{outputAdded, outputLeaves, Sending, sent}
+use Rattle.pass_generators.specs.AsCoded.{WithinWidths, Sounding, sounded}
 use Rattle.pass_generators.proofs.Words.{put-same}
 
 -- A choice by what is not, first or alone, is one by what is.
@@ -47,13 +47,13 @@ module _ (text : Text) (items : Items) (s : State) (g : ℕ) (u : Generator) (f 
   pub sounds-on : (marks : Marks) {v : Sounding} → envelopeOn (runOf text u) ≡ true →
       v ≡ sounded text items (record { words = s .words; sums = s .sums; clipped = marks; triggered = s .triggered; reads = s .reads }) g u f →
       record { words = v .words; sums = v .sums; triggered = v .triggered; places = s .places; reads = v .reads; writes = s .writes } ≡ step (generatorsOf text) items s g
-  unfolding step fed summed sounded heard envelopeOn isOneOf
+  unfolding step fed summed sounded outputAdded envelopeOn isOneOf
   sounds-on marks on e =
       let r = runOf text u in
       rw (
         e,
-        turn-of (told (distanceOf text) (s .triggered) g),
-        untold text u f (told (distanceOf text) (s .triggered) g) (on-not-off envelopeOn r wait on refl),
+        turn-of (triggeredBelow (distanceOf text) (s .triggered) g),
+        untold text u f (triggeredBelow (distanceOf text) (s .triggered) g) (on-not-off envelopeOn r wait on refl),
         on-not-off envelopeOn r writeDAC on refl,
         on-not-off envelopeOn r writeData on refl,
         outputs r on,
@@ -65,21 +65,21 @@ module _ (text : Text) (items : Items) (s : State) (g : ℕ) (u : Generator) (f 
   pub sounds-marked : (marks : Marks) {v : Sounding} → envelopeOn (runOf text u) ≡ true →
       v ≡ sounded text items (record { words = s .words; sums = s .sums; clipped = marks; triggered = s .triggered; reads = s .reads }) g u f →
       v .clipped ≡ marked (generatorsOf text) items s marks g
-  unfolding marked sumLeaves sounded heardLeaves
-  sounds-marked marks on e = rw (e, turn-of (told (distanceOf text) (s .triggered) g), outputs (runOf text u) on, not-first)
+  unfolding marked sumLeaves sounded outputLeaves
+  sounds-marked marks on e = rw (e, turn-of (triggeredBelow (distanceOf text) (s .triggered) g), outputs (runOf text u) on, not-first)
 
   -- The generator waits.
-  pub waits-on : {words : Machine} → runOf text u ≡ wait → words ≡ stored (s .words) (generatorAt g) (afterOf text u f (told (distanceOf text) (s .triggered) g)) →
+  pub waits-on : {words : Machine} → runOf text u ≡ wait → words ≡ stored (s .words) (generatorAt g) (afterOf text u f (triggeredBelow (distanceOf text) (s .triggered) g)) →
       record { words = words; sums = s .sums; triggered = s .triggered; places = s .places; reads = s .reads; writes = s .writes } ≡ step (generatorsOf text) items s g
   unfolding step fed summed
   waits-on w e =
-      let q = waits-silent text (s .words) (s .sums) g (told (distanceOf text) (s .triggered) g) (rw (← is-u) w) in
-      rw (e, q .no-trigger, q .no-add, q .no-replace, q .no-feed, q .no-write, turn-of (told (distanceOf text) (s .triggered) g))
+      let q = waits-silent text (s .words) (s .sums) g (triggeredBelow (distanceOf text) (s .triggered) g) (rw (← is-u) w) in
+      rw (e, q .no-trigger, q .no-add, q .no-replace, q .no-feed, q .no-write, turn-of (triggeredBelow (distanceOf text) (s .triggered) g))
 
   pub waits-marked : (marks : Marks) → runOf text u ≡ wait → marks ≡ marked (generatorsOf text) items s marks g
   unfolding marked markedAt sumLeaves
   waits-marked marks w =
-      let q = waits-silent text (s .words) (s .sums) g (told (distanceOf text) (s .triggered) g) (rw (← is-u) w) in
+      let q = waits-silent text (s .words) (s .sums) g (triggeredBelow (distanceOf text) (s .triggered) g) (rw (← is-u) w) in
       rw (q .no-replace, q .no-add)
 
   -- Nothing is on.
@@ -89,7 +89,7 @@ module _ (text : Text) (items : Items) (s : State) (g : ℕ) (u : Generator) (f 
   unfolding step fed summed sent
   sends-on low e o x =
       let q = quiet (runOf text u) e in
-      rw (x, turn-of (told (distanceOf text) (s .triggered) g), rests-in text u f (told (distanceOf text) (s .triggered) g) e o, no-trigger text u f e, q .no-add, q .no-replace, same)
+      rw (x, turn-of (triggeredBelow (distanceOf text) (s .triggered) g), rests-in text u f (triggeredBelow (distanceOf text) (s .triggered) g) e o, no-trigger text u f e, q .no-add, q .no-replace, same)
     where
       same : stored (s .words) (generatorAt g) u ≡ s .words
       same = rw is-u (put-same (s .words) g low)
@@ -98,7 +98,7 @@ module _ (text : Text) (items : Items) (s : State) (g : ℕ) (u : Generator) (f 
   unfolding marked markedAt sumLeaves
   sends-marked marks e =
       let q = quiet (runOf text u) e in
-      rw (turn-of (told (distanceOf text) (s .triggered) g), q .no-replace, q .no-add)
+      rw (turn-of (triggeredBelow (distanceOf text) (s .triggered) g), q .no-replace, q .no-add)
 
   -- Inactive or paused.
   pub step-idle : WithinWidths (s .words) g → runOf text u < 2 → s ≡ step (generatorsOf text) items s g
@@ -116,8 +116,8 @@ module _ (text : Text) (items : Items) (v : Sounding) (g : ℕ) (u : Generator) 
       on ≡ switchesOf (runOf text u) → x ≡ soundedBy text u f →
       words ≡ stored (v .words) (generatorAt g) (x .unit) →
       triggered ≡ cond (x .triggers) (set (v .triggered) g 1) (v .triggered) →
-      (sums ≡ heard (v .sums) (eqb (on .output) 1) (u .gsum) (x .p) (getD items (v .reads) 0))
-      × (clipped ≡ markedAt (v .clipped) (u .gsum) (heardLeaves (v .sums) (eqb (on .output) 1) (u .gsum) (x .p) (getD items (v .reads) 0)))
+      (sums ≡ outputAdded (v .sums) (eqb (on .output) 1) (u .gsum) (x .p) (getD items (v .reads) 0))
+      × (clipped ≡ markedAt (v .clipped) (u .gsum) (outputLeaves (v .sums) (eqb (on .output) 1) (u .gsum) (x .p) (getD items (v .reads) 0)))
       × (reads ≡ cond (eqb (on .output) 1) (v .reads) (v .reads + 1)) →
       record { words = words; sums = sums; clipped = clipped; triggered = triggered; reads = reads } ≡ sounded text items v g u f
   unfolding sounded

@@ -7,15 +7,15 @@ use lib.Seq.{set-getD, getD-drop}
 use Rattle.layout.specs.Layout.{generatorAt, GJ, GK, GQ, GFM, GMODE}
 use Rattle.layout.specs.Widths.{gjBits, gkBits, gqBits, gmodeBits}
 use Rattle.layout.specs.Machine.{Sums, gfmAt}
-use Rattle.texts.specs.Texts.{runModeAt}
-use Rattle.texts.specs.declared.Text.{Text}
-use Rattle.sums.specs.Sums.{fAt}
+use Rattle.layout_texts.specs.Texts.{runModeAt}
+use Rattle.layout_texts.specs.declared.Text.{Text}
+use Rattle.pass_sums.specs.Sums.{fAt}
 use Rattle.generator.specs.Generator.{loaded, stored}
-use Rattle.generator_turn.specs.GeneratorTurn.{runOf}
+use Rattle.generator_turn.specs.AsCoded.{runOf}
 use Rattle.pass_model.specs.Generators.{generatorOf}
 use Rattle.pass_model.proofs.Puts.{at-width}
 use Rattle.pass_model.proofs.Turns.{run-loaded}
-use Rattle.pass_generators.specs.Loops.{WithinWidths}
+use Rattle.pass_generators.specs.AsCoded.{WithinWidths}
 
 -- To put a generator back as it was loaded changes nothing.
 pub put-same : (words : List ℕ) (g : ℕ) → WithinWidths words g → stored words (generatorAt g) (generatorOf words g) ≡ words

@@ -3,25 +3,25 @@ ghost use mathlib.Core.Path.{_≡_};
 ghost use mathlib.Core.Bool.{true};
 ghost use Prim.Native.Nat.{_<_, _^_};
 ghost use Rattle.layout.specs.Machine.{Reaches};
-ghost use Rattle.sine.specs.Sine.{quarter};
-ghost use Rattle.exponential.specs.Exponential.{tableSize, entries};
-ghost use Rattle.modes.specs.Modes.{rows, switchesOf, envelopeOn, wait};
+ghost use Rattle.generator_sine.specs.Sine.{quarter};
+ghost use Rattle.generator_exponential.specs.Exponential.{tableSize, entries};
+ghost use Rattle.layout_modes.specs.Modes.{rows, switchesOf, envelopeOn, wait};
 ghost use Rattle.layout.specs.Layout.{generatorAt};
 ghost use Rattle.generator.specs.Generator.{stored};
-ghost use Rattle.generator_turn.specs.GeneratorTurn.{runOf, afterOf};
-ghost use Rattle.texts.specs.Texts.{distanceOf};
-ghost use Rattle.pass_model.specs.Generators.{generatorsOf, generatorOf, told, step, begun, takenBy};
+ghost use Rattle.generator_turn.specs.AsCoded.{runOf, afterOf};
+ghost use Rattle.layout_texts.specs.Texts.{distanceOf};
+ghost use Rattle.pass_model.specs.Generators.{generatorsOf, generatorOf, triggeredBelow, step, begun, takenBy};
 ghost use Rattle.pass_model.specs.Clipped.{marked, markedBy};
-ghost use Rattle.pass_generators.specs.Loops.{WithinWidths, Ready, Numbers, sounded};
-use exponential::Entries;
+ghost use Rattle.pass_generators.specs.AsCoded.{WithinWidths, Ready, Numbers, sounded};
 use generator::Generator;
-use modes::Rows;
-use modes::Switches;
+use generator_exponential::Entries;
+use generator_sine::Quarter;
+use layout_modes::Rows;
+use layout_modes::Switches;
+use layout_texts::Text;
 use pass_outputs::Triggered;
-use sine::Quarter;
-use sums::Clipped;
-use sums::Sums;
-use texts::Text;
+use pass_sums::Clipped;
+use pass_sums::Sums;
 
 // How many items were read and written.
 pub struct Items {
@@ -50,7 +50,7 @@ fn put_generator_at(m: &mut [u32], g: usize, unit: Generator)
 }
 
 // A generator whose envelope is on is taken; the answer is how many items were read.
-fn play(
+fn take_playing(
     text: Text,
     m: &mut [u32],
     s: &mut Sums,
@@ -71,23 +71,23 @@ fn play(
     ensures { λ r. ⌜ record { words = now (m .exit); sums = now (s .exit); clipped = now (clipped .exit); triggered = now (triggered .exit); reads = r } ≡ sounded text (now (items .entry)) (record { words = now (m .entry); sums = now (s .entry); clipped = now (clipped .entry); triggered = now (triggered .entry); reads = reads }) g (generatorOf (now (m .entry)) g) f ⌝ }
 {
     let unit = generator_at(m, g);
-    let sounded = generator_turn::play(text, unit, sine, decay, on, f);
+    let sounded = generator_turn::turn_playing(text, unit, sine, decay, on, f);
     let turned = sounded.unit;
     let p = sounded.p;
     put_generator_at(m, g, turned);
     pass_outputs::mark(triggered, g, sounded.triggers);
-    pass_outputs::hear(s, clipped, items, reads, on.output, unit.gsum, p)
+    pass_outputs::add_output(s, clipped, items, reads, on.output, unit.gsum, p)
 }
 
 // A generator that waits is taken.
-fn wait(text: Text, m: &mut [u32], triggered: &Triggered, g: usize, f: u32)
+fn take_waiting(text: Text, m: &mut [u32], triggered: &Triggered, g: usize, f: u32)
     requires { ⌜ Reaches (now m) ⌝ }
     requires { ⌜ (runOf text (generatorOf (now m) g) ≡ wait) × (f < 2 ^ 20) × (g < 256) ⌝ }
-    ensures { λ r. ⌜ now (m .exit) ≡ stored (now (m .entry)) (generatorAt g) (afterOf text (generatorOf (now (m .entry)) g) f (told (distanceOf text) (now (triggered .entry)) g)) ⌝ }
+    ensures { λ r. ⌜ now (m .exit) ≡ stored (now (m .entry)) (generatorAt g) (afterOf text (generatorOf (now (m .entry)) g) f (triggeredBelow (distanceOf text) (now (triggered .entry)) g)) ⌝ }
 {
     let unit = generator_at(m, g);
-    let told = pass_outputs::told(text, triggered, g);
-    let after = generator_turn::wait(text, unit, f, told);
+    let below = pass_outputs::triggered_below(text, triggered, g);
+    let after = generator_turn::turn_waiting(text, unit, f, below);
     put_generator_at(m, g, after);
 }
 
@@ -113,14 +113,14 @@ fn step(
     ensures { λ r. ⌜ record { words = now (m .exit); sums = now (s .exit); triggered = now (triggered .exit); places = now (places .exit); reads = r .reads; writes = r .writes } ≡ step (generatorsOf text) (now (items .entry)) (record { words = now (m .entry); sums = now (s .entry); triggered = now (triggered .entry); places = now (places .entry); reads = done .reads; writes = done .writes }) g ⌝ }
     ensures { λ _. ⌜ now (clipped .exit) ≡ marked (generatorsOf text) (now (items .entry)) (record { words = now (m .entry); sums = now (s .entry); triggered = now (triggered .entry); places = now (places .entry); reads = done .reads; writes = done .writes }) (now (clipped .entry)) g ⌝ }
 {
-    let run = texts::run_mode(text, m, g);
-    if run <= modes::PAUSE {
+    let run = layout_texts::run_mode(text, m, g);
+    if run <= layout_modes::PAUSE {
         return done;
     }
-    let f = sums::f_at(s, layout::gfm(m, g) % layout::GFM_LIMIT);
-    let on = modes::switches_of(switches, run);
+    let f = pass_sums::f_at(s, layout::gfm(m, g) % layout::GFM_LIMIT);
+    let on = layout_modes::switches_of(switches, run);
     if on.envelope == 1 {
-        let reads = play(
+        let reads = take_playing(
             text,
             m,
             s,
@@ -140,7 +140,7 @@ fn step(
         };
     }
     if on.oscillator == 1 {
-        wait(text, m, triggered, g, f);
+        take_waiting(text, m, triggered, g, f);
         return done;
     }
     let unit = generator_at(m, g);
@@ -169,7 +169,7 @@ pub fn generators(
     ensures { λ r. ⌜ record { words = now (m .exit); sums = now (s .exit); places = now (places .exit); reads = r .reads; writes = r .writes } ≡ takenBy (generatorsOf text) (now (items .entry)) (begun (now (m .entry)) (now (s .entry)) (now (places .entry))) (now (order .entry)) ⌝ }
     ensures { λ _. ⌜ now (clipped .exit) ≡ markedBy (generatorsOf text) (now (items .entry)) (begun (now (m .entry)) (now (s .entry)) (now (places .entry))) (now (clipped .entry)) (now (order .entry)) ⌝ }
 {
-    let switches = modes::table();
+    let switches = layout_modes::table();
     let mut triggered = [0u8; layout::GENERATORS];
     let mut done = Items {
         reads: 0,

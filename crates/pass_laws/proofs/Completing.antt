@@ -1,4 +1,4 @@
--- What the modifiers, their delay units and the end of a pass leave as it was, and that they keep a machine sound.
+-- What the modifiers, their delay units and the end of a pass leave as it was, and that they keep a machine valid.
 -- Assumes nothing.
 use mathlib.Core.Path.{_≡_, refl, _∙_, ap}
 use mathlib.Core.Logic.{_≢_}
@@ -15,45 +15,45 @@ use lib.Seq.{getD-set-same, getD-set-other}
 use Rattle.layout.specs.Layout.{modifierAt, quadrantAt, counterAt, delayAt, delayY}
 use Rattle.layout.specs.Machine.{Machine, Sums, Reaches}
 use Rattle.layout.specs.Widths.{counterBits}
-use Rattle.texts.specs.declared.Text.{Text}
+use Rattle.layout_texts.specs.declared.Text.{Text}
 use Rattle.layout.proofs.Reach.{same-reach}
-use Rattle.machine.specs.Questions.{sound}
-use Rattle.sums.specs.Sums.{generatorThis, generatorLast, modifierThis, closed}
-use Rattle.sums.proofs.Blocks.{Outside, outside-after}
-use Rattle.sums.proofs.Memory.{Quadrants}
-use Rattle.sums.proofs.Closing.{closed-length, closed-outside, closed-generator-this, closed-generator-last}
+use Rattle.machine.specs.Questions.{valid}
+use Rattle.pass_sums.specs.Sums.{generatorThis, generatorLast, modifierThis, closed}
+use Rattle.pass_sums.proofs.Blocks.{Outside, outside-after}
+use Rattle.pass_sums.proofs.Memory.{Quadrants}
+use Rattle.pass_sums.proofs.Closing.{closed-length, closed-outside, closed-generator-this, closed-generator-last}
 use Rattle.modifier.specs.declared.Modifier.{Modifier}
 use Rattle.modifier.specs.Modifier.{stored}
 use Rattle.modifier_delay.specs.Invoke.{unitOf}
-use Rattle.delay.specs.Delay.{turnOf}
+use Rattle.delay.specs.Delay.{delayTurnOf}
 use Rattle.delay.proofs.Low.{WordsLow, loaded-ranged, turn-ranged}
 use Rattle.delay_questions.specs.Questions.{delayOf}
 use Rattle.pass_model.specs.Modifiers.{earlyView, lateView, turnSeen, modifierOf, Held, delayed, modify, modified, modifiedBy}
 use Rattle.pass_model.specs.Pass.{counted, completed}
 use Rattle.pass_model.proofs.Delays.{words-by, yOf, zOf}
 use Rattle.pass_model.proofs.Modifiers.{Elsewhere, turn-seen-low, words-length, memory-length, memory-low, words-kept, words-between, units-within, this-length, this-low}
-use Rattle.pass_laws.proofs.SoundPuts.{sound-modifier-put, sound-delay-put, sound-counted, sound-closed}
+use Rattle.pass_laws.proofs.ValidPuts.{valid-modifier-put, valid-delay-put, valid-counted, valid-closed}
 
--- A delay unit's turn keeps a machine sound.
-delayed-sound : (text : Text) (t : ℕ) (h : Held) (u : Modifier) (w : ℕ) → WordsLow (h .memory) → sound text (h .words) ≡ true → sound text (delayed text t h u w .words) ≡ true
-delayed-sound text t h u w low e =
+-- A delay unit's turn keeps a machine valid.
+delayed-valid : (text : Text) (t : ℕ) (h : Held) (u : Modifier) (w : ℕ) → WordsLow (h .memory) → valid text (h .words) ≡ true → valid text (delayed text t h u w .words) ≡ true
+delayed-valid text t h u w low e =
     let d = delayOf (h .words) (unitOf u) in
-    words-by text t h u w (λ m. sound text m ≡ true) e
-    (sound-delay-put text (h .words) e (unitOf u) (mod-lt (u .mrm) (pow-pos 5)) (turnOf d (h .memory) w .unit)
+    words-by text t h u w (λ m. valid text m ≡ true) e
+    (valid-delay-put text (h .words) e (unitOf u) (mod-lt (u .mrm) (pow-pos 5)) (delayTurnOf d (h .memory) w .unit)
     (turn-ranged d (h .memory) w (loaded-ranged (drop (delayAt (unitOf u)) (h .words))) low))
 
--- The modifiers keep a machine sound.
-modified-sound : (text : Text) (t : ℕ) (h : Held) (s : Sums) (n : ℕ) → n ≤ 128 → WordsLow (h .memory) → sound text (h .words) ≡ true → sound text (modifiedBy text t h s n .held .words) ≡ true
+-- The modifiers keep a machine valid.
+modified-valid : (text : Text) (t : ℕ) (h : Held) (s : Sums) (n : ℕ) → n ≤ 128 → WordsLow (h .memory) → valid text (h .words) ≡ true → valid text (modifiedBy text t h s n .held .words) ≡ true
 unfolding modifiedBy modified modify
-modified-sound text t h s zero b low e = e
-modified-sound text t h s (suc n) b low e =
+modified-valid text t h s zero b low e = e
+modified-valid text t h s (suc n) b low e =
     let v = modified text t h s n in
     let early = earlyView (getD s modifierThis []) n (v .writes) in
     let late = lateView (getD s modifierThis []) n (v .writes) in
     let u = modifierOf (v .held .words) n in
     let turn = turnSeen text t (v .held .words) s early late u in
-    delayed-sound text t (record { words = stored (v .held .words) (modifierAt n) (turn .unit); memory = v .held .memory }) u (turn .unit .l1) (memory-low text t h s n low)
-    (sound-modifier-put text (v .held .words) (modified-sound text t h s n (omega arith) low e) n (omega arith) (turn .unit) (turn-seen-low text t s early late (v .held .words) n .ranged))
+    delayed-valid text t (record { words = stored (v .held .words) (modifierAt n) (turn .unit); memory = v .held .memory }) u (turn .unit .l1) (memory-low text t h s n low)
+    (valid-modifier-put text (v .held .words) (modified-valid text t h s n (omega arith) low e) n (omega arith) (turn .unit) (turn-seen-low text t s early late (v .held .words) n .ranged))
 
 module _ (text : Text) (t : ℕ) (h : Held) (s : Sums) where
   -- The machine's words and sum memory after them.
@@ -139,13 +139,13 @@ module _ (text : Text) (t : ℕ) (h : Held) (s : Sums) where
         getD-set-other (closed wordsAfter sumsAfter) counterAt (quadrantAt generatorThis + w) ((getD (closed wordsAfter sumsAfter) counterAt 0 + 1) % 2 ^ counterBits) 0 (λ z. omega arith)
         ∙ closed-generator-this wordsAfter sumsAfter after-quadrants (same-reach (words-length text t h s (t / 2)) r) w b
 
-    -- They keep a machine sound.
-    pub completed-sound : t ≤ 256 → WordsLow (h .memory) → sound text (h .words) ≡ true → Reaches (h .words)
+    -- They keep a machine valid.
+    pub completed-valid : t ≤ 256 → WordsLow (h .memory) → valid text (h .words) ≡ true → Reaches (h .words)
         → ((i : ℕ) → i < 64 → getD (getD s generatorThis []) i 0 < 2 ^ 20) → ((i : ℕ) → i < 64 → getD (getD s modifierThis []) i 0 < 2 ^ 20)
-        → sound text (completed text t h s .words) ≡ true
+        → valid text (completed text t h s .words) ≡ true
     unfolding completed
-    completed-sound b low e r low₀ low₂ =
-        sound-counted text (closed wordsAfter sumsAfter)
-        (sound-closed text wordsAfter sumsAfter (modified-sound text t h s (t / 2) (omega arith) low e) (same-reach (words-length text t h s (t / 2)) r) after-quadrants
+    completed-valid b low e r low₀ low₂ =
+        valid-counted text (closed wordsAfter sumsAfter)
+        (valid-closed text wordsAfter sumsAfter (modified-valid text t h s (t / 2) (omega arith) low e) (same-reach (words-length text t h s (t / 2)) r) after-quadrants
         (λ i l. rw (other-after 0 (λ q. omega arith)) (low₀ i l))
         (λ i l. rw this-after (this-low text t h s (t / 2) i (low₂ i l))))

@@ -11,15 +11,15 @@ use borrow.Author.Tests.{eq-eqb, eqb-false, ltb-true}
 use lib.Dec.{eqb, ltb}
 use lib.ListN.{length, getD, set, length-set}
 use lib.Seq.{getD-set-other}
-use Rattle.lists.specs.Lists.{count}
-use Rattle.lists.proofs.Choices.{of-cond}
+use Rattle.base_lists.specs.Lists.{count}
+use Rattle.base_lists.proofs.Choices.{of-cond}
 use Rattle.layout.specs.Layout.{generatorAt, dacAt}
 use Rattle.layout.specs.Machine.{Machine, Order, Items, Sums}
-use Rattle.words.proofs.Residues.{sum-low}
-use Rattle.sums.specs.Sums.{putSum}
-use Rattle.sums.proofs.Memory.{Quadrants, put-other, put-quadrants}
+use Rattle.base_words.proofs.Residues.{sum-low}
+use Rattle.pass_sums.specs.Sums.{putSum}
+use Rattle.pass_sums.proofs.Memory.{Quadrants, put-other, put-quadrants}
 use Rattle.generator.specs.Generator.{stored}
-use Rattle.pass_model.specs.Generators.{Brought, Generators, State, told, fed, summed, step, steps}
+use Rattle.pass_model.specs.Generators.{Contribution, Generators, State, triggeredBelow, fed, summed, step, steps}
 use Rattle.pass_model.proofs.Puts.{Apart, put-length, put-apart}
 
 -- What each step keeps, of an entry that a condition holds of, a whole order keeps.
@@ -36,50 +36,50 @@ pub steps-keep-all : (of : Generators) (items : Items) (P : State → Type 0) �
 steps-keep-all of items P f order s p = steps-keep of items (λ g. g ≡ g) P (λ s g c. f s g) order (λ i h. refl) s p
 
 -- What the generator that a step takes brings, and the words with it put back after its turn.
-abbrev pub broughtAt : Generators → State → ℕ → Brought
-broughtAt of s g = of .turn (s .words) (s .sums) g (told (of .distance) (s .triggered) g)
+abbrev pub contributionAt : Generators → State → ℕ → Contribution
+contributionAt of s g = of .turn (s .words) (s .sums) g (triggeredBelow (of .distance) (s .triggered) g)
 
 abbrev pub putBack : Generators → State → ℕ → Machine
-putBack of s g = stored (s .words) (generatorAt g) (broughtAt of s g .unit)
+putBack of s g = stored (s .words) (generatorAt g) (contributionAt of s g .unit)
 
 -- The DACs that a text names are the sixteen.
 pub record Sixteen (of : Generators) : Type 0 where
-  pub dac-low : (words : Machine) (sums : Sums) (g : ℕ) (told : Bool) → of .turn words sums g told .dac < 16
+  pub dac-low : (words : Machine) (sums : Sums) (g : ℕ) (triggeredBelow : Bool) → of .turn words sums g triggeredBelow .dac < 16
 
 module _ (of : Generators) (items : Items) (s : State) (g : ℕ) where
   -- The words of a step.
-  pub step-words : step of items s g .words ≡ fed (putBack of s g) (broughtAt of s g)
+  pub step-words : step of items s g .words ≡ fed (putBack of s g) (contributionAt of s g)
   unfolding step
   step-words = refl
 
   -- What holds of the words with the generator put back, and after a DAC word is replaced too, holds of a step's words.
-  pub words-by : (P : Machine → Type 0) → P (putBack of s g) → P (set (putBack of s g) (dacAt (broughtAt of s g .dac)) (broughtAt of s g .sends))
+  pub words-by : (P : Machine → Type 0) → P (putBack of s g) → P (set (putBack of s g) (dacAt (contributionAt of s g .dac)) (contributionAt of s g .sends))
       → P (step of items s g .words)
   unfolding step fed
-  words-by P stays feeds = of-cond P (broughtAt of s g .feeds) feeds stays
+  words-by P stays feeds = of-cond P (contributionAt of s g .feeds) feeds stays
 
   -- Sum memory is left or has one word of generator-this replaced by one of 20 bits.
-  pub sums-by : (P : Sums → Type 0) → P (s .sums) → ((v : ℕ) → v < 2 ^ 20 → P (putSum (s .sums) (broughtAt of s g .word) v)) → P (step of items s g .sums)
+  pub sums-by : (P : Sums → Type 0) → P (s .sums) → ((v : ℕ) → v < 2 ^ 20 → P (putSum (s .sums) (contributionAt of s g .word) v)) → P (step of items s g .sums)
   unfolding step summed
   sums-by P stays puts =
-      of-cond P (broughtAt of s g .replaces) (puts _ (sum-low 20 _ _)) (of-cond P (broughtAt of s g .adds) (puts _ (sum-low 20 _ _)) stays)
+      of-cond P (contributionAt of s g .replaces) (puts _ (sum-low 20 _ _)) (of-cond P (contributionAt of s g .adds) (puts _ (sum-low 20 _ _)) stays)
 
   put-back-length : length (putBack of s g) ≡ length (s .words)
-  put-back-length = put-length (s .words) g (broughtAt of s g .unit)
+  put-back-length = put-length (s .words) g (contributionAt of s g .unit)
 
   put-back-apart : (i : ℕ) → Apart i g → getD (putBack of s g) i 0 ≡ getD (s .words) i 0
-  put-back-apart i a = put-apart (s .words) g (broughtAt of s g .unit) i a
+  put-back-apart i a = put-apart (s .words) g (contributionAt of s g .unit) i a
 
   pub step-length : length (step of items s g .words) ≡ length (s .words)
   step-length =
       words-by (λ (w : Machine). length w ≡ length (s .words)) put-back-length
-      (length-set (putBack of s g) (dacAt (broughtAt of s g .dac)) (broughtAt of s g .sends) ∙ put-back-length)
+      (length-set (putBack of s g) (dacAt (contributionAt of s g .dac)) (contributionAt of s g .sends) ∙ put-back-length)
 
   -- The words of g itself are those with it put back.
   pub step-own : (i : ℕ) → i < 4096 → getD (step of items s g .words) i 0 ≡ getD (putBack of s g) i 0
   step-own i h =
       words-by (λ (w : Machine). getD w i 0 ≡ getD (putBack of s g) i 0) refl
-      (getD-set-other (putBack of s g) (dacAt (broughtAt of s g .dac)) i (broughtAt of s g .sends) 0 (λ e. omega arith))
+      (getD-set-other (putBack of s g) (dacAt (contributionAt of s g .dac)) i (contributionAt of s g .sends) 0 (λ e. omega arith))
 
   -- A word that is none of the four registers of g, nor a DAC word.
   pub step-below : (i : ℕ) → i < 4096 → Apart i g → getD (step of items s g .words) i 0 ≡ getD (s .words) i 0
@@ -87,22 +87,22 @@ module _ (of : Generators) (items : Items) (s : State) (g : ℕ) where
 
   step-beyond : Sixteen of → (i : ℕ) → 4112 ≤ i → Apart i g → getD (step of items s g .words) i 0 ≡ getD (s .words) i 0
   step-beyond k i h a =
-      let low = k .dac-low (s .words) (s .sums) g (told (of .distance) (s .triggered) g) in
+      let low = k .dac-low (s .words) (s .sums) g (triggeredBelow (of .distance) (s .triggered) g) in
       words-by (λ (w : Machine). getD w i 0 ≡ getD (s .words) i 0) (put-back-apart i a)
-      (getD-set-other (putBack of s g) (dacAt (broughtAt of s g .dac)) i (broughtAt of s g .sends) 0 (λ e. omega (arith, low)) ∙ put-back-apart i a)
+      (getD-set-other (putBack of s g) (dacAt (contributionAt of s g .dac)) i (contributionAt of s g .sends) 0 (λ e. omega (arith, low)) ∙ put-back-apart i a)
 
   -- Each quadrant but generator-this.
   pub step-quadrant : (q : ℕ) → q ≢ 0 → getD (step of items s g .sums) q [] ≡ getD (s .sums) q []
   step-quadrant q n =
-      sums-by (λ (t : Sums). getD t q [] ≡ getD (s .sums) q []) refl (λ v h. put-other (s .sums) (broughtAt of s g .word) v q n)
+      sums-by (λ (t : Sums). getD t q [] ≡ getD (s .sums) q []) refl (λ v h. put-other (s .sums) (contributionAt of s g .word) v q n)
 
   pub step-quadrants : Quadrants (s .sums) → Quadrants (step of items s g .sums)
-  step-quadrants k = sums-by Quadrants k (λ v h. put-quadrants (s .sums) (broughtAt of s g .word) v k)
+  step-quadrants k = sums-by Quadrants k (λ v h. put-quadrants (s .sums) (contributionAt of s g .word) v k)
 
   step-triggered : length (step of items s g .triggered) ≡ length (s .triggered)
   unfolding step
   step-triggered =
-      of-cond (λ (l : List ℕ). length l ≡ length (s .triggered)) (broughtAt of s g .triggers) (length-set (s .triggered) g 1) refl
+      of-cond (λ (l : List ℕ). length l ≡ length (s .triggered)) (contributionAt of s g .triggers) (length-set (s .triggered) g 1) refl
 
 -- Words apart from the four registers that the turn of g changes: those past the generators, those of another generator, and settings.
 pub apart-past : (g i : ℕ) → g < 256 → 2816 ≤ i → Apart i g

@@ -2,10 +2,10 @@ pub mod Frames
 pub mod Orders
 pub mod Turns
 pub mod TextTurns
-pub mod SoundPuts
+pub mod ValidPuts
 pub mod Passing
 pub mod Completing
-pub mod PassSound
+pub mod PassValid
 pub mod PassModes
 pub mod PassSettings
 pub mod PassDelays

@@ -7,11 +7,11 @@ use native.Mathlib.Omega.{arith}
 use lib.ListN.{getD}
 use Rattle.layout.specs.Layout.{counterAt}
 use Rattle.layout.specs.Machine.{Machine, Sums, ticksOf}
-use Rattle.texts.specs.declared.Text.the-variants.{Old}
-use Rattle.machine.proofs.SoundMachine.{reaches}
-use Rattle.sums.specs.Sums.{sumsOf}
-use Rattle.sums.proofs.Blocks.{outside-after}
-use Rattle.sums.proofs.Memory.{sums-quadrants}
+use Rattle.layout_texts.specs.declared.Text.the-variants.{Old}
+use Rattle.machine.proofs.ValidMachine.{reaches}
+use Rattle.pass_sums.specs.Sums.{sumsOf}
+use Rattle.pass_sums.proofs.Blocks.{outside-after}
+use Rattle.pass_sums.proofs.Memory.{sums-quadrants}
 use Rattle.pass_model.specs.Generators.{generatorsOf, begun}
 use Rattle.pass_model.specs.Modifiers.{Held}
 use Rattle.pass_model.specs.Pass.{Call, Outcome, completed, passRefusal, passOf, ran}

@@ -8,13 +8,13 @@ use native.Mathlib.Omega.{arith}
 use borrow.Author.Tests.{eqb-true, eqb-false}
 use lib.Dec.{eqb}
 use lib.ListN.{length, getD}
-use Rattle.lists.specs.Lists.{count}
+use Rattle.base_lists.specs.Lists.{count}
 use Rattle.layout.specs.Machine.{Order}
-use Rattle.order.specs.Order.{IsOrder}
-use Rattle.lists.proofs.Counts.{count-first, count-next}
-use Rattle.order_lists.specs.Sequences.{byNumber}
-use Rattle.order_lists.proofs.ByNumber.{by-number-length, by-number-at, by-number-once}
-use Rattle.order_lists.proofs.Orders.{there-once}
+use Rattle.pass_order.specs.Order.{IsOrder}
+use Rattle.base_lists.proofs.Counts.{count-first, count-next}
+use Rattle.base_sequences.specs.Sequences.{byNumber}
+use Rattle.base_sequences.proofs.ByNumber.{by-number-length, by-number-at, by-number-once}
+use Rattle.base_sequences.proofs.Orders.{there-once}
 
 -- The order by number.
 pub by-number-order : (t : ℕ) → IsOrder t (byNumber t)

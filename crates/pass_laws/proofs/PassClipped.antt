@@ -6,11 +6,11 @@ use Prim.Native.Nat.{ℕ, _≤_, _<_}
 use native.Mathlib.Omega.{arith}
 use borrow.Author.Tests.{ne-eqb}
 use lib.ListN.{length, getD}
-use Rattle.lists.proofs.Zeros.{zeros-length, zeros-at}
+use Rattle.base_lists.proofs.Zeros.{zeros-length, zeros-at}
 use Rattle.layout.specs.Layout.{quadrantWords}
 use Rattle.layout.specs.Machine.{Machine}
-use Rattle.texts.specs.declared.Text.{Text}
-use Rattle.sums.specs.Sums.{sumsOf}
+use Rattle.layout_texts.specs.declared.Text.{Text}
+use Rattle.pass_sums.specs.Sums.{sumsOf}
 use Rattle.pass_model.specs.Generators.{generatorsOf, begun, State}
 use Rattle.pass_model.specs.Clipped.{noMarks, markedBy, SumLeft}
 use Rattle.pass_model.specs.Pass.{Call, Outcome, generatorsClipped, finished, ran, refused, passRefusal, passOf}

@@ -9,31 +9,31 @@ use native.Mathlib.Omega.{arith}
 use native.Mathlib.Nat.{zero-add, add-zero, mod-add-mod}
 use lib.Dec.{eqb, lit<, lit≤}
 use lib.ListN.{length, getD}
-use Rattle.words.proofs.Residues.{wrapped}
+use Rattle.base_words.proofs.Residues.{wrapped}
 use Rattle.layout.specs.Layout.{generatorAt, counterAt}
 use Rattle.layout.specs.Widths.{counterBits, lingerBits}
 use Rattle.layout.specs.Machine.{Machine, Order, Items, ticksOf, lowCounter}
-use Rattle.texts.specs.Texts.{runModeAt, distanceOf}
-use Rattle.texts.specs.declared.Text.{Text}
-use Rattle.modes.specs.Modes.{replaces, readData, writeData}
-use Rattle.modes.proofs.RunModes.{replaces-is}
-use Rattle.machine.specs.Questions.{sound}
-use Rattle.machine.proofs.SoundMachine.{reaches}
-use Rattle.sums.specs.Sums.{sumsOf}
-use Rattle.sums.proofs.Memory.{sums-quadrants}
-use Rattle.order.specs.Order.{inMode}
-use Rattle.order_lists.specs.Sequences.{keep}
-use Rattle.order_lists.proofs.Entries.{keep-same}
-use Rattle.order_lists.proofs.Orders.{keep-order-same, length-keep}
+use Rattle.layout_texts.specs.Texts.{runModeAt, distanceOf}
+use Rattle.layout_texts.specs.declared.Text.{Text}
+use Rattle.layout_modes.specs.Modes.{replaces, readData, writeData}
+use Rattle.layout_modes.proofs.RunModes.{replaces-is}
+use Rattle.machine.specs.Questions.{valid}
+use Rattle.machine.proofs.ValidMachine.{reaches}
+use Rattle.pass_sums.specs.Sums.{sumsOf}
+use Rattle.pass_sums.proofs.Memory.{sums-quadrants}
+use Rattle.pass_order.specs.Order.{inMode}
+use Rattle.base_sequences.specs.Sequences.{keep}
+use Rattle.base_sequences.proofs.Entries.{keep-same}
+use Rattle.base_sequences.proofs.Orders.{keep-order-same, length-keep}
 use Rattle.generator.specs.declared.Generator.{Generator}
-use Rattle.pass_model.specs.Generators.{generatorsOf, State, generatorOf, told, step, steps, begun}
-use Rattle.generator_turn.specs.GeneratorTurn.{runOf}
+use Rattle.pass_model.specs.Generators.{generatorsOf, State, generatorOf, triggeredBelow, step, steps, begun}
+use Rattle.generator_turn.specs.AsCoded.{runOf}
 use Rattle.pass_model.proofs.Keeps.{turn-keeps}
 use Rattle.pass_model.proofs.Turns.{run-loaded}
 use Rattle.pass_model.specs.Pass.{Call, passRefusal, passOf}
 use Rattle.pass_laws.proofs.Frames.{apart-other, not-there, step-below, steps-length, steps-beyond, steps-quadrants}
 use Rattle.pass_laws.proofs.TextTurns.{sixteen, same-generator}
-use Rattle.pass_laws.proofs.SoundPuts.{gmode-loaded}
+use Rattle.pass_laws.proofs.ValidPuts.{gmode-loaded}
 use Rattle.pass_laws.proofs.Passing.{Admitted, generatorsDone, heldThen, admitted, let-through, ran-machine, ran-read, ran-written}
 use Rattle.pass_laws.proofs.Completing.{completed-counter}
 use Rattle.pass_laws.proofs.Orders.{Distinct, distinct-order, distinct-first, distinct-rest}
@@ -64,14 +64,14 @@ steps-count text items c n on (g ∷ order) s d =
 
 reads-on : (text : Text) (items : Items) (t : State) (g : ℕ) → step (generatorsOf text) items t g .reads ≡ cond (replaces (runOf text (generatorOf (t .words) g))) (suc (t .reads)) (t .reads)
 unfolding step
-reads-on text items t g = rw (turn-keeps text (t .words) (t .sums) g (told (distanceOf text) (t .triggered) g) .replaces) refl
+reads-on text items t g = rw (turn-keeps text (t .words) (t .sums) g (triggeredBelow (distanceOf text) (t .triggered) g) .replaces) refl
 
 writes-on : (text : Text) (items : Items) (t : State) (g : ℕ) → step (generatorsOf text) items t g .writes ≡ cond (eqb (runOf text (generatorOf (t .words) g)) writeData) (suc (t .writes)) (t .writes)
 unfolding step
-writes-on text items t g = rw (turn-keeps text (t .words) (t .sums) g (told (distanceOf text) (t .triggered) g) .writes) refl
+writes-on text items t g = rw (turn-keeps text (t .words) (t .sums) g (triggeredBelow (distanceOf text) (t .triggered) g) .writes) refl
 
--- The run mode of a generator of a sound machine.
-pub run-mode-loaded : (text : Text) (m : Machine) → sound text m ≡ true → (g : ℕ) → g < 256 → runOf text (generatorOf m g) ≡ runModeAt text m g
+-- The run mode of a generator of a valid machine.
+pub run-mode-loaded : (text : Text) (m : Machine) → valid text m ≡ true → (g : ℕ) → g < 256 → runOf text (generatorOf m g) ≡ runModeAt text m g
 run-mode-loaded text m e g h = run-loaded text m g (gmode-loaded text m e g h)
 
 module _ (text : Text) (m : Machine) (call : Call) (e : passRefusal text m call ≡ 0) where
@@ -88,7 +88,7 @@ module _ (text : Text) (m : Machine) (call : Call) (e : passRefusal text m call 
       let o = p .is-order in
       ap length
       (keep-order-same (ticksOf m) (call .order) (o .once) (o .below) (λ g. c (runOf text (generatorOf m g))) (λ g. eqb (runModeAt text m g) r)
-      (λ g h. is (runOf text (generatorOf m g)) ∙ ap (λ (x : ℕ). eqb x r) (run-mode-loaded text m (p .good .is-sound) g (omega (arith, p .ticks)))))
+      (λ g h. is (runOf text (generatorOf m g)) ∙ ap (λ (x : ℕ). eqb x r) (run-mode-loaded text m (p .good .is-valid) g (omega (arith, p .ticks)))))
       ∙ length-keep (ticksOf m) (call .order) (o .once) (o .below) (λ g. eqb (runModeAt text m g) r)
 
   -- The items read are as many as there are 0111s below T, and the items written as many as there are 0011s.

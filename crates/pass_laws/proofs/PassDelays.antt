@@ -8,16 +8,16 @@ use native.Mathlib.Omega.{arith}
 use lib.Dec.{lit<}
 use lib.ListN.{length, getD, set, drop}
 use lib.Seq.{getD-drop, getD-set-other}
-use Rattle.lists.specs.Lists.{allBelow}
-use Rattle.lists.proofs.Below.{below-same}
+use Rattle.base_lists.specs.Lists.{allBelow}
+use Rattle.base_lists.proofs.Below.{below-same}
 use Rattle.layout.specs.Layout.{modifierAt, tAt, MRM, MMODE, delayAt, delayWords, delayX, delayY, delayZ, delayP}
 use Rattle.layout.specs.Machine.{Machine, ticksOf}
-use Rattle.texts.specs.declared.Text.{Text}
-use Rattle.texts.specs.declared.Text.the-variants.{Of1978, Old}
-use Rattle.questions.specs.Questions.{asked}
-use Rattle.machine.proofs.SoundMachine.{reaches}
-use Rattle.sums.specs.Sums.{sumsOf}
-use Rattle.sums.proofs.Memory.{sums-quadrants}
+use Rattle.layout_texts.specs.declared.Text.{Text}
+use Rattle.layout_texts.specs.declared.Text.the-variants.{Of1978, Old}
+use Rattle.base_questions.specs.Questions.{asked}
+use Rattle.machine.proofs.ValidMachine.{reaches}
+use Rattle.pass_sums.specs.Sums.{sumsOf}
+use Rattle.pass_sums.proofs.Memory.{sums-quadrants}
 use Rattle.delay.specs.Delay.{loaded}
 use Rattle.delay_questions.specs.Questions.{memoryGood, goodLine, linesGood, namedOnce, namedBy, delayOf, fits}
 use Rattle.delay_questions.proofs.Kept.{SameModifiers, fits-kept, named-once-same, good-line-same, lines-good-kept}

@@ -7,13 +7,13 @@ use native.Mathlib.Omega.{arith}
 use lib.Dec.{eqb}
 use lib.ListN.{set}
 use lib.Seq.{getD-set-other}
-use Rattle.lists.proofs.Counts.{count-below-same}
+use Rattle.base_lists.proofs.Counts.{count-below-same}
 use Rattle.layout.specs.Layout.{generatorAt, tAt, GN, GMODE}
 use Rattle.layout.specs.Machine.{Machine, ticksOf}
-use Rattle.texts.specs.Texts.{runModeAt}
-use Rattle.texts.specs.declared.Text.{Text}
-use Rattle.modes.specs.Modes.{wait, runningC}
-use Rattle.order.specs.Order.{inMode}
+use Rattle.layout_texts.specs.Texts.{runModeAt}
+use Rattle.layout_texts.specs.declared.Text.{Text}
+use Rattle.layout_modes.specs.Modes.{wait, runningC}
+use Rattle.pass_order.specs.Order.{inMode}
 use Rattle.pass_model.specs.Pass.{Call, passOf}
 use Rattle.pass_model.proofs.Keeps.{same-run}
 use Rattle.pass_laws.proofs.PassSettings.{pass-settings}

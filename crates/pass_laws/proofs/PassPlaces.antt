@@ -8,11 +8,11 @@ use native.Mathlib.Omega.{arith}
 use borrow.Author.Tests.{ne-eqb}
 use lib.ListN.{length, getD, set, length-set}
 use lib.Seq.{getD-set-other}
-use Rattle.lists.proofs.Choices.{of-cond}
+use Rattle.base_lists.proofs.Choices.{of-cond}
 use Rattle.layout.specs.Machine.{Machine, Items, Places}
-use Rattle.texts.specs.declared.Text.{Text}
-use Rattle.sums.specs.Sums.{sumsOf}
-use Rattle.pass_model.specs.Generators.{Generators, generatorsOf, State, broughtBy, step, begun, takenBy}
+use Rattle.layout_texts.specs.declared.Text.{Text}
+use Rattle.pass_sums.specs.Sums.{sumsOf}
+use Rattle.pass_model.specs.Generators.{Generators, generatorsOf, State, contributionOf, step, begun, takenBy}
 use Rattle.pass_model.specs.Pass.{Call, Outcome, generatorsTaken, finished, ran, refused, passRefusal, passOf}
 use Rattle.pass_laws.proofs.Frames.{steps-keep-all}
 use Rattle.pass_laws.proofs.Passing.{generatorsDone, pass-by, ran-written}
@@ -23,10 +23,10 @@ Kept places i t = t .writes ≤ i → getD (t .places) i 0 ≡ getD places i 0
 
 step-kept : (of : Generators) (items : Items) (places : Places) (i : ℕ) (t : State) (g : ℕ) → Kept places i t → Kept places i (step of items t g)
 unfolding step
-step-kept of items places i t g k = go (broughtBy of t g .writes)
+step-kept of items places i t g k = go (contributionOf of t g .writes)
   where
     sent : ℕ
-    sent = broughtBy of t g .sends
+    sent = contributionOf of t g .sends
 
     go : (b : Bool) → cond b (suc (t .writes)) (t .writes) ≤ i → getD (cond b (set (t .places) (t .writes) sent) (t .places)) i 0 ≡ getD places i 0
     go true h = getD-set-other (t .places) (t .writes) i sent 0 (λ e. omega arith) ∙ k (omega arith)
@@ -35,7 +35,7 @@ step-kept of items places i t g k = go (broughtBy of t g .writes)
 step-long : (of : Generators) (items : Items) (n : ℕ) (t : State) (g : ℕ) → length (t .places) ≡ n → length (step of items t g .places) ≡ n
 unfolding step
 step-long of items n t g e =
-    of-cond (λ (l : Places). length l ≡ n) (broughtBy of t g .writes) (length-set (t .places) (t .writes) (broughtBy of t g .sends) ∙ e) e
+    of-cond (λ (l : Places). length l ≡ n) (contributionOf of t g .writes) (length-set (t .places) (t .writes) (contributionOf of t g .sends) ∙ e) e
 
 module _ (text : Text) (m : Machine) (call : Call) where
   ran-places : ran text m call .places ≡ generatorsDone text m call .places

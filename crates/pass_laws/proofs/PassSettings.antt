@@ -10,15 +10,15 @@ use borrow.Author.Tests.{eqb-true, eqb-false, ltb-true}
 use lib.Dec.{eqb, ltb, lit<, lit≤}
 use lib.ListN.{length, getD}
 use Rattle.layout.specs.Layout.{generatorAt, modifierAt, dxAt, tAt, nAt, updateTicksAt, counterAt, lingeringAt, lingerPassAt, overrunAt, updateTicksAt, delayAt, delayX, delayY, delayZ, delayP, GN, GMODE}
-use Rattle.machine.specs.Questions.{sound}
-use Rattle.machine.proofs.SoundMachine.{reaches}
+use Rattle.machine.specs.Questions.{valid}
+use Rattle.machine.proofs.ValidMachine.{reaches}
 use Rattle.layout.specs.Machine.{Machine, Order, Items, ticksOf}
-use Rattle.texts.specs.Texts.{distanceOf}
-use Rattle.texts.specs.declared.Text.{Text}
-use Rattle.sums.specs.Sums.{sumsOf}
-use Rattle.sums.proofs.Blocks.{Outside, outside-before, outside-after}
-use Rattle.sums.proofs.Memory.{sums-quadrants}
-use Rattle.pass_model.specs.Generators.{Generators, generatorsOf, State, told, step, steps, begun}
+use Rattle.layout_texts.specs.Texts.{distanceOf}
+use Rattle.layout_texts.specs.declared.Text.{Text}
+use Rattle.pass_sums.specs.Sums.{sumsOf}
+use Rattle.pass_sums.proofs.Blocks.{Outside, outside-before, outside-after}
+use Rattle.pass_sums.proofs.Memory.{sums-quadrants}
+use Rattle.pass_model.specs.Generators.{Generators, generatorsOf, State, triggeredBelow, step, steps, begun}
 use Rattle.pass_model.specs.Pass.{Call, Outcome, ran, passOf}
 use Rattle.pass_model.proofs.Delays.{OffUnits, off-below, off-past, off-setting}
 use Rattle.pass_model.proofs.Modifiers.{Elsewhere}
@@ -27,18 +27,18 @@ use Rattle.pass_laws.specs.Settings.{SettingsKept}
 use Rattle.pass_laws.proofs.Frames.{setting, apart-setting, apart-other, step-length, step-below, steps-keep, steps-middle, steps-beyond, steps-setting, steps-quadrants}
 use Rattle.pass_laws.proofs.Turns.{step-registers}
 use Rattle.pass_laws.proofs.TextTurns.{sixteen}
-use Rattle.pass_laws.proofs.SoundPuts.{gmode-loaded}
+use Rattle.pass_laws.proofs.ValidPuts.{gmode-loaded}
 use Rattle.pass_laws.proofs.Passing.{Admitted, generatorsDone, heldThen, begun-words, begun-sums, admitted, pass-by, refused-machine, ran-machine}
 use Rattle.pass_laws.proofs.Completing.{completed-word}
-use Rattle.pass_laws.proofs.PassSound.{step-sound}
+use Rattle.pass_laws.proofs.PassValid.{step-valid}
 
--- Of the turns of an order, on a sound machine.
+-- Of the turns of an order, on a valid machine.
 record Modes (text : Text) (m : Machine) (k : ℕ) (words : Machine) : Type 0 where
-  is-sound : sound text words ≡ true
+  is-valid : valid text words ≡ true
   reach : 2816 ≤ length words
   kept : ModeKept text m words k
 
-step-mode : (text : Text) (items : Items) (s : State) (g k : ℕ) → g < 256 → k < 256 → sound text (s .words) ≡ true → 2816 ≤ length (s .words)
+step-mode : (text : Text) (items : Items) (s : State) (g k : ℕ) → g < 256 → k < 256 → valid text (s .words) ≡ true → 2816 ≤ length (s .words)
     → ModeKept text (s .words) (step (generatorsOf text) items s g .words) k
 step-mode text items s g k h l e r = go (eqb k g) refl
   where
@@ -50,7 +50,7 @@ step-mode text items s g k h l e r = go (eqb k g) refl
 
     own : k ≡ g → ModeKept text (s .words) (step of items s g .words) k
     own q =
-        turn-keeps text (s .words) (s .sums) k (told (distanceOf text) (s .triggered) k) .mode (step of items s g .words)
+        turn-keeps text (s .words) (s .sums) k (triggeredBelow (distanceOf text) (s .triggered) k) .mode (step of items s g .words)
         (gmode-loaded text (s .words) e k l) (rw q (step-registers of items s g h r .gmode)) gn
 
     go : (b : Bool) → eqb k g ≡ b → ModeKept text (s .words) (step of items s g .words) k
@@ -60,17 +60,17 @@ step-mode text items s g k h l e r = go (eqb k g) refl
         (step-below of items s g (generatorAt k + GMODE) (omega arith) (apart-other g k 10 (lit< tt) (eqb-false k g q))) gn
 
 steps-mode : (text : Text) (items : Items) (order : Order) (s : State) (k : ℕ) → k < 256 → ((i : ℕ) → i < length order → getD order i 0 < 256)
-    → sound text (s .words) ≡ true → 2816 ≤ length (s .words) → ModeKept text (s .words) (steps (generatorsOf text) items s order .words) k
+    → valid text (s .words) ≡ true → 2816 ≤ length (s .words) → ModeKept text (s .words) (steps (generatorsOf text) items s order .words) k
 steps-mode text items order s k l below e r =
     steps-keep (generatorsOf text) items (λ g. g < 256) (λ t. Modes text (s .words) k (t .words)) next order below s
-    (record { is-sound = e; reach = r; kept = mode-same text (s .words) (s .words) k refl refl }) .kept
+    (record { is-valid = e; reach = r; kept = mode-same text (s .words) (s .words) k refl refl }) .kept
   where
     next : (t : State) (g : ℕ) → g < 256 → Modes text (s .words) k (t .words) → Modes text (s .words) k (step (generatorsOf text) items t g .words)
     next t g h p =
         record {
-          is-sound = step-sound text items t g h (p .is-sound);
+          is-valid = step-valid text items t g h (p .is-valid);
           reach = rw (step-length (generatorsOf text) items t g) (p .reach);
-          kept = mode-on text _ _ _ k (p .kept) (step-mode text items t g k h l (p .is-sound) (p .reach));
+          kept = mode-on text _ _ _ k (p .kept) (step-mode text items t g k h l (p .is-valid) (p .reach));
         }
 
 same-settings : (text : Text) (m : Machine) → SettingsKept text m m
@@ -139,7 +139,7 @@ module _ (text : Text) (m : Machine) (call : Call) (p : Admitted text m (call .o
   unfolding begun
   mode-word g h =
       mode-on text m (done .words) last g
-      (steps-mode text (call .items) (call .order) start g h (p .below) (p .good .is-sound) (omega (arith, reaches m (p .good .whole) .all)))
+      (steps-mode text (call .items) (call .order) start g h (p .below) (p .good .is-valid) (omega (arith, reaches m (p .good .whole) .all)))
       (mode-same text (done .words) last g (generator-word (generatorAt g + GMODE) (omega arith)) (generator-word (generatorAt g + GN) (omega arith)))
 
   ran-settings : SettingsKept text m last

@@ -7,24 +7,24 @@ use Prim.Native.Nat.{ℕ, zero, suc, _+_}
 use native.Mathlib.Nat.{zero-add, suc-add}
 use lib.ListN.{replicate}
 use Rattle.layout.specs.Machine.{Machine, Order, Memory, ticksOf}
-use Rattle.texts.specs.declared.Text.{Text}
+use Rattle.layout_texts.specs.declared.Text.{Text}
 use Rattle.delay_questions.specs.Questions.{memoryGood}
 use Rattle.pass_model.specs.Pass.{writtenData, passOf}
 use Rattle.pass_laws.specs.Good.{Good}
 use Rattle.pass_laws.specs.Passes.{PassData, callOf, Rung, rungBy, noData, passesByNumber}
-use Rattle.pass_laws.proofs.PassSound.{pass-sound}
+use Rattle.pass_laws.proofs.PassValid.{pass-valid}
 use Rattle.pass_laws.proofs.PassDelays.{pass-memory}
 use Rattle.pass_laws.proofs.PassSettings.{pass-settings}
-use Rattle.order_lists.specs.Sequences.{byNumber}
+use Rattle.base_sequences.specs.Sequences.{byNumber}
 
 module _ (text : Text) (order : Order) where
   -- Questions 1, 2 and 10 stay answered yes.
-  pub rung-sound : (ds : List PassData) (m : Machine) (memory : Memory) → Good text m → Good text (rungBy text order m memory ds .machine)
+  pub rung-valid : (ds : List PassData) (m : Machine) (memory : Memory) → Good text m → Good text (rungBy text order m memory ds .machine)
   unfolding rungBy
-  rung-sound [] m memory good = good
-  rung-sound (d ∷ ds) m memory good =
+  rung-valid [] m memory good = good
+  rung-valid (d ∷ ds) m memory good =
       let r = passOf text m (callOf order memory d) in
-      rung-sound ds (r .machine) (r .memory) (pass-sound text m (callOf order memory d) good)
+      rung-valid ds (r .machine) (r .memory) (pass-valid text m (callOf order memory d) good)
 
   pub rung-memory : (ds : List PassData) (m : Machine) (memory : Memory) → memoryGood memory ≡ true → memoryGood (rungBy text order m memory ds .memory) ≡ true
   unfolding rungBy

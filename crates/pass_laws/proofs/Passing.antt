@@ -9,16 +9,16 @@ use lib.Dec.{eqb}
 use lib.ListN.{length, getD}
 use Rattle.layout.specs.Layout.{machineLength}
 use Rattle.layout.specs.Machine.{Machine, Order, Sums, Places, ticksOf}
-use Rattle.texts.specs.declared.Text.{Text}
-use Rattle.questions.specs.Questions.{asked}
+use Rattle.layout_texts.specs.declared.Text.{Text}
+use Rattle.base_questions.specs.Questions.{asked}
 use Rattle.machine.specs.Questions.{question1, question2}
-use Rattle.order.specs.Order.{IsOrder}
-use Rattle.order.proofs.Entries.{order-passes}
-use Rattle.sums.specs.Sums.{sumsOf}
+use Rattle.pass_order.specs.Order.{IsOrder}
+use Rattle.pass_order.proofs.Entries.{order-passes}
+use Rattle.pass_sums.specs.Sums.{sumsOf}
 use Rattle.pass_model.specs.Generators.{generatorsOf, State, steps, begun, takenBy}
 use Rattle.pass_model.specs.Modifiers.{Held}
 use Rattle.pass_model.specs.Pass.{Call, Outcome, completed, generatorsTaken, finished, ran, refused, passRefusal, passOf}
-use Rattle.pass_model.proofs.Asked.{passes, is-sound, is-whole, few-ticks, entries-below}
+use Rattle.pass_model.proofs.Asked.{passes, is-valid, is-whole, few-ticks, entries-below}
 use Rattle.pass_laws.specs.Good.{Good}
 
 -- What a machine and an order that are let through are.
@@ -31,7 +31,7 @@ pub record Admitted (text : Text) (m : Machine) (order : Order) : Type 0 where
 -- A good machine passes questions 1 and 2.
 pub good-passes : (text : Text) (m : Machine) → Good text m → asked (question1 m ∷ question2 text m ∷ []) ≡ 0
 unfolding asked
-good-passes text m good = rw (eq-eqb (length m) machineLength (good .whole), good .is-sound)
+good-passes text m good = rw (eq-eqb (length m) machineLength (good .whole), good .is-valid)
 
 -- As a pass begins: its words and sum memory.
 module _ (m : Machine) (sums : Sums) (places : Places) where
@@ -52,7 +52,7 @@ module _ (text : Text) (m : Machine) (call : Call) where
   admitted e =
       let q = passes text m call e in
       record {
-        good = record { whole = is-whole text m (call .order) (q .whole); is-sound = is-sound text m (call .order) (q .whole) };
+        good = record { whole = is-whole text m (call .order) (q .whole); is-valid = is-valid text m (call .order) (q .whole) };
         ticks = few-ticks text m (call .order) (q .whole);
         is-order = order-passes (ticksOf m) (call .order) (q .ordered);
         below = entries-below text m (call .order) (q .whole) (q .ordered);

@@ -7,7 +7,7 @@ use lib.ListN.{getD, drop}
 use lib.Seq.{getD-drop}
 use Rattle.layout.specs.Layout.{generatorAt}
 use Rattle.layout.specs.Machine.{Machine}
-use Rattle.texts.specs.declared.Text.{Text}
+use Rattle.layout_texts.specs.declared.Text.{Text}
 use Rattle.generator.specs.Generator.{loaded}
 use Rattle.pass_model.specs.Generators.{generatorOf, generatorsOf}
 use Rattle.pass_model.proofs.Keeps.{turn-keeps}
@@ -15,7 +15,7 @@ use Rattle.pass_laws.proofs.Frames.{Sixteen}
 
 -- A DAC number is below 16.
 pub sixteen : (text : Text) → Sixteen (generatorsOf text)
-sixteen text = record { dac-low = λ words sums g told. turn-keeps text words sums g told .dac-low }
+sixteen text = record { dac-low = λ words sums g triggeredBelow. turn-keeps text words sums g triggeredBelow .dac-low }
 
 -- A generator is its eleven words.
 pub same-generator : (l m : Machine) (k : ℕ) → ((j : ℕ) → j < 11 → getD l (generatorAt k + j) 0 ≡ getD m (generatorAt k + j) 0) → generatorOf l k ≡ generatorOf m k

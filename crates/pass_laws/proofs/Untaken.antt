@@ -6,15 +6,15 @@ use Prim.Native.Nat.{ℕ, suc, _+_, _≤_, _<_}
 use native.Mathlib.Omega.{arith}
 use lib.Dec.{lit<}
 use lib.ListN.{length, getD}
-use Rattle.lists.specs.Lists.{count}
-use Rattle.lists.proofs.Counts.{count-next}
+use Rattle.base_lists.specs.Lists.{count}
+use Rattle.base_lists.proofs.Counts.{count-next}
 use Rattle.layout.specs.Layout.{generatorAt, GMODE}
 use Rattle.layout.specs.Machine.{Machine, ticksOf, gmodeAt}
-use Rattle.machine.proofs.SoundMachine.{reaches}
-use Rattle.sums.specs.Sums.{sumsOf}
-use Rattle.sums.proofs.Blocks.{outside-before}
-use Rattle.sums.proofs.Memory.{sums-quadrants}
-use Rattle.texts.specs.declared.Text.{Text}
+use Rattle.machine.proofs.ValidMachine.{reaches}
+use Rattle.pass_sums.specs.Sums.{sumsOf}
+use Rattle.pass_sums.proofs.Blocks.{outside-before}
+use Rattle.pass_sums.proofs.Memory.{sums-quadrants}
+use Rattle.layout_texts.specs.declared.Text.{Text}
 use Rattle.pass_model.specs.Generators.{generatorsOf, begun}
 use Rattle.pass_model.specs.Pass.{Call, Outcome, ran, passRefusal, passOf}
 use Rattle.pass_model.proofs.Delays.{off-below}

@@ -5,10 +5,10 @@ use mathlib.Core.Path.{_≡_}
 use lib.ListN.{length}
 use Rattle.layout.specs.Layout.{machineLength}
 use Rattle.layout.specs.Machine.{Machine}
-use Rattle.texts.specs.declared.Text.{Text}
-use Rattle.machine.specs.Questions.{sound}
+use Rattle.layout_texts.specs.declared.Text.{Text}
+use Rattle.machine.specs.Questions.{valid}
 
 -- Its run has the machine's length, and each of its words passes its test.
 pub record Good (text : Text) (m : Machine) : Type 0 where
   pub whole : length m ≡ machineLength
-  pub is-sound : sound text m ≡ true
+  pub is-valid : valid text m ≡ true

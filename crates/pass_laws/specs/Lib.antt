@@ -1,4 +1,4 @@
 pub mod Good
-pub mod Registers
+pub mod AsCoded
 pub mod Passes
 pub mod Settings

@@ -4,9 +4,9 @@ use Prim.Native.Nat.{ℕ}
 use mathlib.Core.List.{List, [], _∷_}
 use lib.ListN.{replicate}
 use Rattle.layout.specs.Machine.{Machine, Order, Items, Places, Memory, ticksOf}
-use Rattle.texts.specs.declared.Text.{Text}
+use Rattle.layout_texts.specs.declared.Text.{Text}
 use Rattle.pass_model.specs.Pass.{Call, writtenData, passOf}
-use Rattle.order_lists.specs.Sequences.{byNumber}
+use Rattle.base_sequences.specs.Sequences.{byNumber}
 
 -- What a pass brings beside the machine and delay memory: items to read, and places for written items.
 pub record PassData : Type 0 where

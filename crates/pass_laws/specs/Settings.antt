@@ -7,9 +7,9 @@ use lib.Dec.{eqb}
 use lib.ListN.{getD}
 use Rattle.layout.specs.Layout.{generatorAt, modifierAt, dxAt, tAt, nAt, lingeringAt, lingerPassAt, overrunAt, updateTicksAt, delayAt, delayX, delayZ, delayP, GN, GM, GP, GL, GSUM, GFM, GMODE, MIN, MRM, MSUM, MMODE}
 use Rattle.layout.specs.Machine.{Machine}
-use Rattle.texts.specs.Texts.{runModeAt, otherModesAt}
-use Rattle.texts.specs.declared.Text.{Text}
-use Rattle.modes.specs.Modes.{wait, runningC}
+use Rattle.layout_texts.specs.Texts.{runModeAt, otherModesAt}
+use Rattle.layout_texts.specs.declared.Text.{Text}
+use Rattle.layout_modes.specs.Modes.{wait, runningC}
 
 -- The registers of generator g of a machine r that a pass does not change are as they are in m: all but GJ, GK, GQ, and of GMODE the run mode of a 1001 and of a 1101,
 -- which stays one of these: it is in another run mode exactly if it was.

@@ -10,29 +10,29 @@ use lib.ListN.{length, getD}
 use borrow.Author.Tests.{ne-eqb, eqb-true, eqb-false, le-leb, lt-leb, leb-true}
 use lib.Dec.{eqb}
 use Rattle.layout.specs.Layout.{machineLength}
-use Rattle.machine.specs.Questions.{question1, question2, sound}
-use Rattle.machine.proofs.SoundMachine.{sound-controls}
-use Rattle.order.specs.Order.{question5, question6, question7, question8, inMode}
-use Rattle.order.proofs.Entries.{order-passes}
-use Rattle.modes.specs.Modes.{readData, writeData}
+use Rattle.machine.specs.Questions.{question1, question2, valid}
+use Rattle.machine.proofs.ValidMachine.{valid-controls}
+use Rattle.pass_order.specs.Order.{question5, question6, question7, question8, inMode}
+use Rattle.pass_order.proofs.Entries.{order-passes}
+use Rattle.layout_modes.specs.Modes.{readData, writeData}
 use Rattle.pass_model.specs.Pass.{unitQuestions, Call, by, refused, passRefusal, passOf}
 use Rattle.delay_questions.specs.Questions.{memoryGood, question10}
 use Rattle.machine.proofs.Asked.{machine-passes}
-use Rattle.questions.specs.Questions.{asked}
+use Rattle.base_questions.specs.Questions.{asked}
 use Rattle.layout.specs.Machine.{ticksOf}
-use Rattle.texts.specs.declared.Text.{Text}
-use Rattle.questions.proofs.Asked.{asked-first, asked-later}
+use Rattle.layout_texts.specs.declared.Text.{Text}
+use Rattle.base_questions.proofs.Asked.{asked-first, asked-later}
 
 -- What a pass may rely on once its questions are answered yes.
 module _ (text : Text) (m order : List ℕ) (whole : asked (question1 m ∷ question2 text m ∷ []) ≡ 0) where
-  pub is-sound : sound text m ≡ true
-  is-sound = machine-passes text m whole .1
+  pub is-valid : valid text m ≡ true
+  is-valid = machine-passes text m whole .1
 
   pub is-whole : length m ≡ machineLength
   is-whole = machine-passes text m whole .0
 
   pub few-ticks : ticksOf m ≤ 256
-  few-ticks = sound-controls text m is-sound .tHigh
+  few-ticks = valid-controls text m is-valid .tHigh
 
   -- The entries of an order that passes its questions are numbers of generators.
   pub entries-below : asked (question5 (ticksOf m) order ∷ question6 (ticksOf m) order ∷ []) ≡ 0 → (i : ℕ) → i < length order → getD order i 0 < 256

@@ -10,10 +10,10 @@ use borrow.Author.Tests.{eqb-true, eqb-false}
 use lib.Dec.{eqb}
 use lib.ListN.{length, getD, set, length-set}
 use lib.Seq.{getD-set-same, getD-set-other}
-use Rattle.lists.proofs.Zeros.{zeros-length, zeros-at}
+use Rattle.base_lists.proofs.Zeros.{zeros-length, zeros-at}
 use Rattle.layout.specs.Layout.{quadrantWords}
 use Rattle.layout.specs.Machine.{Order, Items}
-use Rattle.pass_model.specs.Generators.{Generators, State, broughtBy, step, steps}
+use Rattle.pass_model.specs.Generators.{Generators, State, contributionOf, step, steps}
 use Rattle.pass_model.specs.Clipped.{Marks, noMarks, sumLeaves, leavesAt, markedAt, marked, markedBy, SumLeft}
 
 -- The mark of word w after a sum in word v.
@@ -40,13 +40,13 @@ module _ (of : Generators) (items : Items) where
   marked-length : (s : State) (marks : Marks) (g : ℕ) → length (marked of items s marks g) ≡ length marks
   unfolding marked
   marked-length s marks g =
-      let b = broughtBy of s g in
+      let b = contributionOf of s g in
       at-length marks (b .word) (sumLeaves (s .sums) b (getD items (s .reads) 0))
 
   marked-mark : (s : State) (marks : Marks) (g w : ℕ) → w < length marks → getD (marked of items s marks g) w 0 ≡ cond (leavesAt of items s g w) 1 (getD marks w 0)
   unfolding marked leavesAt
   marked-mark s marks g w h =
-      let b = broughtBy of s g in
+      let b = contributionOf of s g in
       at-mark marks (b .word) w (sumLeaves (s .sums) b (getD items (s .reads) 0)) h
 
   pub marks-length : (order : Order) (s : State) (marks : Marks) → length (markedBy of items s marks order) ≡ length marks

@@ -11,14 +11,14 @@ use lib.Dec.{eqb, lit<}
 use lib.ListN.{length, getD, set, length-set}
 use lib.Pow.{pow-pos}
 use lib.Seq.{getD-drop, getD-set-same, getD-set-other}
-use Rattle.lists.proofs.Choices.{of-cond}
+use Rattle.base_lists.proofs.Choices.{of-cond}
 use Rattle.layout.specs.Layout.{delayAt, delayY, delayZ, delayFirst, delaySecond, delayThird}
 use Rattle.layout.specs.Machine.{Machine, Memory}
-use Rattle.texts.specs.declared.Text.{Text}
+use Rattle.layout_texts.specs.declared.Text.{Text}
 use Rattle.modifier.specs.declared.Modifier.{Modifier}
 use Rattle.modifier_delay.specs.Invoke.{unitOf}
 use Rattle.delay.specs.declared.Delay.{Delay}
-use Rattle.delay.specs.Delay.{loaded, stored, runs, turnOf}
+use Rattle.delay.specs.Delay.{loaded, stored, runs, delayTurnOf}
 use Rattle.delay.proofs.Low.{WordsLow, memory-low}
 use Rattle.delay.proofs.Turn.{memory-length, y-within}
 use Rattle.delay_questions.specs.Questions.{delayOf}
@@ -90,14 +90,14 @@ module _ (text : Text) (t : ℕ) (h : Held) (u : Modifier) (w : ℕ) where
   acts = invokesDelay text u && runs t (unitOf u) unit
 
   abbrev put : Machine
-  put = stored (h .words) (delayAt (unitOf u)) (turnOf unit (h .memory) w .unit)
+  put = stored (h .words) (delayAt (unitOf u)) (delayTurnOf unit (h .memory) w .unit)
 
   -- What holds of the words as they were and of those with the unit written back holds of what is left.
   pub words-by : (P : Machine → Type 0) → P (h .words) → P put → P (delayed text t h u w .words)
   unfolding delayed
   words-by P p q = of-cond (λ (k : Held). P (k .words)) acts q p
 
-  pub memory-by : (P : Memory → Type 0) → P (h .memory) → P (turnOf unit (h .memory) w .memory) → P (delayed text t h u w .memory)
+  pub memory-by : (P : Memory → Type 0) → P (h .memory) → P (delayTurnOf unit (h .memory) w .memory) → P (delayed text t h u w .memory)
   unfolding delayed
   memory-by P p q = of-cond (λ (k : Held). P (k .memory)) acts q p
 
@@ -122,7 +122,7 @@ module _ (text : Text) (t : ℕ) (h : Held) (u : Modifier) (w : ℕ) where
   delayed-within v l inside e = words-by (λ m. yOf m v ≤ zOf (h .words) v) e (own (eqb v (unitOf u)) refl)
     where
       after : Delay
-      after = turnOf unit (h .memory) w .unit
+      after = delayTurnOf unit (h .memory) w .unit
 
       own : (b : Bool) → eqb v (unitOf u) ≡ b → yOf put v ≤ zOf (h .words) v
       own true q =

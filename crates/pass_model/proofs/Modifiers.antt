@@ -9,16 +9,16 @@ use lib.ListN.{length, getD}
 use lib.Seq.{sets, length-sets}
 use Rattle.layout.specs.Layout.{modifierAt, delayAt, delayY, delayZ}
 use Rattle.layout.specs.Machine.{Machine, Memory, Sums}
-use Rattle.texts.specs.declared.Text.{Text}
-use Rattle.texts.specs.declared.Text.the-variants.{Of1978, Old}
+use Rattle.layout_texts.specs.declared.Text.{Text}
+use Rattle.layout_texts.specs.declared.Text.the-variants.{Of1978, Old}
 use Rattle.modifier.specs.declared.Modifier.{Modifier}
 use Rattle.modifier.specs.Modifier.{Ranged}
 use Rattle.modifier.proofs.Low.{loaded-ranged}
 use Rattle.modifier.proofs.Turns.{Low}
 use Rattle.modifier_turn.proofs.Turns.{turn-low}
-use Rattle.old_modifier.proofs.Turns.{old-turn-low}
+use Rattle.modifier_old.proofs.Turns.{old-turn-low}
 use Rattle.delay.proofs.Low.{WordsLow}
-use Rattle.sums.proofs.Blocks.{Outside, getD-outside}
+use Rattle.pass_sums.proofs.Blocks.{Outside, getD-outside}
 use Rattle.pass_model.specs.Modifiers.{withWrites, earlyView, lateView, modifierTurn, turnSeen, modifierOf, Held, delayed, modify, modified, modifiedBy}
 use Rattle.pass_model.proofs.Registers.{registers, four, put-is}
 use Rattle.pass_model.proofs.Views.{writes-snoc, writes-length, write-low, seen-low, beside-low}

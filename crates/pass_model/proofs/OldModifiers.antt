@@ -7,8 +7,8 @@ use native.Mathlib.Omega.{arith}
 use lib.ListN.{getD}
 use Rattle.layout.specs.Layout.{modifierAt}
 use Rattle.layout.specs.Machine.{Machine, Sums}
-use Rattle.texts.specs.declared.Text.the-variants.{Old}
-use Rattle.sums.proofs.Blocks.{getD-outside, outside-after}
+use Rattle.layout_texts.specs.declared.Text.the-variants.{Old}
+use Rattle.pass_sums.proofs.Blocks.{getD-outside, outside-after}
 use Rattle.modifier.specs.declared.Modifier.{Modifier}
 use Rattle.modifier.specs.Modifier.{stored}
 use Rattle.pass_model.specs.Modifiers.{Held, delayed, modify, modified, modifiedBy}

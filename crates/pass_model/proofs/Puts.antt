@@ -13,7 +13,7 @@ use Rattle.layout.specs.Layout.{generatorAt, dacAt, GJ, GK, GQ, GMODE}
 use Rattle.generator.specs.declared.Generator.{Generator}
 use Rattle.generator.specs.Generator.{Ranged, stored}
 use Rattle.generator.proofs.Registers.{ranged}
-use Rattle.pass_model.specs.Generators.{Brought, generatorOf, fed}
+use Rattle.pass_model.specs.Generators.{Contribution, generatorOf, fed}
 
 -- The words of generator g that its turn leaves alone, and all other words.
 pub record Apart (i g : ℕ) : Type 0 where
@@ -87,7 +87,7 @@ module _ (words : List ℕ) (g : ℕ) (u : Generator) where
         ∙ getD-set-same words (generatorAt g + GJ) (u .gj) 0 (omega arith)
 
 -- A DAC is fed: only DAC words change.
-module _ (words : List ℕ) (b : Brought) where
+module _ (words : List ℕ) (b : Contribution) where
   dac-by : (c : Bool) (i : ℕ) → i < dacAt 0 → getD (cond c (set words (dacAt (b .dac)) (b .sends)) words) i 0 ≡ getD words i 0
   dac-by true i h = getD-set-other words (dacAt (b .dac)) i (b .sends) 0 (λ e. omega arith)
   dac-by false i h = refl

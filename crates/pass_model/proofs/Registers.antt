@@ -10,7 +10,7 @@ use lib.Seq.{sets}
 use Rattle.layout.specs.Layout.{modifierAt}
 use Rattle.modifier.specs.declared.Modifier.{Modifier}
 use Rattle.modifier.specs.Modifier.{stored}
-use Rattle.sums.proofs.Blocks.{getD-outside, part-back}
+use Rattle.pass_sums.proofs.Blocks.{getD-outside, part-back}
 
 -- M0, M1, L0 and L1.
 unfoldable pub registers : Modifier → List ℕ

@@ -10,16 +10,16 @@ use lib.ListN.{length, getD, set, drop, length-set}
 use lib.Seq.{getD-set-other}
 use Rattle.layout.specs.Layout.{delayAt}
 use Rattle.layout.specs.Machine.{Machine}
-use Rattle.texts.specs.declared.Text.{Text}
+use Rattle.layout_texts.specs.declared.Text.{Text}
 use Rattle.modifier.specs.declared.Modifier.{Modifier}
 use Rattle.modifier.specs.Modifier.{functionOf}
-use Rattle.words.proofs.Residues.{either-low, sum-low}
+use Rattle.base_words.proofs.Residues.{either-low, sum-low}
 use Rattle.modifier_delay.specs.Invoke.{unitOf}
 use Rattle.delay.specs.Delay.{runs}
 use Rattle.delay.proofs.Low.{due-low}
 use Rattle.delay_questions.specs.Questions.{delayOf}
-use Rattle.sums.proofs.Memory.{word-low}
-use Rattle.pass_model.specs.Modifiers.{Write, withWrite, withWrites, seen, given, modifierReadsLate, invokesDelay, beside, turnSeen}
+use Rattle.pass_sums.proofs.Memory.{word-low}
+use Rattle.pass_model.specs.Modifiers.{Write, withWrite, withWrites, seen, given, modifierReadsLate, invokesDelay, secondInput, turnSeen}
 
 -- One write more.
 pub writes-snoc : (q : List ℕ) (ws : List Write) (w : Write) → withWrites q (ws ++ (w ∷ [])) ≡ withWrite (withWrites q ws) w
@@ -64,7 +64,7 @@ unfolding seen
 seen-set s q view address = rw (getD-set-other s 2 1 q [] (λ e. omega arith), getD-set-other s 2 3 q [] (λ e. omega arith))
 
 pub turn-set : (text : Text) (t : ℕ) (words : Machine) (s : List (List ℕ)) (q early late : List ℕ) (u : Modifier) → turnSeen text t words (set s 2 q) early late u ≡ turnSeen text t words s early late u
-unfolding turnSeen beside
+unfolding turnSeen secondInput
 turn-set text t words s q early late u =
     rw (seen-set s q (cond (modifierReadsLate text (functionOf u)) late early) (u .min), seen-set s q early (u .mrm))
 
@@ -79,6 +79,6 @@ pub given-low : (t : ℕ) (words : Machine) (u : Modifier) → given t words u <
 unfolding given
 given-low t words u = either-low (runs t (unitOf u) (delayOf words (unitOf u))) (due-low (drop (delayAt (unitOf u)) words)) (lit< tt)
 
-pub beside-low : (text : Text) (t : ℕ) (words : Machine) (s : List (List ℕ)) (early : List ℕ) (u : Modifier) → beside text t words s early u < 2 ^ 20
-unfolding beside
+pub beside-low : (text : Text) (t : ℕ) (words : Machine) (s : List (List ℕ)) (early : List ℕ) (u : Modifier) → secondInput text t words s early u < 2 ^ 20
+unfolding secondInput
 beside-low text t words s early u = either-low (invokesDelay text u) (given-low t words u) (seen-low s early (u .mrm))

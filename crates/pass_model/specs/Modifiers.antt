@@ -5,20 +5,20 @@ use mathlib.Core.Bool.{Bool, false, cond, _&&_}
 use mathlib.Core.List.{List, [], _∷_, _++_}
 use lib.Dec.{eqb}
 use lib.ListN.{getD, set, take, drop}
-use Rattle.words.specs.Words.{sum}
+use Rattle.base_words.specs.Words.{sum}
 use Rattle.modifier.specs.declared.Modifier.{Modifier}
 use Rattle.modifier.specs.declared.Turned.{Turned}
 use Rattle.modifier.specs.Modifier.{loaded, stored, functionOf}
 use Rattle.modifier_turn.specs.Turn.{turnOf, readsLate}
-use Rattle.old_modifier.specs.OldTurn.{oldTurnOf, oldReadsLate}
+use Rattle.modifier_old.specs.OldTurn.{oldTurnOf, oldReadsLate}
 use Rattle.modifier_delay.specs.Invoke.{invoking, unitOf}
-use Rattle.delay.specs.Delay.{runs, due, stored as storedDelay, turnOf as delayTurn}
+use Rattle.delay.specs.Delay.{runs, due, stored as storedDelay, delayTurnOf as delayTurn}
 use Rattle.delay_questions.specs.Questions.{delayOf}
 use Rattle.layout.specs.Layout.{modifierAt, delayAt}
 use Rattle.layout.specs.Machine.{Machine, Memory, Sums}
-use Rattle.texts.specs.declared.Text.{Text}
-use Rattle.texts.specs.declared.Text.the-variants.{Of1978, Old}
-use Rattle.sums.specs.Sums.{generatorLast, modifierThis, modifierLast, wordAt}
+use Rattle.layout_texts.specs.declared.Text.{Text}
+use Rattle.layout_texts.specs.declared.Text.the-variants.{Of1978, Old}
+use Rattle.pass_sums.specs.Sums.{generatorLast, modifierThis, modifierLast, wordAt}
 
 -- What a modifier writes into modifier-this: S, at MSUM.
 pub record Write : Type 0 where
@@ -77,12 +77,12 @@ invokesDelay Of1978 = invoking
 invokesDelay Old = λ u. false
 
 -- The word that a modifier's turn takes beside A: B, which sees the early view; where it invokes a delay unit and B isn't read, the word that the unit gives.
-unfoldable pub beside : Text → ℕ → Machine → Sums → List ℕ → Modifier → ℕ
-beside text t words s early u = cond (invokesDelay text u) (given t words u) (seen s early (u .mrm))
+unfoldable pub secondInput : Text → ℕ → Machine → Sums → List ℕ → Modifier → ℕ
+secondInput text t words s early u = cond (invokesDelay text u) (given t words u) (seen s early (u .mrm))
 
 -- A modifier's turn: A sees the late view or the early one by the function.
 unfoldable pub turnSeen : Text → ℕ → Machine → Sums → List ℕ → List ℕ → Modifier → Turned
-turnSeen text t words s early late u = modifierTurn text u (seen s (cond (modifierReadsLate text (functionOf u)) late early) (u .min)) (beside text t words s early u)
+turnSeen text t words s early late u = modifierTurn text u (seen s (cond (modifierReadsLate text (functionOf u)) late early) (u .min)) (secondInput text t words s early u)
 
 -- Modifier m of a machine's words.
 unfoldable pub modifierOf : Machine → ℕ → Modifier

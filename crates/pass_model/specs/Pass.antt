@@ -5,17 +5,17 @@ use mathlib.Core.Bool.{cond}
 use mathlib.Core.List.{List, [], _∷_}
 use lib.Dec.{eqb}
 use lib.ListN.{getD, set, take}
-use Rattle.lists.specs.Lists.{zeros}
+use Rattle.base_lists.specs.Lists.{zeros}
 use Rattle.layout.specs.Layout.{counterAt, memoryWords}
 use Rattle.layout.specs.Widths.{counterBits}
 use Rattle.layout.specs.Machine.{Machine, Order, Items, Places, Memory, Sums, ticksOf}
-use Rattle.texts.specs.declared.Text.{Text}
-use Rattle.texts.specs.declared.Text.the-variants.{Of1978, Old}
-use Rattle.questions.specs.Questions.{Question, asked}
+use Rattle.layout_texts.specs.declared.Text.{Text}
+use Rattle.layout_texts.specs.declared.Text.the-variants.{Of1978, Old}
+use Rattle.base_questions.specs.Questions.{Question, asked}
 use Rattle.machine.specs.Questions.{question1, question2}
-use Rattle.order.specs.Order.{question5, question6, question7, question8}
+use Rattle.pass_order.specs.Order.{question5, question6, question7, question8}
 use Rattle.delay_questions.specs.Questions.{question10, question11, question12}
-use Rattle.sums.specs.Sums.{modifierThis, sumsOf, closed}
+use Rattle.pass_sums.specs.Sums.{modifierThis, sumsOf, closed}
 use Rattle.pass_model.specs.Generators.{generatorsOf, begun, Taken, takenBy}
 use Rattle.pass_model.specs.Clipped.{Marks, noMarks, markedBy}
 use Rattle.pass_model.specs.Modifiers.{Held, modifiedBy}

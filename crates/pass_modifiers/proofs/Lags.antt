@@ -10,10 +10,10 @@ use lib.ListN.{length, getD, set, take, length-append}
 use lib.Seq.{take-all, take-append-le, set-getD, set-set}
 use Rattle.pass_model.specs.Modifiers.{Write, withWrite, withWrites, earlyView, lateView, turnSeen, Stage, modifierOf, Held, modify, modified, modifiedBy}
 use Rattle.pass_model.proofs.Views.{writes-snoc, this-at, turn-set}
-use Rattle.modifier_views.specs.Views.{wordLeft, caughtUp}
-use Rattle.pass_modifiers.specs.Loops.{Lagging, lagStep, lagged}
+use Rattle.pass_views.specs.AsCoded.{wordLeft, caughtUp}
+use Rattle.pass_modifiers.specs.AsCoded.{Lagging, lagStep, lagged}
 use Rattle.pass_modifiers.proofs.Ring.{Ring, oldest, ring-on, ring-start}
-use Rattle.texts.specs.declared.Text.{Text}
+use Rattle.layout_texts.specs.declared.Text.{Text}
 
 -- Of each write MSUM, and the word that it left.
 abbrev msumsOf : List Write → List ℕ

@@ -6,26 +6,26 @@ ghost use lib.ListN.{getD, set};
 ghost use Rattle.layout.specs.Layout.{modifierAt};
 ghost use Rattle.layout.specs.Machine.{Reaches};
 ghost use Rattle.modifier.specs.Modifier.{Ranged, stored};
-ghost use Rattle.sums.specs.Sums.{modifierThis};
+ghost use Rattle.pass_sums.specs.Sums.{modifierThis};
 ghost use Rattle.pass_model.specs.Modifiers.{invokesDelay, turnSeen, delayed, modifiedBy};
-ghost use Rattle.modifier_views.specs.Views.{turnBeside};
-ghost use Rattle.pass_modifiers.specs.Loops.{lagStep};
+ghost use Rattle.pass_views.specs.AsCoded.{turnWithB};
+ghost use Rattle.pass_modifiers.specs.AsCoded.{lagStep};
+use layout_texts::Text;
 use modifier::Modifier;
-use modifier_views::Ring;
-use sums::Quadrant;
-use sums::Sums;
-use texts::Text;
+use pass_sums::Quadrant;
+use pass_sums::Sums;
+use pass_views::Ring;
 
 // Modifier k, which invokes no delay unit, is taken; the answer is S.
 fn plain(text: Text, m: &mut [u32], s: &Sums, early: &Quadrant, k: usize, u: Modifier) -> u32
     requires { ⌜ Reaches (now m) ⌝ }
     requires { ⌜ k < 128 ⌝ }
     requires { ⌜ Ranged u ⌝ }
-    ensures { λ r. ⌜ (r ≡ turnBeside text (now (s .entry)) (now (early .entry)) (getD (now (s .entry)) modifierThis []) u .s) × (now (m .exit) ≡ stored (now (m .entry)) (modifierAt k) (turnBeside text (now (s .entry)) (now (early .entry)) (getD (now (s .entry)) modifierThis []) u .unit)) ⌝ }
+    ensures { λ r. ⌜ (r ≡ turnWithB text (now (s .entry)) (now (early .entry)) (getD (now (s .entry)) modifierThis []) u .s) × (now (m .exit) ≡ stored (now (m .entry)) (modifierAt k) (turnWithB text (now (s .entry)) (now (early .entry)) (getD (now (s .entry)) modifierThis []) u .unit)) ⌝ }
 {
-    let turn = modifier_views::turned(text, s, early, u);
+    let turn = pass_views::turned(text, s, early, u);
     let unit = turn.unit;
-    modifier_registers::put_modifier_at(m, k, unit);
+    pass_registers::put_modifier_at(m, k, unit);
     turn.s
 }
 
@@ -57,9 +57,9 @@ fn taken(
     ensures { λ r. ⌜ (r ≡ turnSeen text t (now (m .entry)) (now (s .entry)) (now (early .entry)) (getD (now (s .entry)) modifierThis []) u .s) × (record { words = now (m .exit); memory = now (memory .exit) } ≡ delayed text t (record { words = stored (now (m .entry)) (modifierAt k) (turnSeen text t (now (m .entry)) (now (s .entry)) (now (early .entry)) (getD (now (s .entry)) modifierThis []) u .unit); memory = now (memory .entry) }) u (turnSeen text t (now (m .entry)) (now (s .entry)) (now (early .entry)) (getD (now (s .entry)) modifierThis []) u .unit .l1)) ⌝ }
 {
     if invokes(text, u) {
-        let late = &s[sums::MODIFIER_THIS];
-        let a = modifier_views::look(s, late, u.min);
-        return invoked_delay::invoked(text, m, memory, t, k, u, a);
+        let late = &s[pass_sums::MODIFIER_THIS];
+        let a = pass_views::look(s, late, u.min);
+        return pass_delays::invoked(text, m, memory, t, k, u, a);
     }
     plain(text, m, s, early, k, u)
 }
@@ -81,10 +81,10 @@ fn step(
     ensures { λ r. ⌜ record { held = record { words = now (m .exit); memory = now (memory .exit) }; sums = now (s .exit); early = now (early .exit); msums = now (msums .exit); lefts = now (lefts .exit) } ≡ lagStep text t (record { held = record { words = now (m .entry); memory = now (memory .entry) }; sums = now (s .entry); early = now (early .entry); msums = now (msums .entry); lefts = now (lefts .entry) }) k ⌝ }
 {
     let j = k % 4;
-    modifier_views::catch_up(early, msums, lefts, j);
-    let u = modifier_registers::modifier_at(m, k);
+    pass_views::catch_up(early, msums, lefts, j);
+    let u = pass_registers::modifier_at(m, k);
     let value = taken(text, m, s, memory, early, t, k, u);
-    let left = modifier_views::put(s, u.msum, value);
+    let left = pass_views::put(s, u.msum, value);
     msums[j] = u.msum;
     lefts[j] = left;
 }
@@ -95,7 +95,7 @@ pub fn modifiers(text: Text, m: &mut [u32], s: &mut Sums, memory: &mut [u32], t:
     requires { ⌜ n ≤ 128 ⌝ }
     ensures { λ r. ⌜ (record { words = now (m .exit); memory = now (memory .exit) } ≡ modifiedBy text t (record { words = now (m .entry); memory = now (memory .entry) }) (now (s .entry)) n .held) × (now (s .exit) ≡ set (now (s .entry)) modifierThis (modifiedBy text t (record { words = now (m .entry); memory = now (memory .entry) }) (now (s .entry)) n .this)) ⌝ }
 {
-    let mut early = s[sums::MODIFIER_THIS];
+    let mut early = s[pass_sums::MODIFIER_THIS];
     let first = early[0];
     let mut msums = [0u32; 4];
     let mut lefts = [first, first, first, first];

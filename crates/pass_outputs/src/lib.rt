@@ -6,25 +6,25 @@ ghost use Prim.Native.Nat.{_+_, _<_, _^_};
 ghost use lib.ListN.{getD, set};
 ghost use Rattle.layout.specs.Machine.{Reaches};
 ghost use Rattle.generator.specs.Generator.{Ranged};
-ghost use Rattle.texts.specs.Texts.{distanceOf};
-ghost use Rattle.generator_turn.specs.GeneratorTurn.{runOf};
-ghost use Rattle.pass_model.specs.Generators.{told};
+ghost use Rattle.layout_texts.specs.Texts.{distanceOf};
+ghost use Rattle.generator_turn.specs.AsCoded.{runOf};
+ghost use Rattle.pass_model.specs.Generators.{triggeredBelow};
 ghost use Rattle.pass_model.specs.Clipped.{markedAt};
-ghost use Rattle.pass_outputs.specs.Outputs.{heard, heardLeaves, sent};
+ghost use Rattle.pass_outputs.specs.AsCoded.{outputAdded, outputLeaves, sent};
 use generator::Generator;
-use sums::Clipped;
-use sums::Sums;
-use texts::Text;
+use layout_texts::Text;
+use pass_sums::Clipped;
+use pass_sums::Sums;
 
 // A 1 for each generator that was taken and triggered.
 pub type Triggered = [u8; layout::GENERATORS];
 
 // Whether the lower neighbour of g has triggered.
-pub fn told(text: Text, triggered: &Triggered, g: usize) -> bool
+pub fn triggered_below(text: Text, triggered: &Triggered, g: usize) -> bool
     requires { ⌜ g < 256 ⌝ }
-    ensures { λ r. ⌜ r ≡ told (distanceOf text) (now (triggered .entry)) g ⌝ }
+    ensures { λ r. ⌜ r ≡ triggeredBelow (distanceOf text) (now (triggered .entry)) g ⌝ }
 {
-    let distance = texts::distance(text);
+    let distance = layout_texts::distance(text);
     if g < distance {
         return false;
     }
@@ -55,7 +55,7 @@ fn mark_left(clipped: &mut Clipped, gsum: u32, left: bool)
 }
 
 // P goes into sum memory: where the output is 1 it is added, else it replaces a word together with the next read item. The word is marked where the signed sum left its range.
-pub fn hear(
+pub fn add_output(
     s: &mut Sums,
     clipped: &mut Clipped,
     items: &[u32],
@@ -65,16 +65,16 @@ pub fn hear(
     p: u32,
 ) -> usize
     requires { ⌜ (gsum < 2 ^ 6) × (p < 2 ^ 20) × (reads < 256) ⌝ }
-    ensures { λ r. ⌜ (now (s .exit) ≡ heard (now (s .entry)) (eqb output 1) gsum p (getD (now (items .entry)) reads 0)) × (now (clipped .exit) ≡ markedAt (now (clipped .entry)) gsum (heardLeaves (now (s .entry)) (eqb output 1) gsum p (getD (now (items .entry)) reads 0))) × (r ≡ cond (eqb output 1) reads (reads + 1)) ⌝ }
+    ensures { λ r. ⌜ (now (s .exit) ≡ outputAdded (now (s .entry)) (eqb output 1) gsum p (getD (now (items .entry)) reads 0)) × (now (clipped .exit) ≡ markedAt (now (clipped .entry)) gsum (outputLeaves (now (s .entry)) (eqb output 1) gsum p (getD (now (items .entry)) reads 0))) × (r ≡ cond (eqb output 1) reads (reads + 1)) ⌝ }
 {
     if output == 1 {
-        let added = sums::add(s, gsum, p);
+        let added = pass_sums::add(s, gsum, p);
         mark_left(clipped, gsum, added);
         return reads;
     }
-    let item = guarded::word_at(items, reads) % layout::WORD_LIMIT;
-    sums::replace(s, gsum, words::add20(p, item));
-    let replaced = words::leaves20(p, item);
+    let item = base_guarded::word_at(items, reads) % layout::WORD_LIMIT;
+    pass_sums::replace(s, gsum, base_words::add20(p, item));
+    let replaced = base_words::leaves20(p, item);
     mark_left(clipped, gsum, replaced);
     reads + 1
 }
@@ -94,13 +94,13 @@ pub fn send(
     requires { ⌜ (run ≡ runOf text unit) × (f < 2 ^ 20) × (writes < 256) ⌝ }
     ensures { λ r. ⌜ record { words = now (m .exit); places = now (places .exit); writes = r } ≡ sent text (record { words = now (m .entry); places = now (places .entry); writes = writes }) unit f ⌝ }
 {
-    if run == modes::WRITE_DAC {
+    if run == layout_modes::WRITE_DAC {
         let at = layout::DACS_AT + layout::wide(generator_turn::dac(text, unit));
         m[at] = generator_turn::sends(text, unit, f);
         return writes;
     }
-    if run == modes::WRITE_DATA {
-        guarded::put(places, writes, generator_turn::sends(text, unit, f));
+    if run == layout_modes::WRITE_DATA {
+        base_guarded::put(places, writes, generator_turn::sends(text, unit, f));
         return writes + 1;
     }
     writes

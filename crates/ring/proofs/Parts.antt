@@ -8,12 +8,12 @@ use native.Mathlib.Omega.{arith}
 use lib.Dec.{lit≤}
 use lib.ListN.{length}
 use lib.Seq.{sets, length-sets}
-use Rattle.bench_pass.specs.BenchPass.{Ordering}
-use Rattle.bench_ringing.specs.Steps.{Ringing}
-use Rattle.bench_gathering.specs.Gathering.{gathered}
-use Rattle.bench_gathering.proofs.Gatherings.{gathered-length, gathered-falls}
-use Rattle.bench_ringing.specs.declared.Output.the-variants.{Lines}
-use Rattle.texts.specs.declared.Text.{Text}
+use Rattle.ring_pass.specs.BenchPass.{Ordering}
+use Rattle.ring_steps.specs.AsCoded.{Ringing}
+use Rattle.ring_gathering.specs.AsCoded.{gathered}
+use Rattle.ring_gathering.proofs.Gatherings.{gathered-length, gathered-falls}
+use Rattle.ring_steps.specs.declared.Output.the-variants.{Lines}
+use Rattle.layout_texts.specs.declared.Text.{Text}
 
 -- What was put into a buffer has room in it.
 put-within : (line bytes : List ℕ) {size : ℕ} {after : List ℕ} → length bytes ≤ length line → size ≡ length bytes → after ≡ sets line 0 bytes → size ≤ length after

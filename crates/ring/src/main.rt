@@ -2,15 +2,15 @@
 // Without an argument each pass goes by number, with `-` by pitch, with another by the order file of that name.
 // A read or a write that fails, and a second argument, end it with a line on standard error.
 ghost use mathlib.Core.Path.{_≡_};
-ghost use Rattle.bench_pass.specs.BenchPass.{orderingOf};
-ghost use Rattle.bench_ringing.specs.Steps.{ringingAt};
-ghost use Rattle.bench_ringing.specs.declared.Output.the-variants.{Lines};
-ghost use Rattle.bench_gathering.specs.Gathering.{gathered};
-use bench_ringing::Output;
-use bench_ringing::Progress;
+ghost use Rattle.ring_pass.specs.BenchPass.{orderingOf};
+ghost use Rattle.ring_steps.specs.AsCoded.{ringingAt};
+ghost use Rattle.ring_steps.specs.declared.Output.the-variants.{Lines};
+ghost use Rattle.ring_gathering.specs.AsCoded.{gathered};
+use layout_texts::Text;
 use libc::STDOUT_FILENO;
-use rung_order::By;
-use texts::Text;
+use ring_order::By;
+use ring_steps::Output;
+use ring_steps::Progress;
 
 // The buffer for lines that are printed together.
 const OUTPUT_BYTES: usize = 65536;
@@ -34,7 +34,7 @@ fn ring_part(
     ensures { λ r. ⌜ ringingAt (r .next) (now (m .exit)) (now (memory .exit)) (now (commands .entry)) ≡ gathered text (orderingOf given (now (order .entry))) Lines 65536 (ringingAt at (now (m .entry)) (now (memory .entry)) (now (commands .entry))) .next ⌝ }
 {
     let mut out = [0u8; OUTPUT_BYTES];
-    let next = bench_gathering::gather(
+    let next = ring_gathering::gather(
         text,
         Output::Lines,
         at,
@@ -75,9 +75,9 @@ fn ring_all(
 // Rings a file from its beginning, or prints what is refused; says whether all was written.
 fn ring(file: &[u8], by: By, listing: &[u8]) -> bool {
     let mut m = [0u32; layout::MACHINE_LENGTH];
-    let mut room = [0u32; bench_file::COMMAND_PLACES];
+    let mut room = [0u32; file_bench::COMMAND_PLACES];
     let mut memory = [0u32; layout::MEMORY_WORDS];
-    let start = bench_begin::begin(file, by, listing, &mut m, &mut room, &mut memory);
+    let start = ring_begin::begin(file, by, listing, &mut m, &mut room, &mut memory);
     let length = start.length;
     let line = start.line;
     if length != 0 {
@@ -101,20 +101,20 @@ fn ring(file: &[u8], by: By, listing: &[u8]) -> bool {
 }
 
 fn main() {
-    let mut order = [0u8; bench_streams::FILE_ROOM];
-    let request = bench_streams::read_arguments(b"ring", &mut order);
+    let mut order = [0u8; ring_streams::FILE_ROOM];
+    let request = ring_streams::read_arguments(b"ring", &mut order);
     if !request.good {
         return;
     }
     let by = request.by;
     let length = request.length;
-    let mut file = [0u8; bench_streams::FILE_ROOM];
-    let read = bench_streams::read_bench(b"ring", &mut file);
+    let mut file = [0u8; ring_streams::FILE_ROOM];
+    let read = ring_streams::read_bench(b"ring", &mut file);
     if !read.good {
         return;
     }
     let n = read.length;
     if !ring(&file[..n], by, &order[..length]) {
-        bench_streams::complain(b"ring", b": cannot write\n");
+        ring_streams::complain(b"ring", b": cannot write\n");
     }
 }

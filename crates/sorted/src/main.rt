@@ -2,7 +2,7 @@
 // Without an argument it is as with `-`: by pitch.
 // A read or a write that fails, and a second argument, end it with a line on standard error.
 use libc::STDOUT_FILENO;
-use rung_order::By;
+use ring_order::By;
 
 // Prints what is found of a bench file, and of an order file if one is asked for; says whether all was written.
 fn print(file: &[u8], by: By, order: &[u8]) -> bool {
@@ -12,20 +12,20 @@ fn print(file: &[u8], by: By, order: &[u8]) -> bool {
 }
 
 fn main() {
-    let mut order = [0u8; bench_streams::FILE_ROOM];
-    let request = bench_streams::read_arguments(b"sorted", &mut order);
+    let mut order = [0u8; ring_streams::FILE_ROOM];
+    let request = ring_streams::read_arguments(b"sorted", &mut order);
     if !request.good {
         return;
     }
     let by = request.by;
     let length = request.length;
-    let mut file = [0u8; bench_streams::FILE_ROOM];
-    let read = bench_streams::read_bench(b"sorted", &mut file);
+    let mut file = [0u8; ring_streams::FILE_ROOM];
+    let read = ring_streams::read_bench(b"sorted", &mut file);
     if !read.good {
         return;
     }
     let n = read.length;
     if !print(&file[..n], by, &order[..length]) {
-        bench_streams::complain(b"sorted", b": cannot write\n");
+        ring_streams::complain(b"sorted", b": cannot write\n");
     }
 }

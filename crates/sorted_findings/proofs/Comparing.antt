@@ -10,22 +10,22 @@ use borrow.Author.Tests.{eqb-true, eq-eqb, ne-eqb}
 use lib.Dec.{eqb}
 use lib.ListN.{length, take, replicate, length-append}
 use lib.Seq.{sets}
-use Rattle.lists.specs.Lists.{zeros}
-use Rattle.lists.proofs.Choices.{of-cond, of-test}
+use Rattle.base_lists.specs.Lists.{zeros}
+use Rattle.base_lists.proofs.Choices.{of-cond, of-test}
 use Rattle.layout.specs.Layout.{machineLength, generators}
 use Rattle.layout.specs.Machine.{Machine, Order, ticksOf}
-use Rattle.texts.specs.declared.Text.{Text}
-use Rattle.questions.specs.Questions.{asked}
+use Rattle.layout_texts.specs.declared.Text.{Text}
+use Rattle.base_questions.specs.Questions.{asked}
 use Rattle.machine.specs.Questions.{question1, question2}
-use Rattle.order_lists.specs.Sequences.{byNumber}
-use Rattle.order_lists.proofs.ByNumber.{by-number-length, first-entries}
+use Rattle.base_sequences.specs.Sequences.{byNumber}
+use Rattle.base_sequences.proofs.ByNumber.{by-number-length, first-entries}
 use Rattle.compare.proofs.Asked.{refused-first}
 use Rattle.parts.specs.Parts.{Parting, partsOf}
 use Rattle.parts.proofs.Answers.{is-ready, refused-compare, parts-number}
 use Rattle.parts_shown.specs.Shown.{differenceShown}
-use Rattle.bench_bytes.proofs.Puts.{done, then}
-use Rattle.bench_text.specs.Text.{lineBytes, refusalLine}
-use Rattle.bench_text.proofs.Lines.{refusal-line-length}
+use Rattle.file_bytes.proofs.Puts.{done, then}
+use Rattle.file_printed.specs.Text.{lineBytes, refusalLine}
+use Rattle.file_printed.proofs.Lines.{refusal-line-length}
 use Rattle.sorted_lines.specs.SortedLines.{orderLines, equalLine, failingLine, entryBytes}
 use Rattle.sorted_lines.proofs.Lines.{order-lines-length, failing-line-length}
 use Rattle.sorted_findings.specs.Findings.{partingFrom, foundLine, comparedLines, findingsRoom}

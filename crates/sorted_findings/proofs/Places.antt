@@ -6,15 +6,15 @@ use Prim.Native.Nat.{ℕ, suc, _^_, _≤_, _<_}
 use native.Mathlib.Omega.{arith}
 use lib.Dec.{eqb, ltb}
 use lib.ListN.{length}
-use Rattle.lists.specs.Lists.{zeros}
-use Rattle.lists.proofs.Choices.{of-cond}
-use Rattle.lists.proofs.Zeros.{zeros-length}
+use Rattle.base_lists.specs.Lists.{zeros}
+use Rattle.base_lists.proofs.Choices.{of-cond}
+use Rattle.base_lists.proofs.Zeros.{zeros-length}
 use Rattle.layout.specs.Layout.{machineLength, generators}
 use Rattle.layout.specs.Machine.{Machine, Order, Items}
-use Rattle.texts.specs.declared.Text.{Text}
+use Rattle.layout_texts.specs.declared.Text.{Text}
 use Rattle.pass_model.specs.Pass.{Call, Outcome, plainCall, writtenData, passOf}
 use Rattle.pass_laws.proofs.Passing.{admitted, pass-by, let-through, refused-machine}
-use Rattle.pass_laws.proofs.PassSound.{pass-sound}
+use Rattle.pass_laws.proofs.PassValid.{pass-valid}
 use Rattle.parts_shown.specs.Shown.{firstDifferent, differenceBetween, passBy, differenceShown}
 use Rattle.parts_shown.specs.declared.Difference.{Difference}
 use Rattle.parts_shown.specs.declared.Difference.the-variants.{Word, Written}
@@ -33,7 +33,7 @@ different-within (x ∷ xs) (y ∷ ys) =
 pass-length : (text : Text) (m : Machine) (call : Call) → length (passOf text m call .machine) ≡ length m
 pass-length text m call =
     pass-by text m call (λ (r : Outcome). length (r .machine) ≡ length m) (rw (refused-machine text m call))
-    (λ e. let good = admitted text m call e .good in rw (← (let-through text m call e)) (pass-sound text m call good .whole ∙ sym (good .whole)))
+    (λ e. let good = admitted text m call e .good in rw (← (let-through text m call e)) (pass-valid text m call good .whole ∙ sym (good .whole)))
 
 between-within : (r s : Outcome) (n : ℕ) → length (r .machine) ≤ n → length (writtenData r) ≤ n → differencePlace (differenceBetween r s) ≤ n
 unfolding differenceBetween

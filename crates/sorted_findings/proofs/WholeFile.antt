@@ -11,25 +11,25 @@ use borrow.Author.Tests.{eq-eqb, ne-eqb}
 use lib.Dec.{eqb}
 use lib.ListN.{length, take, replicate, length-replicate}
 use lib.Seq.{sets, length-sets}
-use Rattle.lists.specs.Lists.{zeros}
-use Rattle.lists.proofs.Choices.{of-cond}
-use Rattle.lists.proofs.Zeros.{zeros-length}
+use Rattle.base_lists.specs.Lists.{zeros}
+use Rattle.base_lists.proofs.Choices.{of-cond}
+use Rattle.base_lists.proofs.Zeros.{zeros-length}
 use Rattle.layout.specs.Layout.{generators}
 use Rattle.layout.specs.Machine.{Machine, Order, ticksOf}
-use Rattle.texts.specs.declared.Text.{Text}
-use Rattle.order_pitch.specs.Pitch.{byPitch}
-use Rattle.order_pitch.proofs.Sorted.{by-pitch-sorted}
-use Rattle.order_file.specs.OrderFile.{Answer, isOrderFile, orderOf, noOrderFile, readOf}
-use Rattle.order_file.proofs.Answers.{number-zero, number-nine, count-within, entries-are}
-use Rattle.rung_order.specs.declared.By.{By}
-use Rattle.rung_order.specs.declared.By.the-variants.{Number, Pitch, File}
-use Rattle.bench_bytes.proofs.Puts.{first-part}
-use Rattle.bench_text.specs.Text.{refusalLine}
-use Rattle.bench_text.proofs.Lines.{refusal-line-length}
-use Rattle.bench_file.specs.BenchFile.{fileOf, textOf, fileRefusal, Answer as FileAnswer, readOf as fileReadOf}
-use Rattle.bench_file.proofs.WholeFile.{read-number}
-use Rattle.bench_text.specs.Text.{orderRefusalLine}
-use Rattle.bench_text.proofs.Lines.{order-refusal-line-length}
+use Rattle.layout_texts.specs.declared.Text.{Text}
+use Rattle.pass_pitch.specs.Pitch.{byPitch}
+use Rattle.pass_pitch.proofs.Sorted.{by-pitch-sorted}
+use Rattle.file_order.specs.OrderFile.{OrderAnswer, isOrderFile, orderOf, noOrderFile, readOf}
+use Rattle.file_order.proofs.Answers.{number-zero, number-nine, count-within, entries-are}
+use Rattle.ring_order.specs.declared.By.{By}
+use Rattle.ring_order.specs.declared.By.the-variants.{Number, Pitch, File}
+use Rattle.file_bytes.proofs.Puts.{first-part}
+use Rattle.file_printed.specs.Text.{refusalLine}
+use Rattle.file_printed.proofs.Lines.{refusal-line-length}
+use Rattle.file_bench.specs.BenchFile.{fileOf, textOf, fileRefusal, BenchAnswer as FileAnswer, readOf as fileReadOf}
+use Rattle.file_bench.proofs.WholeFile.{read-number}
+use Rattle.file_printed.specs.Text.{orderRefusalLine}
+use Rattle.file_printed.proofs.Lines.{order-refusal-line-length}
 use Rattle.sorted_findings.specs.Findings.{comparedLines, byFileLines, secondLines, findingsOf, findingsRoom}
 use Rattle.sorted_findings.proofs.Comparing.{compared-length}
 
@@ -50,24 +50,24 @@ module _ (m : Machine) (few : ticksOf m ≤ generators) {order : Order} {t : ℕ
 entries-length : (file : List ℕ) → length (readOf file .entries) ≡ generators
 unfolding readOf noOrderFile
 entries-length file =
-    of-cond (λ (a : Answer). length (a .entries) ≡ generators) (isOrderFile file) (length-sets (zeros generators) 0 (orderOf file) ∙ zeros-length generators) (zeros-length generators)
+    of-cond (λ (a : OrderAnswer). length (a .entries) ≡ generators) (isOrderFile file) (length-sets (zeros generators) 0 (orderOf file) ∙ zeros-length generators) (zeros-length generators)
 
 -- An order file.
-module _ (text : Text) (m : Machine) (file : List ℕ) {a : Answer} (read : a ≡ readOf file) where
+module _ (text : Text) (m : Machine) (file : List ℕ) {a : OrderAnswer} (read : a ≡ readOf file) where
   pub file-refused : a .number ≢ 0 → byFileLines text m file ≡ orderRefusalLine (a .number)
   unfolding byFileLines
   file-refused h =
-      let q = number-nine file (λ z. h (ap (λ (b : Answer). b .number) read ∙ z)) in
-      rw (q .0) (ap orderRefusalLine (sym (ap (λ (b : Answer). b .number) read ∙ q .1)))
+      let q = number-nine file (λ z. h (ap (λ (b : OrderAnswer). b .number) read ∙ z)) in
+      rw (q .0) (ap orderRefusalLine (sym (ap (λ (b : OrderAnswer). b .number) read ∙ q .1)))
 
   pub file-within : a .count ≤ length (a .entries)
   file-within =
-      omega (arith, ap (λ (b : Answer). b .count) read, ap (λ (b : Answer). length (b .entries)) read, count-within file, entries-length file)
+      omega (arith, ap (λ (b : OrderAnswer). b .count) read, ap (λ (b : OrderAnswer). length (b .entries)) read, count-within file, entries-length file)
 
   pub file-compared : a .number ≡ 0 → byFileLines text m file ≡ comparedLines text m (take (a .count - 0) (a .entries))
   unfolding byFileLines
   file-compared z =
-      let good = number-zero file (sym (ap (λ (b : Answer). b .number) read) ∙ z) in
+      let good = number-zero file (sym (ap (λ (b : OrderAnswer). b .number) read) ∙ z) in
       rw (sub-zero, read, entries-are file good, good)
 
 -- A bench file.

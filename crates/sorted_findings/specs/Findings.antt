@@ -4,19 +4,19 @@ use Prim.Native.Nat.{ℕ, _+_, _*_}
 use mathlib.Core.Bool.{cond}
 use mathlib.Core.List.{List, _++_}
 use lib.Dec.{eqb}
-use Rattle.lists.specs.Lists.{zeros}
+use Rattle.base_lists.specs.Lists.{zeros}
 use Rattle.layout.specs.Layout.{machineLength, generators}
 use Rattle.layout.specs.Machine.{Machine, Order, ticksOf}
-use Rattle.texts.specs.declared.Text.{Text}
-use Rattle.order_lists.specs.Sequences.{byNumber}
-use Rattle.order_pitch.specs.Pitch.{byPitch}
-use Rattle.order_file.specs.OrderFile.{isOrderFile, orderOf}
-use Rattle.rung_order.specs.declared.By.{By}
-use Rattle.rung_order.specs.declared.By.the-variants.{Number, Pitch, File}
+use Rattle.layout_texts.specs.declared.Text.{Text}
+use Rattle.base_sequences.specs.Sequences.{byNumber}
+use Rattle.pass_pitch.specs.Pitch.{byPitch}
+use Rattle.file_order.specs.OrderFile.{isOrderFile, orderOf}
+use Rattle.ring_order.specs.declared.By.{By}
+use Rattle.ring_order.specs.declared.By.the-variants.{Number, Pitch, File}
 use Rattle.parts.specs.Parts.{Parting, partsOf}
 use Rattle.parts_shown.specs.Shown.{differenceShown}
-use Rattle.bench_text.specs.Text.{lineBytes, refusalLine, orderRefusalLine}
-use Rattle.bench_file.specs.BenchFile.{fileOf, textOf, fileRefusal}
+use Rattle.file_printed.specs.Text.{lineBytes, refusalLine, orderRefusalLine}
+use Rattle.file_bench.specs.BenchFile.{fileOf, textOf, fileRefusal}
 use Rattle.sorted_lines.specs.SortedLines.{orderLines, equalLine, failingLine, entryBytes}
 
 -- What parts the order by number from a second one. The run and the read list for the contents are zeros, and long enough.

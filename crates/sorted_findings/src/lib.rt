@@ -6,18 +6,18 @@ ghost use lib.ListN.{length};
 ghost use lib.Seq.{sets};
 ghost use Rattle.layout.specs.Layout.{machineLength};
 ghost use Rattle.layout.specs.Machine.{ticksOf};
-ghost use Rattle.questions.specs.Questions.{asked};
+ghost use Rattle.base_questions.specs.Questions.{asked};
 ghost use Rattle.machine.specs.Questions.{question1, question2};
-ghost use Rattle.order_lists.specs.Sequences.{byNumber};
-ghost use Rattle.order_pitch.specs.Pitch.{byPitch};
-ghost use Rattle.bench_text.specs.Text.{lineBytes, refusalLine, orderRefusalLine};
+ghost use Rattle.base_sequences.specs.Sequences.{byNumber};
+ghost use Rattle.pass_pitch.specs.Pitch.{byPitch};
+ghost use Rattle.file_printed.specs.Text.{lineBytes, refusalLine, orderRefusalLine};
 ghost use Rattle.sorted_lines.specs.SortedLines.{differencePlace, failingLine};
 ghost use Rattle.sorted_findings.specs.Findings.{foundLine, comparedLines, byFileLines, findingsOf, findingsRoom};
-use bench_text::LINE_BYTES;
+use file_printed::LINE_BYTES;
+use layout_texts::Text;
 use parts::Parted;
 use parts_shown::Difference;
-use rung_order::By;
-use texts::Text;
+use ring_order::By;
 
 // The room for all that is printed: 17 bytes for each of 256 entries of an order, and a line of 64.
 pub const FINDINGS_ROOM: usize = 4416;
@@ -28,8 +28,8 @@ fn put_refusal(n: u32, out: &mut [u8; FINDINGS_ROOM]) -> usize
     ensures { λ _. ⌜ now (out .exit) ≡ sets (now (out .entry)) 0 (refusalLine n) ⌝ }
 {
     let mut line = [0u8; LINE_BYTES];
-    let size = bench_text::refusal_line(&mut line, n);
-    bench_bytes::put(out, 0, &line[0..size])
+    let size = file_printed::refusal_line(&mut line, n);
+    file_bytes::put(out, 0, &line[0..size])
 }
 
 // So is the line of a file that is no order file.
@@ -38,8 +38,8 @@ fn put_order_refusal(n: u32, out: &mut [u8; FINDINGS_ROOM]) -> usize
     ensures { λ _. ⌜ now (out .exit) ≡ sets (now (out .entry)) 0 (orderRefusalLine n) ⌝ }
 {
     let mut line = [0u8; LINE_BYTES];
-    let size = bench_text::order_refusal_line(&mut line, n);
-    bench_bytes::put(out, 0, &line[0..size])
+    let size = file_printed::order_refusal_line(&mut line, n);
+    file_bytes::put(out, 0, &line[0..size])
 }
 
 // Puts the line of a point that fails after the bytes that a buffer has. Answers the place after it.
@@ -56,7 +56,7 @@ fn put_failing(
 {
     let mut line = [0u8; LINE_BYTES];
     let size = sorted_lines::failing_line(&mut line, parted.point, parted.place, difference);
-    bench_bytes::put(out, at, &line[0..size])
+    file_bytes::put(out, at, &line[0..size])
 }
 
 // Puts the line of what was found of two orders after the bytes that a buffer has. Answers the place after it.
@@ -76,7 +76,7 @@ fn put_found(
     ensures { λ _. ⌜ now (out .exit) ≡ sets (now (out .entry)) at (foundLine text (now (first .entry)) (now (second .entry)) (record { number = parted .number; point = parted .point; place = parted .place; contents = now (contents .entry); items = now (items .entry) })) ⌝ }
 {
     if parted.point == 0 {
-        return bench_bytes::put(out, at, b"equal\n");
+        return file_bytes::put(out, at, b"equal\n");
     }
     let difference = parts_shown::differ_by(text, contents, items, first, second);
     put_failing(parted, difference, out, at)
@@ -111,7 +111,7 @@ fn compared(text: Text, m: &[u32], second: &[u32], out: &mut [u8; FINDINGS_ROOM]
     ensures { λ _. ⌜ now (out .exit) ≡ sets (now (out .entry)) 0 (comparedLines text (now (m .entry)) (now (second .entry))) ⌝ }
 {
     let mut numbers = [0u32; layout::GENERATORS];
-    bench_pass::by_number(&mut numbers);
+    ring_pass::by_number(&mut numbers);
     let t = layout::ticks(m);
     put_compared(text, m, &numbers[0..t], second, out)
 }
@@ -126,7 +126,7 @@ fn by_pitch(text: Text, m: &[u32], out: &mut [u8; FINDINGS_ROOM]) -> usize
         return put_refusal(refused, out);
     }
     let mut order = [0u32; layout::GENERATORS];
-    order_pitch::by_pitch(m, &mut order);
+    pass_pitch::by_pitch(m, &mut order);
     let t = layout::ticks(m);
     compared(text, m, &order[0..t], out)
 }
@@ -136,7 +136,7 @@ fn by_file(text: Text, m: &[u32], file: &[u8], out: &mut [u8; FINDINGS_ROOM]) ->
     ensures { λ r. ⌜ r ≡ length (byFileLines text (now (m .entry)) (now (file .entry))) ⌝ }
     ensures { λ _. ⌜ now (out .exit) ≡ sets (now (out .entry)) 0 (byFileLines text (now (m .entry)) (now (file .entry))) ⌝ }
 {
-    let read = order_file::read(file);
+    let read = file_order::read(file);
     let count = read.count;
     let order = read.entries;
     if read.number != 0 {
@@ -155,8 +155,8 @@ pub fn findings(file: &[u8], by: By, order: &[u8], out: &mut [u8; FINDINGS_ROOM]
     ensures { λ _. ⌜ now (out .exit) ≡ sets (now (out .entry)) 0 (findingsOf (now (file .entry)) by (now (order .entry))) ⌝ }
 {
     let mut m = [0u32; layout::MACHINE_LENGTH];
-    let mut room = [0u32; bench_file::COMMAND_PLACES];
-    let reading = bench_file::read(file, &mut m, &mut room);
+    let mut room = [0u32; file_bench::COMMAND_PLACES];
+    let reading = file_bench::read(file, &mut m, &mut room);
     if reading.number != 0 {
         return put_refusal(reading.number, out);
     }

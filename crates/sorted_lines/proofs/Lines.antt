@@ -7,11 +7,11 @@ use native.Mathlib.Omega.{arith}
 use native.Mathlib.Nat.{zero-add}
 use lib.ListN.{length, getD, drop, drop-of-length-le, length-append}
 use lib.Seq.{sets, length-sets}
-use Rattle.bench_bytes.proofs.Puts.{Put, then, sets-append}
-use Rattle.bench_bytes.proofs.Searches.{next}
-use Rattle.bench_text.specs.Text.{named, newline}
-use Rattle.bench_text.proofs.Lines.{named-length}
-use Rattle.order_file.specs.OrderFile.{orderStart}
+use Rattle.file_bytes.proofs.Puts.{Put, then, sets-append}
+use Rattle.file_bytes.proofs.Searches.{next}
+use Rattle.file_printed.specs.Text.{named, newline}
+use Rattle.file_printed.proofs.Lines.{named-length}
+use Rattle.file_order.specs.OrderFile.{orderStart}
 use Rattle.parts_shown.specs.declared.Difference.{Difference}
 use Rattle.parts_shown.specs.declared.Difference.the-variants.{Word, Written}
 use Rattle.sorted_lines.specs.SortedLines.{entryLine, orderLines, pointText, placeText, wordText, writtenText, differenceText, failingLine, entryBytes}

@@ -7,7 +7,7 @@ use native.Mathlib.Omega.{arith}
 use native.Mathlib.Nat.{zero-add}
 use lib.ListN.{length, take}
 use lib.Seq.{sets, length-sets}
-use Rattle.bench_bytes.proofs.Puts.{first-part}
+use Rattle.file_bytes.proofs.Puts.{first-part}
 
 module _ (bytes line : List ℕ) (fits : length bytes ≤ length line) {size : ℕ} {after : List ℕ}
     (made : (size ≡ length bytes) × (after ≡ sets line 0 bytes)) where

@@ -3,11 +3,11 @@
 use Prim.Native.Nat.{ℕ}
 use mathlib.Core.List.{List, [], _∷_, _++_}
 use Rattle.layout.specs.Machine.{Order}
-use Rattle.order_file.specs.OrderFile.{orderStart}
+use Rattle.file_order.specs.OrderFile.{orderStart}
 use Rattle.parts_shown.specs.declared.Difference.{Difference}
 use Rattle.parts_shown.specs.declared.Difference.the-variants.{Word, Written}
-use Rattle.bench_bytes.specs.Bytes.{ascii}
-use Rattle.bench_text.specs.Text.{named, newline}
+use Rattle.file_bytes.specs.Bytes.{ascii}
+use Rattle.file_printed.specs.Text.{named, newline}
 
 -- The line of an entry of an order, as an order file has it, and the lines of an order.
 unfoldable pub entryLine : ℕ → List ℕ

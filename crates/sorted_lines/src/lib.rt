@@ -3,9 +3,9 @@ ghost use mathlib.Core.Path.{_≡_};
 ghost use Prim.Native.Nat.{_+_, _*_, _^_, _≤_, _<_};
 ghost use lib.ListN.{length};
 ghost use lib.Seq.{sets};
-ghost use Rattle.bench_text.specs.Text.{lineBytes};
+ghost use Rattle.file_printed.specs.Text.{lineBytes};
 ghost use Rattle.sorted_lines.specs.SortedLines.{entryLine, orderLines, differenceText, differencePlace, failingLine, entryBytes};
-use bench_text::LINE_BYTES;
+use file_printed::LINE_BYTES;
 use parts_shown::Difference;
 
 // The line of an entry of an order. Answers its length.
@@ -13,8 +13,8 @@ pub fn entry_line(line: &mut [u8; LINE_BYTES], g: u32) -> usize
     ensures { λ r. ⌜ r ≡ length (entryLine g) ⌝ }
     ensures { λ _. ⌜ now (line .exit) ≡ sets (now (line .entry)) 0 (entryLine g) ⌝ }
 {
-    let a = bench_text::put_named(line, 0, b"order=", g);
-    bench_bytes::put(line, a, b"\n")
+    let a = file_printed::put_named(line, 0, b"order=", g);
+    file_bytes::put(line, a, b"\n")
 }
 
 // The name and the place of a difference, in a line from a place on. Answers the place after it.
@@ -25,8 +25,8 @@ fn put_difference(line: &mut [u8; LINE_BYTES], at: usize, difference: Difference
     ensures { λ _. ⌜ now (line .exit) ≡ sets (now (line .entry)) at (differenceText difference) ⌝ }
 {
     match difference {
-        Difference::Word(w) => bench_text::put_named(line, at, b" word=", w as u32),
-        Difference::Written(i) => bench_text::put_named(line, at, b" written=", i as u32),
+        Difference::Word(w) => file_printed::put_named(line, at, b" word=", w as u32),
+        Difference::Written(i) => file_printed::put_named(line, at, b" written=", i as u32),
     }
 }
 
@@ -41,10 +41,10 @@ pub fn failing_line(
     ensures { λ r. ⌜ r ≡ length (failingLine point place difference) ⌝ }
     ensures { λ _. ⌜ now (line .exit) ≡ sets (now (line .entry)) 0 (failingLine point place difference) ⌝ }
 {
-    let a = bench_text::put_named(line, 0, b"point=", point);
-    let b = bench_text::put_named(line, a, b" place=", place);
+    let a = file_printed::put_named(line, 0, b"point=", point);
+    let b = file_printed::put_named(line, a, b" place=", place);
     let c = put_difference(line, b, difference);
-    bench_bytes::put(line, c, b"\n")
+    file_bytes::put(line, c, b"\n")
 }
 
 // Puts the line of an entry into a buffer from a place on, and answers the place after it.
@@ -55,7 +55,7 @@ fn put_entry(out: &mut [u8], at: usize, g: u32) -> usize
 {
     let mut line = [0u8; LINE_BYTES];
     let size = entry_line(&mut line, g);
-    bench_bytes::put(out, at, &line[0..size])
+    file_bytes::put(out, at, &line[0..size])
 }
 
 // Puts the lines of an order at the start of a buffer, and answers their length.

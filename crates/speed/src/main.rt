@@ -1,18 +1,18 @@
 // The benchmark's job over the proved leaves: turns of 256 generators, or products, many times over; prints a checksum.
-// The same job stands in plain C in bench/leaves.c.
+// The same job stands in plain C in benchmarks/leaves.c.
 ghost use mathlib.Core.Path.{_≡_};
 ghost use Prim.Native.Nat.{_<_, _^_};
 ghost use mathlib.Core.Bool.{true};
 ghost use lib.ListN.{length};
-ghost use Rattle.sine.specs.Sine.{quarter};
-ghost use Rattle.exponential.specs.Exponential.{tableSize, entries};
-ghost use Rattle.modes.specs.Modes.{rows, switchesOf, envelopeOn};
+ghost use Rattle.generator_sine.specs.Sine.{quarter};
+ghost use Rattle.generator_exponential.specs.Exponential.{tableSize, entries};
+ghost use Rattle.layout_modes.specs.Modes.{rows, switchesOf, envelopeOn};
 ghost use Rattle.generator.specs.Generator.{Ranged, runMode};
-use exponential::Entries;
 use generator::Generator;
-use modes::Rows;
-use modes::Switches;
-use sine::Quarter;
+use generator_exponential::Entries;
+use generator_sine::Quarter;
+use layout_modes::Rows;
+use layout_modes::Switches;
 use std::num;
 
 // The words of the input after the first two.
@@ -21,7 +21,7 @@ fn words_of(b: &[u8], m: &mut [u32])
 {
     let mut i: usize = 0;
     while i < 2816 {
-        m[i] = octets::word_at(b, i + 2);
+        m[i] = trial_octets::word_at(b, i + 2);
         i += 1;
     }
 }
@@ -52,7 +52,7 @@ fn sum_at(sums: &[u32; 64], at: u32) -> u32
 
 fn add_at(sums: &mut [u32; 64], at: u32, p: u32) {
     let i = (at % 64) as usize;
-    sums[i] = words::add20(sums[i] % 1048576, p % 1048576);
+    sums[i] = base_words::add20(sums[i] % 1048576, p % 1048576);
 }
 
 // The turn of generator n, whose envelope is on: 1 if it triggers.
@@ -93,7 +93,7 @@ fn turn_at(
     requires { ⌜ (now sine ≡ quarter) × (now decay ≡ entries tableSize) × (now modes ≡ rows) ⌝ }
 {
     let unit = generator_at(m, n);
-    let on = modes::switches_of(modes, unit.gmode / 64);
+    let on = layout_modes::switches_of(modes, unit.gmode / 64);
     if on.envelope == 0 {
         return 0;
     }
@@ -178,8 +178,8 @@ fn multiplied(x: u32, i: u32) -> u32
     ensures { λ r. ⌜ r < 2 ^ 20 ⌝ }
 {
     let other = num::wrapping_add_u32(x * 5, i) % 1048576;
-    let product = product::multiply(i % 4, x, other) % 1048576;
-    words::add20(product, x)
+    let product = modifier_product::multiply(i % 4, x, other) % 1048576;
+    base_words::add20(product, x)
 }
 
 fn products(x: u32, count: u32) -> u32 {
@@ -218,12 +218,12 @@ fn main() {
     }
     let mut m = [0u32; 2816];
     words_of(&input, &mut m);
-    let sine = sine::table();
-    let decay = exponential::table();
-    let modes = modes::table();
+    let sine = generator_sine::table();
+    let decay = generator_exponential::table();
+    let modes = layout_modes::table();
     let sum = checksum(
-        octets::word_at(&input, 0),
-        octets::word_at(&input, 1),
+        trial_octets::word_at(&input, 0),
+        trial_octets::word_at(&input, 1),
         &mut m,
         &sine,
         &decay,

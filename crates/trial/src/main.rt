@@ -4,19 +4,19 @@ ghost use mathlib.Core.Path.{_≡_};
 ghost use mathlib.Core.Bool.{true};
 ghost use Prim.Native.Nat.{_+_, _*_, _≤_, _<_, _^_};
 ghost use lib.ListN.{length};
-ghost use Rattle.sine.specs.Sine.{quarter};
-ghost use Rattle.exponential.specs.Exponential.{tableSize, entries};
-ghost use Rattle.modes.specs.Modes.{rows, switchesOf, envelopeOn};
+ghost use Rattle.generator_sine.specs.Sine.{quarter};
+ghost use Rattle.generator_exponential.specs.Exponential.{tableSize, entries};
+ghost use Rattle.layout_modes.specs.Modes.{rows, switchesOf, envelopeOn};
 ghost use Rattle.generator.specs.Generator.{Ranged, runMode};
 ghost use Rattle.modifier.specs.Modifier.{Ranged as InRange};
-use exponential::Entries;
 use generator::Generator;
 use generator::Sounded;
-use modes::Rows;
-use modes::Switches;
+use generator_exponential::Entries;
+use generator_sine::Quarter;
+use layout_modes::Rows;
+use layout_modes::Switches;
 use modifier::Modifier;
 use modifier::Turned;
-use sine::Quarter;
 
 fn flag(b: bool) -> u32 {
     if b { 1 } else { 0 }
@@ -28,8 +28,8 @@ fn sine_of(x: &[u32; 16], sine: &Quarter) -> [u32; 16]
 {
     let k = x[1] % 8192;
     let mut r = [0u32; 16];
-    r[0] = sine::sign(k);
-    r[1] = sine::magnitude(sine, k);
+    r[0] = generator_sine::sign(k);
+    r[1] = generator_sine::magnitude(sine, k);
     r
 }
 
@@ -38,7 +38,7 @@ fn exponential_of(x: &[u32; 16], decay: &Entries) -> [u32; 16]
     requires { ⌜ now decay ≡ entries tableSize ⌝ }
 {
     let mut r = [0u32; 16];
-    r[0] = exponential::exponential(decay, x[1] % 16777216);
+    r[0] = generator_exponential::exponential(decay, x[1] % 16777216);
     r
 }
 
@@ -48,8 +48,8 @@ fn products(x: &[u32; 16]) -> [u32; 16] {
     let a = x[2] % 1048576;
     let b = x[3] % 1048576;
     let mut r = [0u32; 16];
-    r[0] = product::multiply(s, a, b);
-    r[1] = product::multiply_integer(s, a, b);
+    r[0] = modifier_product::multiply(s, a, b);
+    r[1] = modifier_product::multiply_integer(s, a, b);
     r
 }
 
@@ -79,7 +79,7 @@ fn registers(unit: Generator) -> [u32; 16] {
 }
 
 // What a generator whose envelope is on brings: its words afterwards, P, and whether it triggers.
-fn brought(after: Sounded) -> [u32; 16] {
+fn contribution(after: Sounded) -> [u32; 16] {
     let mut r = registers(after.unit);
     r[11] = after.p;
     r[12] = flag(after.triggers);
@@ -93,7 +93,7 @@ fn sounded(unit: Generator, on: Switches, f: u32, sine: &Quarter, decay: &Entrie
     requires { ⌜ (on ≡ switchesOf (runMode unit)) × (envelopeOn (runMode unit) ≡ true) ⌝ }
     requires { ⌜ (now sine ≡ quarter) × (now decay ≡ entries tableSize) ⌝ }
 {
-    brought(unit.play(sine, decay, on, f))
+    contribution(unit.play(sine, decay, on, f))
 }
 
 // A generator's turn with F, told whether its lower neighbour has triggered.
@@ -102,13 +102,13 @@ fn generator_turn(x: &[u32; 16], sine: &Quarter, decay: &Entries, modes: &Rows) 
 {
     let unit = generator_of(x);
     let run = unit.gmode / 64;
-    let on = modes::switches_of(modes, run);
+    let on = layout_modes::switches_of(modes, run);
     let f = x[12] % 1048576;
     if on.envelope == 1 {
         return sounded(unit, on, f, sine, decay);
     }
     if run == 9 {
-        return registers(unit.wait(f, x[13] % 2 == 1));
+        return registers(unit.await_trigger(f, x[13] % 2 == 1));
     }
     registers(unit)
 }
@@ -118,17 +118,17 @@ fn old_generator_turn(x: &[u32; 16], sine: &Quarter, decay: &Entries, modes: &Ro
     requires { ⌜ (now sine ≡ quarter) × (now decay ≡ entries tableSize) × (now modes ≡ rows) ⌝ }
 {
     let unit = generator_of(x);
-    let run = old_modes::run_mode(unit.gmode, unit.gn);
-    let on = modes::switches_of(modes, run);
+    let run = layout_old_modes::run_mode(unit.gmode, unit.gn);
+    let on = layout_modes::switches_of(modes, run);
     let f = x[12] % 1048576;
     if on.envelope == 1 {
-        return brought(old_generator::play(unit, sine, decay, on, f));
+        return contribution(generator_old::play(unit, sine, decay, on, f));
     }
     if run == 9 {
-        return registers(old_generator::wait(unit, f, x[13] % 2 == 1));
+        return registers(generator_old::await_trigger(unit, f, x[13] % 2 == 1));
     }
     let mut r = registers(unit);
-    r[13] = old_generator::angle(unit, f);
+    r[13] = generator_old::angle(unit, f);
     r
 }
 
@@ -164,18 +164,18 @@ fn modifier_turn(x: &[u32; 16]) -> [u32; 16] {
 // The same by the older text, whether its function reads A late, and whether it is built.
 fn old_modifier_turn(x: &[u32; 16]) -> [u32; 16] {
     let f = x[8] / 16 % 32;
-    let mut r = turned_words(old_modifier::turn(modifier_of(x), x[9] % 1048576, x[10] % 1048576));
-    r[9] = flag(old_modifier::reads_late(f));
-    r[10] = flag(built_codes::old_built_function(f));
+    let mut r = turned_words(modifier_old::turn(modifier_of(x), x[9] % 1048576, x[10] % 1048576));
+    r[9] = flag(modifier_old::reads_late(f));
+    r[10] = flag(layout_codes::old_built_function(f));
     r
 }
 
 // Whether the run mode and the oscillator mode of a GMODE and the function of an MMODE are built.
 fn built(x: &[u32; 16]) -> [u32; 16] {
     let mut r = [0u32; 16];
-    r[0] = flag(modes::built_run(x[1] / 64 % 16));
-    r[1] = flag(modes::built_oscillator(x[1] % 16));
-    r[2] = flag(built_codes::built_function(x[2] / 16 % 32));
+    r[0] = flag(layout_modes::built_run(x[1] / 64 % 16));
+    r[1] = flag(layout_modes::built_oscillator(x[1] % 16));
+    r[2] = flag(layout_codes::built_function(x[2] / 16 % 32));
     r
 }
 
@@ -185,10 +185,10 @@ fn sums(x: &[u32; 16]) -> [u32; 16] {
     let b = x[2] % 1048576;
     let gq = x[3] % 16777216;
     let mut r = [0u32; 16];
-    r[0] = words::add20(a, b);
-    r[1] = flag(words::leaves20(a, b));
-    r[2] = words::into24(gq, a);
-    r[3] = flag(words::outside24(gq, a));
+    r[0] = base_words::add20(a, b);
+    r[1] = flag(base_words::leaves20(a, b));
+    r[2] = base_words::into24(gq, a);
+    r[3] = flag(base_words::outside24(gq, a));
     r
 }
 
@@ -218,7 +218,7 @@ fn request_at(input: &[u8], n: usize) -> [u32; 16]
     let mut x = [0u32; 16];
     let mut i: usize = 0;
     while i < 16 {
-        x[i] = octets::word_at(input, 16 * n + i);
+        x[i] = trial_octets::word_at(input, 16 * n + i);
         i += 1;
     }
     x
@@ -230,7 +230,7 @@ fn put_answer_at(output: &mut [u8], n: usize, r: &[u32; 16])
 {
     let mut i: usize = 0;
     while i < 16 {
-        octets::put_word_at(output, 16 * n + i, r[i]);
+        trial_octets::put_word_at(output, 16 * n + i, r[i]);
         i += 1;
     }
 }
@@ -286,9 +286,9 @@ fn answer_some(sine: &Quarter, decay: &Entries, modes: &Rows) -> bool
 
 // A proved loop has to end, so the turns are counted down from a number that no input uses up.
 fn main() {
-    let sine = sine::table();
-    let decay = exponential::table();
-    let modes = modes::table();
+    let sine = generator_sine::table();
+    let decay = generator_exponential::table();
+    let modes = layout_modes::table();
     let mut turns = u64::MAX;
     while turns > 0 && answer_some(&sine, &decay, &modes) {
         turns -= 1;

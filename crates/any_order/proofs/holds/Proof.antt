@@ -1,12 +1,12 @@
 -- `any_order::holds` meets its contract: the counts that are kept are those of the generators.
 -- Assumes nothing.
 use mathlib.Core.Path.{refl, ap, _∙_}
-use Rattle.lists.specs.Lists.{zeros}
+use Rattle.base_lists.specs.Lists.{zeros}
 use Rattle.layout.specs.Machine.{ticksOf}
-use Rattle.order_counts.specs.KeptCounts.{countedTo}
-use Rattle.order_counts.proofs.Tallies.{counted}
-use Rattle.order_rule.specs.Rule.{alikeBy}
-use Rattle.order_rule.proofs.Rule.{rule-tally}
+use Rattle.any_order_counts.specs.AsCoded.{countedTo}
+use Rattle.any_order_counts.proofs.Tallies.{counted}
+use Rattle.any_order_rule.specs.AsCoded.{orderFreeBy}
+use Rattle.any_order_rule.proofs.Rule.{rule-tally}
 use borrow.Author.Needs.{needs}
 use Rattle.any_order.proofs.holds.Statement.{statement}
 use Rattle.any_order.proofs.holds.Tie as tie
@@ -20,7 +20,7 @@ returns c =
     let done = c .before .before in
     let b = done .before .before .before in
     let m = b .args .m .now in
-    c .alike .ensures ∙ ap alikeBy (done .count .ensures) ∙ rule-tally m (b .pre) (countedTo m (ticksOf m)) (counted m (b .pre) (ticksOf m) (b .pre .ticks))
+    c .order-free .ensures ∙ ap orderFreeBy (done .count .ensures) ∙ rule-tally m (b .pre) (countedTo m (ticksOf m)) (counted m (b .pre) (ticksOf m) (b .pre .ticks))
 
 pub holds-spec : {M : Type 1} → statement M
 holds-spec = tie.close (tie.spec count-requires (λ c κs. search needs) returns)

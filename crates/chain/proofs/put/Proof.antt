@@ -3,8 +3,8 @@
 use mathlib.Core.Path.{_≡_, ap, _∙_}
 use Prim.Native.Nat.{ℕ, _≤_, _-_}
 use lib.ListN.{getD}
-use Rattle.fills.specs.Fills.{filled}
-use Rattle.fills.proofs.Filled.{filled-none}
+use Rattle.base_fills.specs.Fills.{filled}
+use Rattle.base_fills.proofs.Filled.{filled-none}
 use Rattle.chain.proofs.Loops.{put-next}
 use native.Mathlib.Omega.{arith}
 use Rattle.chain.proofs.put.Statement.{statement}

@@ -3,7 +3,7 @@
 use mathlib.Core.Path.{_≡_, refl, ap, _∙_}
 use Prim.Native.Nat.{_/_, _≤_, _-_}
 use lib.ListN.{length}
-use Rattle.lists.specs.Lists.{allBelow}
+use Rattle.base_lists.specs.Lists.{allBelow}
 use Rattle.chain_entries.specs.Entries.{entryGood}
 use Rattle.chain_entries.proofs.Loops.{all-next}
 use native.Mathlib.Omega.{arith}

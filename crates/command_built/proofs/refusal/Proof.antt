@@ -3,7 +3,7 @@
 use mathlib.Core.Path.{_≡_, refl, sym, _∙_}
 use mathlib.Core.Bool.{true, false}
 use borrow.Author.Tests.{not-true, not-false}
-use Rattle.questions.specs.Questions.{asked}
+use Rattle.base_questions.specs.Questions.{asked}
 use Rattle.command_built.specs.Built.{built, ticksFit, commandRefusal}
 use borrow.Author.Needs.{needs}
 use Rattle.command_built.proofs.refusal.Statement.{statement}

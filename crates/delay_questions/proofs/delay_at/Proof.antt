@@ -1,7 +1,7 @@
 -- `delay_questions::delay_at` meets its contract: the part of the machine that is handed on runs to its end.
 -- Assumes nothing.
 use borrow.Author.Needs.{needs}
-use Rattle.lists.proofs.Parts.{part-from}
+use Rattle.base_lists.proofs.Parts.{part-from}
 use Rattle.delay_questions.proofs.delay_at.Statement.{statement}
 use Rattle.delay_questions.proofs.delay_at.Tie as tie
 

@@ -3,7 +3,7 @@
 use borrow.Author.Needs.{needs}
 use mathlib.Core.Path.{sym, _∙_}
 use borrow.Author.Tests.{not-true, not-false}
-use Rattle.questions.specs.Questions.{asked}
+use Rattle.base_questions.specs.Questions.{asked}
 use Rattle.delay_questions.proofs.delay_refusal.Statement.{statement}
 use Rattle.delay_questions.proofs.delay_refusal.Tie as tie
 

@@ -3,16 +3,16 @@
 use borrow.Author.Needs.{needs}
 use mathlib.Core.Path.{sym, _∙_}
 use borrow.Author.Tests.{not-true, not-false}
-use Rattle.delay_questions.specs.Loops.{unmarked, marked}
+use Rattle.delay_questions.specs.AsCoded.{unmarked, unitMarked}
 use Rattle.delay_questions.proofs.mark.Statement.{statement}
 use Rattle.delay_questions.proofs.mark.Tie as tie
 
 returns : tie.Need-returns
-unfolding unmarked marked
+unfolding unmarked unitMarked
 returns c = let no = sym (c .before .invokes .ensures) ∙ not-true _ (c .if1 .taken) in (rw no, rw no)
 
 returns-2 : tie.Need-returns-2
-unfolding unmarked marked
+unfolding unmarked unitMarked
 returns-2 c =
     let yes = sym (c .before .before .before .invokes .ensures) ∙ not-false _ (c .before .before .if1 .left) in
     let unit = c .before .named-by .ensures in

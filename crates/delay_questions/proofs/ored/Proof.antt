@@ -4,7 +4,7 @@ use mathlib.Core.Path.{_≡_, refl}
 use Prim.Native.Nat.{_≤_, _-_}
 use native.Mathlib.Omega.{arith}
 use lib.ListN.{length}
-use Rattle.delay_questions.specs.Loops.{ored}
+use Rattle.delay_questions.specs.AsCoded.{ored}
 use Rattle.delay_questions.proofs.Memory.{ored-next}
 use Rattle.delay_questions.proofs.ored.Statement.{statement}
 use Rattle.delay_questions.proofs.ored.Tie as tie

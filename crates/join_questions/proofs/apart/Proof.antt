@@ -3,7 +3,7 @@
 use mathlib.Core.Path.{_≡_, ap, _∙_}
 use Prim.Native.Nat.{_≤_, _-_}
 use native.Mathlib.Omega.{arith}
-use Rattle.join_questions.specs.Marks.{marksApart}
+use Rattle.join_questions.specs.AsCoded.{marksApart}
 use Rattle.join_questions.proofs.Answers.{apart-none, apart-next}
 use Rattle.join_questions.proofs.apart.Statement.{statement}
 use Rattle.join_questions.proofs.apart.Tie as tie

@@ -3,7 +3,7 @@
 use native.Mathlib.Omega.{arith}
 use borrow.Author.Tests.{eq-eqb, ne-eqb}
 use borrow.Author.Needs.{needs}
-use Rattle.join_questions.specs.Marks.{marked}
+use Rattle.join_questions.specs.AsCoded.{usesMarked}
 use Rattle.join_questions.proofs.mark.Statement.{statement}
 use Rattle.join_questions.proofs.mark.Tie as tie
 
@@ -20,7 +20,7 @@ element-write-used-2 c =
     omega (arith, c .before .wide .ensures, input .gfm .ensures, b .pre .0 .gfms (b .args .g) (b .pre .1))
 
 returns : tie.Need-returns
-unfolding marked
+unfolding usesMarked
 returns c =
     let dac = c .before in
     let input = dac .before in
@@ -28,7 +28,7 @@ returns c =
     rw (dac .dac-number .ensures .0, input .wide .ensures, input .before .gfm .ensures, sum .gsum .ensures, ← (sum .before .run-mode .ensures), eq-eqb _ _ (c .if1 .taken))
 
 returns-2 : tie.Need-returns-2
-unfolding marked
+unfolding usesMarked
 returns-2 c =
     let dac = c .before in
     let input = dac .before in

@@ -4,7 +4,7 @@ use mathlib.Core.Path.{_≡_, refl, ap, _∙_}
 use Prim.Native.Nat.{_≤_, _-_}
 use native.Mathlib.Omega.{arith}
 use native.Mathlib.Numerals.{add-one}
-use Rattle.lists.specs.Lists.{allBelow}
+use Rattle.base_lists.specs.Lists.{allBelow}
 use Rattle.layout.specs.Machine.{ticksOf}
 use Rattle.join_model.specs.Join.{ownGenerator, ownGenerators}
 use Rattle.join_questions.proofs.own_generators.Statement.{statement}

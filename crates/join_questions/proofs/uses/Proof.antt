@@ -4,7 +4,7 @@ use mathlib.Core.Path.{_≡_, ap, _∙_}
 use Prim.Native.Nat.{_≤_, _-_}
 use native.Mathlib.Omega.{arith}
 use Rattle.layout.specs.Machine.{ticksOf}
-use Rattle.join_questions.specs.Marks.{markedTo}
+use Rattle.join_questions.specs.AsCoded.{markedTo}
 use Rattle.join_questions.proofs.Marking.{marks-none, marks-next}
 use Rattle.join_questions.proofs.uses.Statement.{statement}
 use Rattle.join_questions.proofs.uses.Tie as tie

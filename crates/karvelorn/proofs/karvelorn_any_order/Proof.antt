@@ -5,7 +5,7 @@ use mathlib.Core.Bool.{Bool, true, false, cond}
 use Prim.Native.Nat.{ℕ}
 use mir.Val.{boolByte}
 use borrow.Author.Needs.{needs}
-use Rattle.any_order.specs.AnyOrder.{Answer}
+use Rattle.any_order.specs.AnyOrder.{AnyOrderAnswer}
 use Rattle.karvelorn.proofs.karvelorn_any_order.Statement.{statement}
 use Rattle.karvelorn.proofs.karvelorn_any_order.Tie as tie
 
@@ -16,7 +16,7 @@ number false = refl
 returns : tie.Need-returns
 returns c =
     let e = c .before .any-order .ensures in
-    (ap (λ (x : Answer). x .number) e, number (c .before .any-order .result .alike) ∙ ap {B = ℕ} (λ (x : Answer). cond (x .alike) 1 0) e)
+    (ap (λ (x : AnyOrderAnswer). x .number) e, number (c .before .any-order .result .alike) ∙ ap {B = ℕ} (λ (x : AnyOrderAnswer). cond (x .alike) 1 0) e)
 
 pub karvelorn-any-order-spec : {M : Type 1} → statement M
 karvelorn-any-order-spec = tie.close (tie.spec (λ c κs. search needs) (λ c. search needs) returns)

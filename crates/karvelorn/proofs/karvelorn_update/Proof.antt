@@ -2,7 +2,7 @@
 -- Assumes nothing.
 use borrow.Author.Needs.{needs}
 use native.Mathlib.Omega.{arith}
-use Rattle.update.proofs.Updating.{left-within, count-is, tail-of}
+use Rattle.command_update.proofs.Updating.{left-within, count-is, tail-of}
 use Rattle.karvelorn.proofs.karvelorn_update.Statement.{statement}
 use Rattle.karvelorn.proofs.karvelorn_update.Tie as tie
 

@@ -1,13 +1,13 @@
 -- `machine::delays_within` meets its contract: the flags are those of the built modes.
 -- Assumes nothing.
 use Prim.Native.Nat.{_+_, _%_}
-use Rattle.lists.specs.Lists.{isOneOf}
-use Rattle.lists.proofs.Below.{both}
+use Rattle.base_lists.specs.Lists.{isOneOf}
+use Rattle.base_lists.proofs.Below.{both}
 use Rattle.layout.specs.Layout.{delayAt, delayWords, delayP}
-use Rattle.built_codes.specs.BuiltCodes.{builtMode}
+use Rattle.layout_codes.specs.BuiltCodes.{builtMode}
 use Rattle.machine_sweep.proofs.Words.{flags-tell, fields-tested}
 use Rattle.machine.specs.Questions.{delayRegisters}
-use Rattle.machine.specs.Loops.{limitsOf, repeated, delaysWithin}
+use Rattle.machine.specs.AsCoded.{limitsOf, repeated, delaysWithin}
 use Rattle.machine.proofs.Limits.{limits-swept}
 use borrow.Author.Needs.{needs}
 use Rattle.machine.proofs.delays_within.Statement.{statement}

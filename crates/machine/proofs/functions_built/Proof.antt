@@ -1,11 +1,11 @@
 -- `machine::functions_built` meets its contract: the flags are those of the built functions.
 -- Assumes nothing.
 use Prim.Native.Nat.{_+_}
-use Rattle.lists.specs.Lists.{isOneOf}
+use Rattle.base_lists.specs.Lists.{isOneOf}
 use Rattle.layout.specs.Layout.{modifierAt, modifierWords, MMODE}
-use Rattle.built_codes.specs.BuiltCodes.{builtFunctions, builtFunction, oldBuiltFunctions, oldBuiltFunction}
+use Rattle.layout_codes.specs.BuiltCodes.{builtFunctions, builtFunction, oldBuiltFunctions, oldBuiltFunction}
 use Rattle.machine_sweep.proofs.Words.{flags-tell, fields-tested}
-use Rattle.machine.specs.Loops.{functionsBuilt}
+use Rattle.machine.specs.AsCoded.{functionsBuilt}
 use borrow.Author.Needs.{needs}
 use Rattle.machine.proofs.functions_built.Statement.{statement}
 use Rattle.machine.proofs.functions_built.Tie as tie

@@ -1,10 +1,10 @@
 -- `machine::generators_within` meets its contract: the sweep by a text's limits, and its modes.
 -- Assumes nothing.
-use Rattle.lists.proofs.Below.{both}
+use Rattle.base_lists.proofs.Below.{both}
 use Rattle.machine.specs.Questions.{generatorRegisters}
-use Rattle.machine.specs.Loops.{limitsOf, repeated, generatorsWithin}
+use Rattle.machine.specs.AsCoded.{limitsOf, repeated, generatorsWithin}
 use Rattle.machine.proofs.Limits.{limits-swept}
-use Rattle.texts.specs.declared.Text.the-variants.{Of1978, Old}
+use Rattle.layout_texts.specs.declared.Text.the-variants.{Of1978, Old}
 use borrow.Author.Needs.{needs}
 use Rattle.machine.proofs.generators_within.Statement.{statement}
 use Rattle.machine.proofs.generators_within.Tie as tie

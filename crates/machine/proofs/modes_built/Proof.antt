@@ -2,12 +2,12 @@
 -- Assumes nothing.
 use mathlib.Core.Path.{refl}
 use lib.Dec.{lit<}
-use Rattle.lists.specs.Lists.{isOneOf, tabulate}
+use Rattle.base_lists.specs.Lists.{isOneOf, tabulate}
 use Rattle.layout.specs.Layout.{generatorWords, GMODE}
-use Rattle.modes.specs.Modes.{builtRun, builtOscillator}
+use Rattle.layout_modes.specs.Modes.{builtRun, builtOscillator}
 use Rattle.machine_sweep.proofs.Words.{words-tested}
 use Rattle.machine.specs.Questions.{builtModes}
-use Rattle.machine.specs.Loops.{modesBuilt}
+use Rattle.machine.specs.AsCoded.{modesBuilt}
 use borrow.Author.Needs.{needs}
 use Rattle.machine.proofs.modes_built.Statement.{statement}
 use Rattle.machine.proofs.modes_built.Tie as tie

@@ -1,9 +1,9 @@
 -- `machine::modifiers_within` meets its contract: the sweep by the limits, the addresses and the functions.
 -- Assumes nothing.
-use Rattle.lists.proofs.Below.{both}
+use Rattle.base_lists.proofs.Below.{both}
 use Rattle.layout.specs.Layout.{modifierAt}
 use Rattle.machine.specs.Questions.{modifierRegisters}
-use Rattle.machine.specs.Loops.{limitsOf, repeated, modifiersWithin}
+use Rattle.machine.specs.AsCoded.{limitsOf, repeated, modifiersWithin}
 use Rattle.machine.proofs.Limits.{limits-swept}
 use borrow.Author.Needs.{needs}
 use Rattle.machine.proofs.modifiers_within.Statement.{statement}

@@ -2,11 +2,11 @@
 -- Assumes nothing.
 use mathlib.Core.Path.{refl}
 use lib.Dec.{lit<}
-use Rattle.lists.specs.Lists.{isOneOf, tabulate}
+use Rattle.base_lists.specs.Lists.{isOneOf, tabulate}
 use Rattle.layout.specs.Layout.{generatorWords, GMODE}
-use Rattle.old_modes.specs.OldModes.{oldBuiltModes}
+use Rattle.layout_old_modes.specs.OldModes.{oldBuiltModes}
 use Rattle.machine_sweep.proofs.Words.{words-tested}
-use Rattle.machine.specs.Loops.{modesBuilt}
+use Rattle.machine.specs.AsCoded.{modesBuilt}
 use borrow.Author.Needs.{needs}
 use Rattle.machine.proofs.old_modes_built.Statement.{statement}
 use Rattle.machine.proofs.old_modes_built.Tie as tie

@@ -1,7 +1,7 @@
 -- `machine_change::make` meets its contract: a change that is let through has room, and each kind is made.
 -- Assumes nothing.
 use native.Mathlib.Omega.{arith}
-use Rattle.machine.proofs.SoundMachine.{reaches}
+use Rattle.machine.proofs.ValidMachine.{reaches}
 use Rattle.machine_change.proofs.Branches.{more-changed, fewer-changed, register-changed, more-room, fewer-room, register-fits}
 use borrow.Author.Needs.{needs}
 use Rattle.machine_change.proofs.make.Statement.{statement}

@@ -6,8 +6,8 @@ use native.Mathlib.Omega.{arith}
 use native.Mathlib.Nat.{add-zero}
 use borrow.Author.Tests.{ltb-true}
 use lib.ListN.{getD}
-use Rattle.texts.specs.declared.Text.the-variants.{Of1978}
-use Rattle.machine.proofs.SoundMachine.{sound-generator}
+use Rattle.layout_texts.specs.declared.Text.the-variants.{Of1978}
+use Rattle.machine.proofs.ValidMachine.{valid-generator}
 use Rattle.machine_change.proofs.Branches.{dac-fits, gmode-changed, gsum-changed, gfm-changed, dac-changed}
 use borrow.Author.Needs.{needs}
 use Rattle.machine_change.proofs.set_register.Statement.{statement}
@@ -45,7 +45,7 @@ go-low c =
     let start = wide .before .before in
     let a = start .args in
     let e : 11 * wide .wide .result + 0 ≡ 11 * a .generator = at-register 0 (wide .wide .ensures) ∙ add-zero (11 * a .generator) in
-    let low : getD (a .m .now) (11 * wide .wide .result + 0) 0 < 1048576 = rw e (sound-generator Of1978 (a .m .now) (start .pre .0 .1) (a .generator) (start .pre .1 .0) .go) in
+    let low : getD (a .m .now) (11 * wide .wide .result + 0) 0 < 1048576 = rw e (valid-generator Of1978 (a .m .now) (start .pre .0 .1) (a .generator) (start .pre .1 .0) .go) in
     omega (arith, low)
 
 go-changed : tie.Need-add-m-5
@@ -57,7 +57,7 @@ go-changed c =
     let start = wide .before .before in
     let a = start .args in
     let e : 11 * wide .wide .result + 0 ≡ 11 * a .generator = at-register 0 (wide .wide .ensures) ∙ add-zero (11 * a .generator) in
-    let low : getD (a .m .now) (11 * wide .wide .result + 0) 0 < 1048576 = rw e (sound-generator Of1978 (a .m .now) (start .pre .0 .1) (a .generator) (start .pre .1 .0) .go) in
+    let low : getD (a .m .now) (11 * wide .wide .result + 0) 0 < 1048576 = rw e (valid-generator Of1978 (a .m .now) (start .pre .0 .1) (a .generator) (start .pre .1 .0) .go) in
     let dac : a .value < 16 = ltb-true (a .value) 16 (dac-fits (a .kind) (a .value) (other .if1 .left) (no-gsum .if2 .left) (no-gfm .if3 .left) ∙ start .pre .1 .1) in
     omega (arith, low, dac)
 

@@ -6,7 +6,7 @@ use native.Mathlib.Omega.{arith}
 use mathlib.Core.Bool.{false}
 use Prim.Native.Nat.{_/_, _%_, _^_}
 use lib.ListN.{length, getD}
-use Rattle.machine_sweep.specs.Columns.{everyWord}
+use Rattle.machine_sweep.specs.AsCoded.{everyWord}
 use Rattle.machine_sweep.proofs.Words.{word-inside, word-next}
 use Rattle.machine_sweep.proofs.fields_flagged.Statement.{statement}
 use Rattle.machine_sweep.proofs.fields_flagged.Tie as tie

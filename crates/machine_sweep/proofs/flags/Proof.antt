@@ -5,7 +5,7 @@ use Prim.Native.Nat.{_≤_, _-_}
 use native.Mathlib.Omega.{arith}
 use mathlib.Core.Bool.{false}
 use lib.ListN.{length, replicate, length-set}
-use Rattle.machine_sweep.specs.Columns.{flagOf}
+use Rattle.machine_sweep.specs.AsCoded.{flagOf}
 use Rattle.machine_sweep.proofs.Words.{filledFrom, filled-next, filled-done, filled-flags}
 use Rattle.machine_sweep.proofs.flags.Statement.{statement}
 use Rattle.machine_sweep.proofs.flags.Tie as tie

@@ -4,7 +4,7 @@ use mathlib.Core.Path.{_≡_, refl}
 use Prim.Native.Nat.{_≤_, _-_}
 use native.Mathlib.Omega.{arith}
 use lib.ListN.{length}
-use Rattle.machine_sweep.specs.Columns.{rowsBelow}
+use Rattle.machine_sweep.specs.AsCoded.{rowsBelow}
 use Rattle.machine_sweep.proofs.Rows.{rows-next}
 use Rattle.machine_sweep.proofs.rows_below.Statement.{statement}
 use Rattle.machine_sweep.proofs.rows_below.Tie as tie

@@ -4,7 +4,7 @@ use mathlib.Core.Path.{_≡_, refl}
 use Prim.Native.Nat.{_≤_, _-_, _*_}
 use native.Mathlib.Omega.{arith}
 use lib.ListN.{length}
-use Rattle.machine_sweep.specs.Columns.{swept}
+use Rattle.machine_sweep.specs.AsCoded.{swept}
 use Rattle.machine_sweep.proofs.Rows.{rows-inside, swept-next}
 use Rattle.machine_sweep.proofs.swept.Statement.{statement}
 use Rattle.machine_sweep.proofs.swept.Tie as tie

@@ -5,7 +5,7 @@ use Prim.Native.Nat.{_≤_, _-_}
 use native.Mathlib.Omega.{arith}
 use lib.Dec.{ltb}
 use lib.ListN.{length}
-use Rattle.machine_sweep.specs.Columns.{everyWord}
+use Rattle.machine_sweep.specs.AsCoded.{everyWord}
 use Rattle.machine_sweep.proofs.Words.{word-inside, word-next}
 use Rattle.machine_sweep.proofs.words_below.Statement.{statement}
 use Rattle.machine_sweep.proofs.words_below.Tie as tie

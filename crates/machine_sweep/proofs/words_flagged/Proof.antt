@@ -6,7 +6,7 @@ use Prim.Native.Nat.{_≤_, _-_, _+_, _*_, _%_}
 use native.Mathlib.Omega.{arith}
 use native.Mathlib.Nat.{mod-lt}
 use lib.ListN.{length, getD}
-use Rattle.machine_sweep.specs.Columns.{everyWord}
+use Rattle.machine_sweep.specs.AsCoded.{everyWord}
 use Rattle.machine_sweep.proofs.Words.{word-inside, word-next}
 use Rattle.machine_sweep.proofs.words_flagged.Statement.{statement}
 use Rattle.machine_sweep.proofs.words_flagged.Tie as tie

@@ -1,7 +1,7 @@
 -- `modifier::added` meets its contract: the sum's promise, and its width.
 -- Assumes nothing.
 use borrow.Author.Needs.{needs}
-use Rattle.words.proofs.Residues.{sum-low}
+use Rattle.base_words.proofs.Residues.{sum-low}
 use Rattle.modifier.proofs.Low.{word-of}
 use Rattle.modifier.proofs.added.Statement.{statement}
 use Rattle.modifier.proofs.added.Tie as tie

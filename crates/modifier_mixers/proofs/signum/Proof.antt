@@ -2,7 +2,7 @@
 -- Assumes nothing.
 use borrow.Author.Needs.{needs}
 use borrow.Author.Tests.{eq-eqb, ne-eqb}
-use Rattle.words.specs.Words.{lowBits}
+use Rattle.base_words.specs.Words.{lowBits}
 use mathlib.Core.Path.{refl}
 use Rattle.modifier_mixers.specs.Mixers.{signum}
 use Rattle.modifier_mixers.proofs.signum.Statement.{statement}

@@ -1,7 +1,7 @@
 -- `modifier_modulators::amplitude_modulation` meets its contract: the calls' promises, one after the other, are the definition.
 -- Assumes nothing.
 use borrow.Author.Needs.{needs}
-use Rattle.product.proofs.Widths.{half-low}
+use Rattle.modifier_product.proofs.Widths.{half-low}
 use mathlib.Core.Path.{refl}
 use Rattle.modifier_modulators.specs.Modulators.{amplitudeModulation}
 use Rattle.modifier_modulators.proofs.amplitude_modulation.Statement.{statement}

@@ -1,7 +1,7 @@
 -- `modifier_turn::reads_late` meets its contract: one test over the 32 codes.
 -- Assumes nothing.
 use borrow.Author.Needs.{needs}
-use Rattle.lists.proofs.Masks.{bit-tests}
+use Rattle.base_lists.proofs.Masks.{bit-tests}
 use Rattle.modifier_turn.specs.Turn.{readsLate}
 use Rattle.modifier_turn.proofs.reads_late.Statement.{statement}
 use Rattle.modifier_turn.proofs.reads_late.Tie as tie

@@ -2,7 +2,7 @@
 -- Assumes nothing.
 use borrow.Author.Needs.{needs}
 use borrow.Author.Tests.{eq-eqb, ne-eqb}
-use Rattle.order_contents.specs.Contents.{contentsFor}
+use Rattle.parts_model.specs.Contents.{contentsFor}
 use Rattle.parts_contents.proofs.contents.Statement.{statement}
 use Rattle.parts_contents.proofs.contents.Tie as tie
 

@@ -1,7 +1,7 @@
 -- `parts_contents::inactive` meets its contract: a copy, with the modifiers' modes filled.
 -- Assumes nothing.
 use borrow.Author.Needs.{needs}
-use Rattle.order_contents.specs.Contents.{inactiveModifiers}
+use Rattle.parts_model.specs.Contents.{inactiveModifiers}
 use Rattle.parts_contents.proofs.inactive.Statement.{statement}
 use Rattle.parts_contents.proofs.inactive.Tie as tie
 

@@ -1,7 +1,7 @@
 -- `parts_contents::level_last` meets its contract: both last quadrants are filled, one after the other.
 -- Assumes nothing.
 use borrow.Author.Needs.{needs}
-use Rattle.order_contents.specs.Contents.{withLast}
+use Rattle.parts_model.specs.Contents.{withLast}
 use Rattle.parts_contents.proofs.level_last.Statement.{statement}
 use Rattle.parts_contents.proofs.level_last.Tie as tie
 

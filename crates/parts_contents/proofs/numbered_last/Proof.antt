@@ -4,8 +4,8 @@ use native.Mathlib.Omega.{arith}
 use borrow.Author.Needs.{needs}
 use Prim.Native.Nat.{_+_}
 use Rattle.layout.specs.Layout.{quadrantAt}
-use Rattle.sums.specs.Sums.{generatorLast, modifierLast}
-use Rattle.order_contents.specs.Contents.{withLast}
+use Rattle.pass_sums.specs.Sums.{generatorLast, modifierLast}
+use Rattle.parts_model.specs.Contents.{withLast}
 use Rattle.parts_contents.proofs.Filling.{counted}
 use Rattle.parts_contents.proofs.numbered_last.Statement.{statement}
 use Rattle.parts_contents.proofs.numbered_last.Tie as tie

@@ -1,7 +1,7 @@
 -- `parts_contents::sending` meets its contract: by the text.
 -- Assumes nothing.
 use borrow.Author.Needs.{needs}
-use Rattle.order_contents.specs.Contents.{sendingContents}
+use Rattle.parts_model.specs.Contents.{sendingContents}
 use Rattle.parts_contents.proofs.sending.Statement.{statement}
 use Rattle.parts_contents.proofs.sending.Tie as tie
 

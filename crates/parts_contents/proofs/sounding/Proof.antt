@@ -1,7 +1,7 @@
 -- `parts_contents::sounding` meets its contract: one thing is filled after another.
 -- Assumes nothing.
 use borrow.Author.Needs.{needs}
-use Rattle.order_contents.specs.Contents.{soundingContents}
+use Rattle.parts_model.specs.Contents.{soundingContents}
 use Rattle.parts_contents.proofs.sounding.Statement.{statement}
 use Rattle.parts_contents.proofs.sounding.Tie as tie
 

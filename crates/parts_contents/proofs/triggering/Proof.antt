@@ -1,7 +1,7 @@
 -- `parts_contents::triggering` meets its contract: GP and GQ are filled, one after the other.
 -- Assumes nothing.
 use borrow.Author.Needs.{needs}
-use Rattle.order_contents.specs.Contents.{triggeringContents}
+use Rattle.parts_model.specs.Contents.{triggeringContents}
 use Rattle.parts_contents.proofs.triggering.Statement.{statement}
 use Rattle.parts_contents.proofs.triggering.Tie as tie
 

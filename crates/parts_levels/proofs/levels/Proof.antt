@@ -5,9 +5,9 @@ use Prim.Native.Nat.{_+_, _*_, _≤_, _-_}
 use native.Mathlib.Omega.{arith}
 use lib.ListN.{length, length-set}
 use Rattle.layout.specs.Layout.{GL, generators, generatorWords}
-use Rattle.fills.specs.Fills.{filled}
-use Rattle.fills.proofs.Filled.{filled-none, filled-next}
-use Rattle.order_contents.specs.Contents.{soundingLevel}
+use Rattle.base_fills.specs.Fills.{filled}
+use Rattle.base_fills.proofs.Filled.{filled-none, filled-next}
+use Rattle.parts_model.specs.Contents.{soundingLevel}
 use Rattle.parts_levels.proofs.levels.Statement.{statement}
 use Rattle.parts_levels.proofs.levels.Tie as tie
 

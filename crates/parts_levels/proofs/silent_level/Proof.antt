@@ -2,7 +2,7 @@
 -- Assumes nothing.
 use mathlib.Core.Path.{refl}
 use borrow.Author.Needs.{needs}
-use Rattle.texts.specs.declared.Text.the-variants.{Of1978, Old}
+use Rattle.layout_texts.specs.declared.Text.the-variants.{Of1978, Old}
 use Rattle.parts_levels.proofs.SilentLevels.{level-low}
 use Rattle.parts_levels.proofs.silent_level.Statement.{statement}
 use Rattle.parts_levels.proofs.silent_level.Tie as tie

@@ -2,7 +2,7 @@
 -- Assumes nothing.
 use mathlib.Core.Path.{sym}
 use lib.Seq.{length-take-le}
-use Rattle.lists.specs.Lists.{zeros}
+use Rattle.base_lists.specs.Lists.{zeros}
 use Rattle.layout.specs.Layout.{generators}
 use Rattle.pass_model.specs.Pass.{plainCall}
 use Rattle.parts_shown.proofs.Passes.{left-within, says-word, says-item}

@@ -1,6 +1,6 @@
 -- `parts_shown::pass_by` meets its contract: the pass is from a copy of the contents, over zeros.
 -- Assumes nothing.
-use Rattle.lists.specs.Lists.{zeros}
+use Rattle.base_lists.specs.Lists.{zeros}
 use Rattle.pass_model.specs.Pass.{plainCall}
 use Rattle.parts_shown.proofs.Passes.{leaves}
 use borrow.Author.Needs.{needs}

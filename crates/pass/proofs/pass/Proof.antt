@@ -1,7 +1,7 @@
 -- `pass` meets its contract: refused it leaves all as it was, and else it runs.
 use mathlib.Core.Path.{sym, _∙_}
 use borrow.Author.Tests.{ne-eqb}
-use Rattle.lists.specs.Lists.{zeros}
+use Rattle.base_lists.specs.Lists.{zeros}
 use Rattle.pass_model.specs.Pass.{Call, passOf, refused}
 use Rattle.pass_model.proofs.Asked.{passes, few-ticks}
 use Rattle.pass.proofs.Readiness.{is-ready, are-numbers}

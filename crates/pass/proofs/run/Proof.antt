@@ -1,7 +1,7 @@
 -- `run` meets its contract: the promises of the stages, one after the other; each keeps the machine's length.
 use mathlib.Core.Path.{_∙_}
 use native.Mathlib.Omega.{arith}
-use Rattle.lists.specs.Lists.{zeros}
+use Rattle.base_lists.specs.Lists.{zeros}
 use Rattle.layout.proofs.Reach.{same-reach}
 use Rattle.pass.proofs.Runs.{ran-by}
 use Rattle.pass.proofs.run.Statement.{statement}

@@ -2,7 +2,7 @@
 -- Assumes nothing.
 use mathlib.Core.Path.{refl}
 use borrow.Author.Needs.{needs}
-use Rattle.questions.specs.Questions.{asked}
+use Rattle.base_questions.specs.Questions.{asked}
 use Rattle.pass.proofs.unit_refusal.Statement.{statement}
 use Rattle.pass.proofs.unit_refusal.Tie as tie
 

@@ -1,7 +1,7 @@
 -- `generator_at` meets its contract: the part of the machine that is lent runs to its end.
 use mathlib.Core.Path.{ap, _∙_}
 use Rattle.layout.specs.Layout.{generatorAt}
-use Rattle.lists.proofs.Parts.{part-from}
+use Rattle.base_lists.proofs.Parts.{part-from}
 use Rattle.generator.specs.Generator.{loaded}
 use Rattle.pass_model.specs.Generators.{generatorOf}
 use borrow.Author.Needs.{needs}

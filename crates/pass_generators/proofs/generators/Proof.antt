@@ -4,10 +4,10 @@ use mathlib.Core.Path.{_≡_, refl, _∙_}
 use native.Mathlib.Omega.{arith}
 use borrow.Author.Needs.{needs}
 use lib.ListN.{length, drop}
-use Rattle.lists.specs.Lists.{zeros}
+use Rattle.base_lists.specs.Lists.{zeros}
 use Rattle.pass_model.specs.Generators.{generatorsOf, State, begun, steps}
 use Rattle.pass_model.specs.Clipped.{markedBy}
-use Rattle.pass_generators.specs.Loops.{Ready}
+use Rattle.pass_generators.specs.AsCoded.{Ready}
 use Rattle.pass_generators.proofs.Runs.{steps-on, steps-end, marks-on, marks-end, reads-most, writes-most, still-ready}
 use Rattle.pass_generators.proofs.generators.Statement.{statement}
 use Rattle.pass_generators.proofs.generators.Tie as tie

@@ -2,9 +2,9 @@
 use mathlib.Core.Path.{refl, _∙_, ap}
 use Prim.Native.Nat.{_<_}
 use native.Mathlib.Omega.{arith}
-use Rattle.modes.specs.Modes.{switchesOf}
-use Rattle.modes.proofs.Exclusions.{envelope-is, envelope-not, oscillator-not, waits-is}
-use Rattle.generator_turn.specs.GeneratorTurn.{runOf}
+use Rattle.layout_modes.specs.Modes.{switchesOf}
+use Rattle.layout_modes.proofs.Exclusions.{envelope-is, envelope-not, oscillator-not, waits-is}
+use Rattle.generator_turn.specs.AsCoded.{runOf}
 use Rattle.generator_turn.proofs.Turns.{run-low}
 use Rattle.pass_model.specs.Generators.{generatorOf, State}
 use Rattle.pass_model.proofs.Puts.{generator-ranged}
@@ -31,8 +31,8 @@ switches-of-requires c κs =
     let a = start .args in
     (start .pre .1 .1 .0 .0, rw (run-same (a .text) (a .m .now) (a .g) (start .pre .1 .0) (run .run-mode .ensures)) (run-low (a .text) _ (generator-ranged (a .m .now) (a .g))))
 
-play-requires : tie.Need-play-requires
-play-requires c κs =
+take-playing-requires : tie.Need-take-playing-requires
+take-playing-requires c κs =
     let taken = c .before .before .before .before in
     let switches = taken .before .before in
     let f = switches .before in
@@ -62,10 +62,10 @@ returns-2 c =
     let sounds = envelope-is _ _ on (taken .if2 .taken) in
     let is-f = f-same (a .s .now) (a .m .now) (a .g) (f .before .gfm .ensures) (f .f-at .ensures .is) in
     let marks = a .clipped .now in
-    (sounds-on (a .text) _ s _ _ _ refl is-f marks sounds (played .play .ensures), sounds-marked (a .text) _ s _ _ _ refl is-f marks sounds (played .play .ensures))
+    (sounds-on (a .text) _ s _ _ _ refl is-f marks sounds (played .take-playing .ensures), sounds-marked (a .text) _ s _ _ _ refl is-f marks sounds (played .take-playing .ensures))
 
-wait-requires : tie.Need-wait-requires
-wait-requires c κs =
+take-waiting-requires : tie.Need-take-waiting-requires
+take-waiting-requires c κs =
     let taken = c .before .before in
     let left = taken .before .before in
     let switches = left .before .before in
@@ -91,7 +91,7 @@ returns-3 c =
     let on = switches .switches-of .ensures ∙ ap switchesOf (run-same (a .text) (a .m .now) (a .g) (start .pre .1 .0) (run .run-mode .ensures)) in
     let waits = waits-is _ _ on (left .if2 .left) (taken .if3 .taken) in
     let is-f = f-same (a .s .now) (a .m .now) (a .g) (f .before .gfm .ensures) (f .f-at .ensures .is) in
-    (waits-on (a .text) _ s _ _ _ refl is-f waits (wait .wait .ensures), waits-marked (a .text) _ s _ _ _ refl is-f _ waits)
+    (waits-on (a .text) _ s _ _ _ refl is-f waits (wait .take-waiting .ensures), waits-marked (a .text) _ s _ _ _ refl is-f _ waits)
 
 send-requires : tie.Need-send-requires
 send-requires c κs =
@@ -129,5 +129,5 @@ pub step-spec : {M : Type 1} → statement M
 step-spec =
     tie.close
     (tie.spec (λ c κs. search needs) (λ c. search needs) returns (λ c κs. search needs) (λ c κs. search needs)
-    switches-of-requires play-requires (λ c. search needs) returns-2 wait-requires (λ c. search needs) returns-3
+    switches-of-requires take-playing-requires (λ c. search needs) returns-2 take-waiting-requires (λ c. search needs) returns-3
     (λ c κs. search needs) send-requires (λ c. search needs) (λ c. search needs) returns-4)

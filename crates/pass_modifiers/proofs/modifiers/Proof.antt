@@ -5,7 +5,7 @@ use native.Mathlib.Omega.{arith}
 use lib.ListN.{length}
 use borrow.Author.Needs.{needs}
 use Rattle.layout.proofs.Reach.{same-reach}
-use Rattle.pass_modifiers.specs.Loops.{lagged}
+use Rattle.pass_modifiers.specs.AsCoded.{lagged}
 use Rattle.pass_modifiers.proofs.Lags.{lagged-on, stage-end}
 use Rattle.pass_modifiers.proofs.modifiers.Statement.{statement}
 use Rattle.pass_modifiers.proofs.modifiers.Tie as tie

@@ -3,7 +3,7 @@
 use Rattle.modifier.proofs.Low.{loaded-ranged}
 use Rattle.pass_model.specs.Modifiers.{modifierOf}
 use Rattle.pass_model.proofs.Modifiers.{turn-seen-low}
-use Rattle.pass_modifiers.specs.Loops.{lagStep}
+use Rattle.pass_modifiers.specs.AsCoded.{lagStep}
 use borrow.Author.Needs.{needs}
 use Rattle.pass_modifiers.proofs.step.Statement.{statement}
 use Rattle.pass_modifiers.proofs.step.Tie as tie

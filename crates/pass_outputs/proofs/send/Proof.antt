@@ -1,7 +1,7 @@
 -- `send` meets its contract by the run mode: 0010, 0011 and all others.
 use borrow.Author.Tests.{ne-eqb}
 use native.Mathlib.Numerals.{add-one}
-use Rattle.pass_outputs.specs.Outputs.{sent}
+use Rattle.pass_outputs.specs.AsCoded.{sent}
 use borrow.Author.Needs.{needs}
 use Rattle.pass_outputs.proofs.send.Statement.{statement}
 use Rattle.pass_outputs.proofs.send.Tie as tie

@@ -2,10 +2,10 @@
 -- Assumes nothing.
 use Prim.Native.Nat.{ℕ}
 use lib.ListN.{replicate, length-replicate}
-use Rattle.lists.specs.Lists.{zeros}
+use Rattle.base_lists.specs.Lists.{zeros}
 use Rattle.layout.specs.Layout.{machineLength}
-use Rattle.bench_file.specs.BenchFile.{commandPlaces}
-use Rattle.bench_begin.proofs.Lengths.{begun-machine, begun-memory}
+use Rattle.file_bench.specs.BenchFile.{commandPlaces}
+use Rattle.ring_begin.proofs.Lengths.{begun-machine, begun-memory}
 use borrow.Author.Needs.{needs}
 use Rattle.ring.proofs.ring.Statement.{statement}
 use Rattle.ring.proofs.ring.Tie as tie

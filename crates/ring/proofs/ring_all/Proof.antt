@@ -2,8 +2,8 @@
 -- Assumes nothing.
 use mathlib.Core.Path.{_≡_, refl, _∙_}
 use lib.ListN.{length}
-use Rattle.bench_pass.specs.BenchPass.{orderingOf}
-use Rattle.bench_ringing.specs.Steps.{ringingAt}
+use Rattle.ring_pass.specs.BenchPass.{orderingOf}
+use Rattle.ring_steps.specs.AsCoded.{ringingAt}
 use Rattle.ring.proofs.Parts.{part-falls}
 use borrow.Author.Needs.{needs}
 use Rattle.ring.proofs.ring_all.Statement.{statement}

@@ -1,8 +1,8 @@
 -- `ring_part` meets its contract: what was gathered has room in the buffer.
 -- Assumes nothing.
 use lib.ListN.{replicate}
-use Rattle.bench_pass.specs.BenchPass.{orderingOf}
-use Rattle.bench_ringing.specs.Steps.{ringingAt}
+use Rattle.ring_pass.specs.BenchPass.{orderingOf}
+use Rattle.ring_steps.specs.AsCoded.{ringingAt}
 use Rattle.ring.proofs.Parts.{gathered-within}
 use borrow.Author.Needs.{needs}
 use Rattle.ring.proofs.ring_part.Statement.{statement}

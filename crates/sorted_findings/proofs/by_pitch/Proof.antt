@@ -1,7 +1,7 @@
 -- `sorted_findings::by_pitch` meets its contract: question 2 asks the T that sorting needs.
 -- Assumes nothing.
 use mathlib.Core.Path.{sym, _∙_}
-use Rattle.order_pitch.specs.Pitch.{byPitch}
+use Rattle.pass_pitch.specs.Pitch.{byPitch}
 use Rattle.compare.proofs.Asked.{is-traceable}
 use Rattle.sorted_findings.proofs.Comparing.{first-asked}
 use Rattle.sorted_findings.proofs.WholeFile.{pitch-part, pitch-within}

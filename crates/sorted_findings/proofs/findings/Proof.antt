@@ -3,8 +3,8 @@
 use Prim.Native.Nat.{ℕ}
 use lib.ListN.{replicate, length-replicate}
 use Rattle.layout.specs.Layout.{machineLength}
-use Rattle.bench_file.specs.BenchFile.{commandPlaces}
-use Rattle.bench_ringing.proofs.RungFile.{read-whole}
+use Rattle.file_bench.specs.BenchFile.{commandPlaces}
+use Rattle.ring_steps.proofs.RungFile.{read-whole}
 use Rattle.sorted_findings.proofs.WholeFile.{bench-refused, bench-found}
 use borrow.Author.Needs.{needs}
 use Rattle.sorted_findings.proofs.findings.Statement.{statement}

@@ -1,8 +1,8 @@
 -- `sorted_lines::entry_line` meets its contract: two texts, one after another.
 -- Assumes nothing.
 use native.Mathlib.Omega.{arith}
-use Rattle.bench_bytes.proofs.Puts.{done}
-use Rattle.bench_text.proofs.Lines.{named-end}
+use Rattle.file_bytes.proofs.Puts.{done}
+use Rattle.file_printed.proofs.Lines.{named-end}
 use Rattle.sorted_lines.proofs.Lines.{put-entry}
 use borrow.Author.Needs.{needs}
 use Rattle.sorted_lines.proofs.entry_line.Statement.{statement}

@@ -2,8 +2,8 @@
 -- Assumes nothing.
 use native.Mathlib.Omega.{arith}
 use Prim.Native.Nat.{_≤_}
-use Rattle.bench_bytes.proofs.Puts.{done}
-use Rattle.bench_text.proofs.Lines.{named-end}
+use Rattle.file_bytes.proofs.Puts.{done}
+use Rattle.file_printed.proofs.Lines.{named-end}
 use Rattle.sorted_lines.proofs.Lines.{difference-end, put-failing}
 use borrow.Author.Needs.{needs}
 use Rattle.sorted_lines.proofs.failing_line.Statement.{statement}

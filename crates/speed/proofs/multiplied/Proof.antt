@@ -1,7 +1,7 @@
 -- `speed::multiplied` meets its contract: a sum of 20 bits is within its width.
 -- Assumes nothing.
-use Rattle.words.specs.Words.{sum}
-use Rattle.words.proofs.Residues.{low-lt}
+use Rattle.base_words.specs.Words.{sum}
+use Rattle.base_words.proofs.Residues.{low-lt}
 use borrow.Author.Needs.{needs}
 use Rattle.speed.proofs.multiplied.Statement.{statement}
 use Rattle.speed.proofs.multiplied.Tie as tie

@@ -3,8 +3,8 @@
 use mathlib.Core.Path.{_≡_, refl}
 use mathlib.Core.Bool.{Bool, true, false}
 use Prim.Native.Nat.{ℕ}
-use Rattle.modes.specs.declared.Switches.{Switches}
-use Rattle.modes.specs.Modes.{switchesOf, envelopeOn}
+use Rattle.layout_modes.specs.declared.Switches.{Switches}
+use Rattle.layout_modes.specs.Modes.{switchesOf, envelopeOn}
 use borrow.Author.Needs.{needs}
 use Rattle.speed.proofs.turn_at.Statement.{statement}
 use Rattle.speed.proofs.turn_at.Tie as tie

@@ -2,7 +2,7 @@
 -- Assumes nothing.
 use mathlib.Core.Path.{sym, _∙_}
 use borrow.Author.Tests.{eq-eqb}
-use Rattle.modes.proofs.RunModes.{envelope-tells}
+use Rattle.layout_modes.proofs.RunModes.{envelope-tells}
 use borrow.Author.Needs.{needs}
 use Rattle.trial.proofs.generator_turn.Statement.{statement}
 use Rattle.trial.proofs.generator_turn.Tie as tie

@@ -2,8 +2,8 @@
 -- Assumes nothing.
 use mathlib.Core.Path.{sym, _∙_}
 use borrow.Author.Tests.{eq-eqb}
-use Rattle.modes.proofs.RunModes.{envelope-tells}
-use Rattle.old_modes.proofs.RunModes.{switched-low}
+use Rattle.layout_modes.proofs.RunModes.{envelope-tells}
+use Rattle.layout_old_modes.proofs.RunModes.{switched-low}
 use borrow.Author.Needs.{needs}
 use Rattle.trial.proofs.old_generator_turn.Statement.{statement}
 use Rattle.trial.proofs.old_generator_turn.Tie as tie

@@ -2,16 +2,16 @@
 -- Assumes nothing.
 use borrow.Author.Needs.{needs}
 use borrow.Author.Tests.{eq-eqb, ne-eqb}
-use Rattle.delay.specs.Delay.{turnOf}
+use Rattle.delay.specs.Delay.{delayTurnOf}
 use Rattle.delay.proofs.Delay.turn.Statement.{statement}
 use Rattle.delay.proofs.Delay.turn.Tie as tie
 
 returns : tie.Need-returns
-unfolding turnOf
+unfolding delayTurnOf
 returns c = rw (eq-eqb _ _ (c .before .before .before .before .if1 .taken)) (c .before .before .line-turn .ensures)
 
 returns-2 : tie.Need-returns-2
-unfolding turnOf
+unfolding delayTurnOf
 returns-2 c = rw (ne-eqb _ _ (c .before .before .if1 .left)) (c .table-turn .ensures)
 
 pub turn-spec : {M : Type 1} → statement M

@@ -1,7 +1,7 @@
 -- `generator::Generator::advance` meets its contract: the steps' promises, in each case of overflow.
 -- Assumes nothing.
 use mathlib.Core.Bool.{and-true, and-false}
-use Rattle.generator.specs.Steps.{advancedBy}
+use Rattle.generator.specs.AsCoded.{advancedBy}
 use Rattle.generator.proofs.Turns.{still-ranged}
 use borrow.Author.Needs.{needs}
 use Rattle.generator.proofs.Generator.advance.Statement.{statement}

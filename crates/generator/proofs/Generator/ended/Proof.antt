@@ -1,7 +1,7 @@
 -- `generator::Generator::ended` meets its contract: each arm is its side of the definition.
 -- Assumes nothing.
 use borrow.Author.Tests.{eq-eqb, ne-eqb}
-use Rattle.generator.specs.Steps.{endedOf}
+use Rattle.generator.specs.AsCoded.{endedOf}
 use borrow.Author.Needs.{needs}
 use Rattle.generator.proofs.Generator.ended.Statement.{statement}
 use Rattle.generator.proofs.Generator.ended.Tie as tie

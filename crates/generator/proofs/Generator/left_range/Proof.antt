@@ -1,7 +1,7 @@
 -- `generator::Generator::left_range` meets its contract: each arm is its side of the definition.
 -- Assumes nothing.
 use borrow.Author.Tests.{eq-eqb, ne-eqb}
-use Rattle.generator.specs.Steps.{leftBy}
+use Rattle.generator.specs.AsCoded.{leftBy}
 use borrow.Author.Needs.{needs}
 use Rattle.generator.proofs.Generator.left_range.Statement.{statement}
 use Rattle.generator.proofs.Generator.left_range.Tie as tie

@@ -2,7 +2,7 @@
 -- Assumes nothing.
 use mathlib.Core.Path.{_∙_}
 use borrow.Author.Tests.{eq-eqb, ne-eqb}
-use Rattle.generator.specs.Steps.{oscillated}
+use Rattle.generator.specs.AsCoded.{oscillated}
 use borrow.Author.Needs.{needs}
 use Rattle.generator.proofs.Generator.oscillate.Statement.{statement}
 use Rattle.generator.proofs.Generator.oscillate.Tie as tie

@@ -1,7 +1,7 @@
 -- `generator::Generator::output` meets its contract: each arm is its oscillator mode's P, by the laws of the output.
 -- Assumes nothing.
 use native.Mathlib.Omega.{arith}
-use Rattle.envelope.proofs.Levels.{level-low}
+use Rattle.generator_envelope.proofs.Levels.{level-low}
 use Rattle.generator.specs.Generator.{vOf}
 use Rattle.generator.proofs.Turns.{output-of-j, output-of-gk, output-shaped, output-cosines, output-rest}
 use borrow.Author.Needs.{needs}

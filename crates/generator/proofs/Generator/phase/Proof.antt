@@ -1,6 +1,6 @@
 -- `generator::Generator::phase` meets its contract: the exact sum's promise is the definition.
 -- Assumes nothing.
-use Rattle.generator.specs.Steps.{phaseOf}
+use Rattle.generator.specs.AsCoded.{phaseOf}
 use borrow.Author.Needs.{needs}
 use Rattle.generator.proofs.Generator.phase.Statement.{statement}
 use Rattle.generator.proofs.Generator.phase.Tie as tie

@@ -3,7 +3,7 @@
 use mathlib.Core.Path.{_≡_}
 use Prim.Native.Nat.{_%_}
 use native.Mathlib.Omega.{arith}
-use Rattle.oscillator.specs.Oscillator.{waveOf}
+use Rattle.generator_oscillator.specs.Oscillator.{waveOf}
 use borrow.Author.Needs.{needs}
 use Rattle.generator.proofs.Generator.shaped.Statement.{statement}
 use Rattle.generator.proofs.Generator.shaped.Tie as tie

@@ -2,7 +2,7 @@
 -- Assumes nothing.
 use borrow.Author.Needs.{needs}
 use Rattle.modifier.specs.Modifier.{wholeM0}
-use Rattle.product.proofs.Widths.{whole-low}
+use Rattle.modifier_product.proofs.Widths.{whole-low}
 use Rattle.modifier.proofs.Low.{word-of}
 use Rattle.modifier.proofs.Modifier.whole_m0.Statement.{statement}
 use Rattle.modifier.proofs.Modifier.whole_m0.Tie as tie

@@ -1,0 +1,3 @@
+pub mod OrderFree
+pub mod Clauses
+pub mod Parting

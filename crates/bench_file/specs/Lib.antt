@@ -1,2 +1,0 @@
-pub mod BenchFile
-pub mod Sweeps

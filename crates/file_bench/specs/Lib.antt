@@ -1,0 +1,2 @@
+pub mod BenchFile
+pub mod AsCoded

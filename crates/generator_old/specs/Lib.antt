@@ -1,0 +1,2 @@
+pub mod OldGenerator
+pub mod AsCoded

@@ -1,2 +1,0 @@
-pub mod OldGenerator
-pub mod OldSteps

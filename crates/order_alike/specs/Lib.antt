@@ -1,3 +1,0 @@
-pub mod Alike
-pub mod Clauses
-pub mod Parting

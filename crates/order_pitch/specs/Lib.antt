@@ -1,2 +1,0 @@
-pub mod Pitch
-pub mod Loops
