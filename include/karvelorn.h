@@ -273,7 +273,7 @@
 #include <stdint.h>
 
 /* The version of this header and its library, as text. */
-#define KARVELORN_VERSION "0.3.0"
+#define KARVELORN_VERSION "0.4.0"
 
 /* Lengths of runs: a machine, delay memory, the marks of a pass, and places enough for the commands of any bench file. */
 #define KARVELORN_WORDS 4344

@@ -31,7 +31,7 @@ from typing import NamedTuple
 
 import numpy as np
 
-VERSION = "0.3.0"
+VERSION = "0.4.0"
 WORDS, MEMORY_WORDS, MARKS, COMMANDS, KEPT, KEPT_ALIKE = 4344, 65536, 64, 3855, 2327, 2326
 TICK = 195e-9  # seconds
 DX, T, N, COUNTER, LINGERING, LINGER_PASS, OVERRUN, UPDATE_TICKS = 4112, 4113, 4114, 4115, 4116, 4117, 4118, 4343
@@ -92,7 +92,7 @@ def _library():
     here = Path(__file__).resolve().parent
     built = here.parent / "target" / "staticlib" / f"libkarvelorn.so.{VERSION}"
     places = [os.environ.get("KARVELORN_LIBRARY"), here / "libkarvelorn.so", built]
-    found = next((str(place) for place in places if place and Path(place).exists()), "libkarvelorn.so.0.3")
+    found = next((str(place) for place in places if place and Path(place).exists()), "libkarvelorn.so." + VERSION.rpartition(".")[0])
     try:
         return ctypes.CDLL(found)
     except OSError as error:

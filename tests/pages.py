@@ -31,7 +31,7 @@ def faults():
         brought = re.findall(r"^use Rattle·[^\s{]*\.AsCoded\.\{([^}]*)\}", path.read_text(), re.M) if path.stem != "AsCoded" else []
         for name in sorted({name.strip() for names in brought for name in names.split(",")} - named):
             yield f"{path.parent.parent.name}/specs/{path.name} is to be believed and names {name}, which is in the code's shape"
-    edits = {f"{path.parent.parent.name}/{path.stem}" for path in CRATES.glob("*/must-fail/*.edit")}
+    edits = {f"{path.relative_to(CRATES).parts[0]}/{path.stem}" for path in CRATES.glob("*/must-fail/**/*.edit")}
     for path in NAMING:
         for crate, label in re.findall(r"`(\w+)/([a-z][a-z0-9_]+)`", path.read_text()):
             if crate in crates and label not in ("specs", "proofs", "src") and f"{crate}/{label}" not in edits:
