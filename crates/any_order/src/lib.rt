@@ -1,4 +1,6 @@
 // Whether every order of a machine's generators leaves the same.
+#![tactic(auto)]
+
 ghost use Rattle.std.specs.Prelude.{◌≡◌};
 ghost use Rattle.compare_agreement.specs.Agreement.{settings_of};
 ghost use Rattle.any_order_model.specs.OrderFree.{counts_in, order_free};
@@ -9,7 +11,7 @@ ghost use Rattle.layout_texts.specs.declared.Text.TheVariants.{Of1978};
 use layout_texts::Text;
 
 // What the call answers: the number of the refusing question or 0, and whether every order leaves the same.
-#[derive(Drop)]
+#[derive(Clone, Copy)]
 pub struct AnyOrder {
     pub number: u32,
     pub alike: bool,

@@ -1,4 +1,6 @@
 // The generators of a machine counted by what an order of them can tell: one is put in or taken out at a time.
+#![tactic(auto)]
+
 ghost use Rattle.std.specs.Prelude.{◌≡◌, ◌-◌, ◌<◌, ◌≤◌};
 ghost use Rattle.base_lists.specs.Lists.{zeros};
 ghost use Rattle.layout.specs.Layout.{generators};

@@ -1,4 +1,6 @@
 // Whether every order of a machine's generators leaves the same, kept beside the machine and brought up to date as one partial after the other changes.
+#![tactic(auto)]
+
 ghost use Rattle.std.specs.Prelude.{◌≡◌, true, length};
 ghost use Rattle.layout.specs.Layout.{machine_length};
 ghost use Rattle.layout_texts.specs.declared.Text.TheVariants.{Of1978};

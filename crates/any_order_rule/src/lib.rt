@@ -1,4 +1,6 @@
 // Whether any order of the generators leaves the same, by what is kept: five comparisons.
+#![tactic(auto)]
+
 ghost use Rattle.std.specs.Prelude.{◌≡◌};
 ghost use Rattle.any_order_rule.specs.AsCoded.{order_free_by, answered};
 

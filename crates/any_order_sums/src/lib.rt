@@ -1,4 +1,6 @@
 // Counts of generators kept as a run of words with sums of them, brought up to date one count at a time.
+#![tactic(auto)]
+
 ghost use Rattle.std.specs.Prelude.{◌≡◌, ◌^◌, ◌<◌, slice_index};
 ghost use Rattle.layout.specs.Layout.{dacs, quadrant_words};
 ghost use Rattle.layout.specs.Widths.{gfm_bits};

@@ -1,4 +1,6 @@
 // Runs of words, filled at places a step apart.
+#![tactic(auto)]
+
 ghost use Rattle.std.specs.Prelude.{◌≡◌, ◌+◌, ◌*◌, ◌<◌, ◌^◌, length};
 ghost use Rattle.base_fills.specs.Fills.{filled};
 

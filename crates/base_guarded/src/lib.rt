@@ -1,4 +1,6 @@
 // Words of a run that the caller holds, read and written with a guard.
+#![tactic(auto)]
+
 ghost use Rattle.std.specs.Prelude.{◌≡◌, get_or, set};
 
 // The word at a place, and 0 past the end.

@@ -1,10 +1,12 @@
 // Words of 12, 20, 24, 28 and 30 bits: their sums, reduced to their low bits, and whether an exact sum leaves its range.
+#![tactic(auto)]
+
 ghost use Rattle.std.specs.Prelude.{◌≡◌, ◌^◌, ◌<◌, pos, ◌+ℤ◌, ◌-ℤ◌, nat_le};
 ghost use Rattle.std.specs.Int.Signed.{mag};
 ghost use Rattle.base_words.specs.Words.{low_bits, signed, sum, leaves, extended, sum_into, exact_sum, outside, value_of};
 
 // A number by its sign, 0 or 1 where it is negative, and its magnitude.
-#[derive(Drop)]
+#[derive(Clone, Copy)]
 pub struct SignMagnitude {
     pub sign: u32,
     pub magnitude: u32,

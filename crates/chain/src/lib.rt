@@ -1,4 +1,6 @@
 // Numbers for a chain of modifiers.
+#![tactic(auto)]
+
 ghost use Rattle.std.specs.Prelude.{◌≡◌, ◌/◌, ◌≤◌, length, get_or};
 ghost use Rattle.base_fills.specs.Fills.{filled};
 ghost use Rattle.chain_numbers.specs.Earliest.{modifiers, earliest};

@@ -1,4 +1,6 @@
 // The list of entries for a chain of modifiers, and whether it fits.
+#![tactic(auto)]
+
 ghost use Rattle.std.specs.Prelude.{◌≡◌, ◌+◌, ◌*◌, ◌/◌, ◌≤◌, ◌<◌, length};
 ghost use Rattle.base_lists.specs.Lists.{all_below};
 ghost use Rattle.chain_entries.specs.Entries.{end_of, start_of, names_below, entry_good, chain_good};

@@ -1,4 +1,6 @@
 // The earliest number of each entry of a chain of modifiers.
+#![tactic(auto)]
+
 ghost use Rattle.std.specs.Prelude.{◌≡◌, true, ◌+◌, ◌*◌, ◌/◌, ◌≤◌, ◌<◌, max, length, get_or};
 ghost use Rattle.base_fills.specs.Fills.{filled};
 ghost use Rattle.chain_entries.specs.Entries.{end_of, start_of, names_in, chain_good};

@@ -1,11 +1,13 @@
 // One command in its turn: its questions, and what it does.
+#![tactic(auto)]
+
 ghost use Rattle.std.specs.Prelude.{◌≡◌};
 ghost use Rattle.layout.specs.Machine.{Reaches};
 ghost use Rattle.command_built.specs.Built.{command_refusal};
 ghost use Rattle.command.specs.Command.{done, waits, after_command, taken_waiting};
 
 // What a command's turn brings: the number of the refusing question or 0, and whether it is a Linger that waits.
-#[derive(Drop)]
+#[derive(Clone, Copy)]
 pub struct CommandTurn {
     pub number: u32,
     pub waits: bool,

@@ -1,4 +1,6 @@
 // Questions 3 and 4, which every command is asked.
+#![tactic(auto)]
+
 ghost use Rattle.std.specs.Prelude.{◌≡◌};
 ghost use Rattle.command_built.specs.Built.{built_gmode, built_mmode, built_mrm, built, ticks_fit, command_refusal};
 

@@ -1,4 +1,6 @@
 // DLY: the command that loads registers of a delay unit, and whether it is built.
+#![tactic(auto)]
+
 ghost use Rattle.std.specs.Prelude.{◌≡◌};
 ghost use Rattle.layout.specs.Machine.{Reaches};
 ghost use Rattle.command_delay.specs.DelayLoads.{built_dly, loaded_dly};

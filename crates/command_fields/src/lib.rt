@@ -1,4 +1,6 @@
 // The fields of a command, by the 1978 text's numbers of its bits, 4 to 35 from the left.
+#![tactic(auto)]
+
 ghost use Rattle.std.specs.Prelude.{◌≡◌, ◌+◌, ◌<◌, ◌≤◌};
 ghost use Rattle.command_fields.specs.Fields.{field, flag};
 

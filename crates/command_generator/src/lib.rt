@@ -1,4 +1,6 @@
 // The commands that load registers of a generator.
+#![tactic(auto)]
+
 ghost use Rattle.std.specs.Prelude.{◌≡◌, ◌+◌, ◌<◌};
 ghost use Rattle.layout.specs.Layout.{generator_at, modifier_at, GMODE};
 ghost use Rattle.layout.specs.Machine.{Reaches};

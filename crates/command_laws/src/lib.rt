@@ -1,1 +1,2 @@
 // What a command and an update keep: laws only.
+#![tactic(auto)]

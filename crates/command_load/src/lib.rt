@@ -1,4 +1,6 @@
 // The shapes of the commands that load registers: the data as they are, adjusted to a wider register, or two fields with their disable bits.
+#![tactic(auto)]
+
 ghost use Rattle.std.specs.Prelude.{◌≡◌, ◌<◌, ◌≤◌, length};
 ghost use Rattle.layout.specs.Machine.{Reaches};
 ghost use Rattle.command_load.specs.Loads.{loaded_unless, cleared_if, loaded_data, loaded_adjusted, loaded_two, loaded_then_cleared};

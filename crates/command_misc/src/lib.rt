@@ -1,4 +1,6 @@
 // MISC: DX is loaded, wait bits and pause bits are cleared.
+#![tactic(auto)]
+
 ghost use Rattle.std.specs.Prelude.{◌≡◌, cond, ◌<◌, eqb, set};
 ghost use Rattle.layout.specs.Layout.{dx_at};
 ghost use Rattle.layout.specs.Machine.{Reaches};

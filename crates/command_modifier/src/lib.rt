@@ -1,4 +1,6 @@
 // The commands that load registers of a modifier.
+#![tactic(auto)]
+
 ghost use Rattle.std.specs.Prelude.{◌≡◌, cond, ◌+◌, ◌<◌, length, get_or, set};
 ghost use Rattle.layout.specs.Layout.{modifier_at, quadrant_at, MMODE};
 ghost use Rattle.layout.specs.Machine.{Reaches};

@@ -1,5 +1,7 @@
 // TIMER and TICKS: the pass counter, lingering, T and N with their update ticks.
-ghost use Rattle.std.specs.Prelude.{◌≡◌, set, slice_set};
+#![tactic(auto)]
+
+ghost use Rattle.std.specs.Prelude.{◌≡◌, slice_set};
 ghost use Rattle.layout.specs.Layout.{counter_at};
 ghost use Rattle.layout.specs.Machine.{Reaches};
 ghost use Rattle.command_timer.specs.Timer.{waits_for, lingered, timed, timer_waits, ticks_set};

@@ -1,4 +1,6 @@
 // An update: commands are taken one after the other, and the part of them not taken is handed back.
+#![tactic(auto)]
+
 ghost use Rattle.std.specs.Prelude.{◌≡◌, [], ◌∷◌, ◌≤◌, length, drop};
 ghost use Rattle.layout.specs.Machine.{Reaches};
 ghost use Rattle.base_questions.specs.Questions.{asked};

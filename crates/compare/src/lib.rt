@@ -1,11 +1,13 @@
 // Whether two orders of the generators are equal.
+#![tactic(auto)]
+
 ghost use Rattle.std.specs.Prelude.{◌≡◌};
 ghost use Rattle.compare.specs.Compare.{compare_refusal, compare_of};
 
 use layout_texts::Text;
 
 // What a compare answers: the number of the refusing question or 0, and whether the orders are equal.
-#[derive(Drop)]
+#[derive(Clone, Copy)]
 pub struct Compared {
     pub number: u32,
     pub equal: bool,

@@ -1,5 +1,7 @@
 // The first of the four points that fails, and whether two orders of the generators agree on the four together.
 // Arrays numbered 1 are of the first order, 2 of the second.
+#![tactic(auto)]
+
 ghost use Rattle.std.specs.Prelude.{◌≡◌};
 ghost use Rattle.layout.specs.Machine.{ticks_of};
 ghost use Rattle.pass_order.specs.Order.{IsOrder};
@@ -15,7 +17,7 @@ use layout_texts::Text;
 
 // The first of the four points that fails: its number, 1 to 4, the lowest place at which it fails, and for the fourth the generator
 // that is to sound so that a pass shows it. All are 0 where none fails.
-#[derive(Drop)]
+#[derive(Clone, Copy)]
 pub struct Failing {
     pub point: u32,
     pub place: u32,

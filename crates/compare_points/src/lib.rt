@@ -1,5 +1,7 @@
 // The four points on which two orders of the generators may differ, by the traces of the orders: each answers where it fails first, or its bound
 // where it fails nowhere. Arrays numbered 1 are of the first order, 2 of the second. The orders themselves are handed over for what is promised of them.
+#![tactic(auto)]
+
 ghost use Rattle.std.specs.Prelude.{◌≡◌, ◌<◌, ◌≤◌, length};
 ghost use Rattle.base_lists.specs.Lists.{zeros};
 ghost use Rattle.layout.specs.Layout.{generators, quadrant_words};

@@ -1,5 +1,7 @@
 // The generator that is to sound so that a sum word shows that the fourth point fails there, by the traces of two orders.
 // Arrays numbered 1 are of the first order, 2 of the second. The orders themselves are handed over for what is promised of them.
+#![tactic(auto)]
+
 ghost use Rattle.std.specs.Prelude.{◌≡◌, false, ◌<◌};
 ghost use Rattle.layout.specs.Layout.{generators, quadrant_words};
 ghost use Rattle.layout.specs.Machine.{Reaches, ticks_of};

@@ -1,4 +1,6 @@
 // What an order of the generators leaves for the four points to look at, in arrays.
+#![tactic(auto)]
+
 ghost use Rattle.std.specs.Prelude.{◌≡◌, ◌<◌};
 ghost use Rattle.layout.specs.Layout.{generators};
 ghost use Rattle.layout.specs.Machine.{ticks_of};

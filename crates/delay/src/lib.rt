@@ -1,4 +1,6 @@
 // One delay unit by value: its registers, and its turn on delay memory.
+#![tactic(auto)]
+
 ghost use Rattle.std.specs.Prelude.{◌≡◌, ◌≤◌, ◌<◌, ◌/◌, ◌^◌, length};
 ghost use Rattle.delay.specs.Delay.{loaded, stored, updated, Ranged, runs, slot, stepped, line_turn, rounding, address, table_turn, delay_turn_of};
 
@@ -11,7 +13,7 @@ pub const TABLE: u32 = 0b1010;
 
 pub const ROUNDED_TABLE: u32 = 0b1011;
 
-#[derive(Drop)]
+#[derive(Clone, Copy)]
 pub struct Delay {
     pub x: u32,
     pub y: u32,

@@ -1,4 +1,6 @@
 // Questions 10, 11 and 12 of a pass: delay memory, the lines that run, and the units that modifiers name.
+#![tactic(auto)]
+
 ghost use Rattle.std.specs.Prelude.{◌≡◌, [], ◌∷◌, ◌/◌, ◌≤◌, ◌<◌, length};
 ghost use Rattle.layout.specs.Machine.{Reaches, ticks_of};
 ghost use Rattle.base_questions.specs.Questions.{asked};

@@ -1,4 +1,6 @@
 // The bench file's reader: one sweep judges its lines, a second sets what they say.
+#![tactic(auto)]
+
 ghost use Rattle.std.specs.Prelude.{◌≡◌, true, [], ◌∷◌, ◌+◌, ◌<◌, length, set};
 ghost use Rattle.std.proofs.lemmas.List.Edits.{sets};
 ghost use Rattle.layout.specs.Layout.{machine_length};
@@ -15,7 +17,7 @@ use file_phases::Phase;
 use layout_texts::Text;
 
 // A file under way: its title, its phase, its passes, and how many commands it has.
-#[derive(Drop)]
+#[derive(Clone, Copy)]
 pub struct File {
     pub title: Title,
     pub phase: Phase,
@@ -24,7 +26,7 @@ pub struct File {
 }
 
 // What a file says: the number of its refusal or 0, its text, its passes, and how many commands it has.
-#[derive(Drop)]
+#[derive(Clone, Copy)]
 pub struct Contents {
     pub number: u32,
     pub text: Text,

@@ -1,4 +1,6 @@
 // Runs of bytes: one put into another, and what is sought in one.
+#![tactic(auto)]
+
 ghost use Rattle.std.specs.Prelude.{◌≡◌, ◌+◌, ◌≤◌, length, drop};
 ghost use Rattle.std.proofs.lemmas.List.Edits.{sets};
 ghost use Rattle.file_bytes.specs.Bytes.{starts_with, bytes_before};

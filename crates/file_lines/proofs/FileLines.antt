@@ -1,6 +1,6 @@
 -- The lines of a file one after another, and a file that ends in LF.
 -- Assumes nothing.
-use mathlib.Core.Path.{◌≡◌, refl, ◌∙◌}
+use mathlib.Core.Path.{◌≡◌, refl, ap, ◌∙◌}
 use mathlib.Core.List.{List, [], ◌∷◌}
 use mathlib.Core.Bool.{Bool, true, false, ◌&&◌}
 use Prim.Native.Nat.{ℕ, ◌+◌, ◌-◌, ◌≤◌, ◌<◌}
@@ -69,6 +69,13 @@ module _ (file : List ℕ) (end : Ended file) (at : ℕ) (h : at < length file) 
       let p : bytes_before (code "\n") (drop at file) < length (drop at file) = rw length-drop (omega arith) in
       let q : at + (k + 1) ≡ at + k + 1 = omega arith in
       lines-first (drop at file) p ∙ rw (← e, drop-drop, q)
+
+-- A file that is ended is short, and each of its lines ends before it does.
+pub ended-short : (file : List ℕ) → ended file ≡ true → length file ≤ file_bytes
+ended-short file e = (ended_is file e).short
+
+pub line-within : (file : List ℕ) → ended file ≡ true → (at : ℕ) → at < length file → {rest : List ℕ} → rest ≡ drop at file → {k : ℕ} → k ≡ bytes_before (code "\n") rest → k < length file - at
+line-within file e at h r b = within file (ended_is file e) at h (b ∙ ap (bytes_before (code "\n")) r)
 
 -- Past the last line there is none.
 pub lines_end : (file : List ℕ) (at : ℕ) → length file ≤ at → lines_of (drop at file) ≡ []

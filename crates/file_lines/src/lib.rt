@@ -1,4 +1,6 @@
 // The lines of a bench file.
+#![tactic(auto)]
+
 ghost use Rattle.std.specs.Prelude.{◌≡◌, ◌+◌};
 ghost use Rattle.file_numbers.specs.Numbers.{decimal_in, hexadecimal_in};
 ghost use Rattle.file_lines.specs.Lines.{most_passes, line_by, word_line, are_bytes, title_of, line_of, ended};
@@ -6,7 +8,7 @@ ghost use Rattle.file_lines.specs.Lines.{most_passes, line_by, word_line, are_by
 use file_numbers::Number;
 
 // The text that a file names: that of 1978, the older one, or none that is known.
-#[derive(Drop)]
+#[derive(Clone, Copy)]
 pub enum Title {
     Text1978,
     TextOld,
@@ -14,7 +16,7 @@ pub enum Title {
 }
 
 // A line of a bench file, or another.
-#[derive(Drop)]
+#[derive(Clone, Copy)]
 pub enum Line {
     Titled(Title),
     Passes(u32),

@@ -1,9 +1,11 @@
 // The numbers of a bench file: decimal without leading zeros, and eight hexadecimal capitals.
+#![tactic(auto)]
+
 ghost use Rattle.std.specs.Prelude.{◌≡◌, ◌≤◌, ◌<◌, ◌^◌};
 ghost use Rattle.file_numbers.specs.Numbers.{digit_value, number_in, leading_zero, decimal_in, hexadecimal_in};
 
 // A number that a text writes, or none.
-#[derive(Drop)]
+#[derive(Clone, Copy)]
 pub enum Number {
     Is(u32),
     No,

@@ -1,4 +1,6 @@
 // An order file's reader: each line names a generator, the next entry of an order.
+#![tactic(auto)]
+
 ghost use Rattle.std.specs.Prelude.{◌≡◌, true};
 ghost use Rattle.file_lines.specs.Lines.{ended};
 ghost use Rattle.file_order.specs.OrderFile.{entry_of, no_order_file, read_of};
@@ -6,7 +8,7 @@ ghost use Rattle.file_order.specs.OrderFile.{entry_of, no_order_file, read_of};
 use file_numbers::Number;
 
 // What an order file says: 9 where a file is none or 0, how many entries there are, and the entries with zeros after them.
-#[derive(Drop)]
+#[derive(Clone, Copy)]
 pub struct Entries {
     pub number: u32,
     pub count: usize,

@@ -1,11 +1,13 @@
 // Which lines may follow one another in a bench file.
+#![tactic(auto)]
+
 ghost use Rattle.std.specs.Prelude.{◌≡◌};
 ghost use Rattle.file_phases.specs.Phases.{after_title, after_passes, after_word, first_command, after_command, phase_after, is_fit};
 
 use file_lines::{Line, Title};
 
 // Which lines may follow: `text=` and `passes=`; only `passes=`; `word=` and `command=`; only `command=`; none, since a line before may not stand there.
-#[derive(Drop)]
+#[derive(Clone, Copy)]
 pub enum Phase {
     Start,
     Headed,

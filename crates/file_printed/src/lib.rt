@@ -1,4 +1,6 @@
 // The lines that are printed, as text in a buffer.
+#![tactic(auto)]
+
 ghost use Rattle.std.specs.Prelude.{◌≡◌, ◌+◌, ◌≤◌, ◌<◌, ◌^◌, length};
 ghost use Rattle.std.proofs.lemmas.List.Edits.{sets};
 ghost use Rattle.file_printed.specs.Text.{line_bytes, digits, named, signed_decimal, pass_line, refusal_line, order_refusal_line};

@@ -1,11 +1,13 @@
 // A bench file read into runs that a host hands in: its questions first, then what it says is put there.
+#![tactic(auto)]
+
 ghost use Rattle.std.specs.Prelude.{◌≡◌};
 ghost use Rattle.file_read.specs.Read.{text_number, read_into};
 
 use layout_texts::Text;
 
 // What the call answers: the number of the refusing question or 0, the number of the file's text, its passes, and how many commands it has.
-#[derive(Drop)]
+#[derive(Clone, Copy)]
 pub struct ReadAnswer {
     pub number: u32,
     pub text: u32,

@@ -1,4 +1,6 @@
 // A RIFF/WAVE file of two channels of 24-bit PCM: its header and its frames, in a buffer.
+#![tactic(auto)]
+
 ghost use Rattle.std.specs.Prelude.{◌≡◌, ◌+◌, ◌*◌, ◌≤◌, ◌<◌, ◌^◌, length};
 ghost use Rattle.std.proofs.lemmas.List.Edits.{sets};
 ghost use Rattle.file_wave.specs.WaveFormat.{little_endian, frame, frame_bytes, rate_of, riff, format_kind, format_rates, data_head, header, header_bytes};

@@ -1,4 +1,6 @@
 // One generator by value: its registers, and its turn in a pass.
+#![tactic(auto)]
+
 ghost use Rattle.std.specs.Prelude.{◌≤◌, ◌<◌, ◌^◌, ◌≡◌, true, eqb, length};
 ghost use Rattle.base_words.specs.Words.{low_bits, signed, sum, sum_into};
 ghost use Rattle.generator_sine.specs.Sine.{quarter};
@@ -14,7 +16,7 @@ use generator_exponential::Entries;
 use generator_sine::Quarter;
 use layout_modes::Switches;
 
-#[derive(Drop)]
+#[derive(Clone, Copy)]
 pub struct Generator {
     pub go: u32,
     pub gj: u32,
@@ -30,7 +32,7 @@ pub struct Generator {
 }
 
 // What a generator whose envelope is on brings: its registers afterwards, P, and whether it triggers.
-#[derive(Drop)]
+#[derive(Clone, Copy)]
 pub struct Sounded {
     pub unit: Generator,
     pub p: u32,

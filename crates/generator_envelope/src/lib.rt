@@ -1,4 +1,6 @@
 // The envelope of a generator, and the wave under it.
+#![tactic(auto)]
+
 ghost use Rattle.std.specs.Prelude.{◌<◌, ◌^◌, ◌≡◌, eqb};
 ghost use Rattle.base_words.specs.Words.{low_bits, value_of};
 ghost use Rattle.generator_exponential.specs.Exponential.{table_size, entries};

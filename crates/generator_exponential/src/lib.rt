@@ -1,4 +1,6 @@
 // The exponential of an envelope, from a constant table.
+#![tactic(auto)]
+
 ghost use Rattle.std.specs.Prelude.{◌≡◌, ◌^◌, ◌<◌};
 ghost use Rattle.generator_exponential.specs.Exponential.{table_size, exponent_of, entries, exponential};
 

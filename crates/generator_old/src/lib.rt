@@ -1,4 +1,6 @@
 // The turn of a generator of the older text. Its registers, and steps 1, 2, 4 and 7, are the 1978 text's.
+#![tactic(auto)]
+
 ghost use Rattle.std.specs.Prelude.{◌/◌, ◌<◌, ◌^◌, ◌≡◌, true, eqb};
 ghost use Rattle.base_words.specs.Words.{signed};
 ghost use Rattle.generator_sine.specs.Sine.{quarter};

@@ -1,4 +1,6 @@
 // The wave of a generator of the older text, whose K has 12 bits: one function for each shape.
+#![tactic(auto)]
+
 ghost use Rattle.std.specs.Prelude.{◌<◌, ◌^◌, ◌≡◌};
 ghost use Rattle.base_words.specs.Words.{signed};
 ghost use Rattle.generator_sine.specs.Sine.{quarter};

@@ -1,4 +1,6 @@
 // The wave of a generator: one function for each shape.
+#![tactic(auto)]
+
 ghost use Rattle.std.specs.Prelude.{◌*◌, ◌<◌, ◌≤◌, ◌^◌, min, ◌≡◌};
 ghost use Rattle.base_words.specs.Words.{signed};
 ghost use Rattle.generator_sine.specs.Sine.{quarter};

@@ -1,4 +1,6 @@
 // The sine of the high 13 bits of a word, from a constant quarter table.
+#![tactic(auto)]
+
 ghost use Rattle.std.specs.Prelude.{◌≡◌, ◌<◌};
 ghost use Rattle.generator_sine.specs.Sine.{quarter, index_of, sign_of, magnitude};
 

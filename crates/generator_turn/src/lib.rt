@@ -1,4 +1,6 @@
 // A generator's turn by the text that its machine follows: each part chooses by it. Elsewhere in a pass's generators a text is only handed on.
+#![tactic(auto)]
+
 ghost use Rattle.std.specs.Prelude.{◌≡◌, true, ◌<◌, ◌^◌};
 ghost use Rattle.generator_sine.specs.Sine.{quarter};
 ghost use Rattle.generator_exponential.specs.Exponential.{table_size, entries};

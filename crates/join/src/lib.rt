@@ -1,4 +1,6 @@
 // Two machines joined to one.
+#![tactic(auto)]
+
 ghost use Rattle.std.specs.Prelude.{◌≡◌, cond, ◌+◌, ◌≤◌, length, get_or, set};
 ghost use Rattle.base_fills.specs.Fills.{filled};
 ghost use Rattle.layout.specs.Layout.{generators, tAt, update_ticks_at};

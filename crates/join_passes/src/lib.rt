@@ -1,1 +1,2 @@
 // Bells in one ring over passes: definitions and laws only.
+#![tactic(auto)]

@@ -1,4 +1,6 @@
 // The questions that two machines are asked before they are joined: what each uses, and whether both fit into one.
+#![tactic(auto)]
+
 ghost use Rattle.std.specs.Prelude.{◌≡◌, ◌&&◌, [], ◌∷◌, ◌+◌, ◌≤◌, ◌<◌, ltb};
 ghost use Rattle.layout.specs.Layout.{generators, quadrant_words, dacs, modifier_at, modifier_words, MMODE};
 ghost use Rattle.machine_sweep.specs.AsCoded.{every_word};

@@ -1,4 +1,6 @@
 // What a host in C calls: the proved library on numbers and runs of words. include/karvelorn.h says it in C.
+#![tactic(auto)]
+
 ghost use Rattle.std.specs.Prelude.{◌≡◌, drop, cond};
 ghost use Rattle.machine.specs.Questions.{fresh_answer, fresh_run};
 ghost use Rattle.pass_model.specs.Pass.{pass_of};

@@ -1,4 +1,6 @@
 // Where each word of the machine stands: the layout's numbers, each with its one name; and what stands at the places that several calls look at.
+#![tactic(auto)]
+
 ghost use Rattle.std.specs.Prelude.{◌≡◌, ◌+◌, ◌%◌, ◌^◌, ◌<◌};
 ghost use Rattle.layout.specs.Machine.{Reaches, ticks_of, update_ticks, gsum_at, gfm_at};
 ghost use Rattle.layout.specs.Widths.{counter_bits};

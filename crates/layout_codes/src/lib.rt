@@ -1,4 +1,6 @@
 // The codes that are built: functions of a modifier, modes of a delay unit.
+#![tactic(auto)]
+
 ghost use Rattle.std.specs.Prelude.{◌≡◌, ◌<◌};
 ghost use Rattle.layout_codes.specs.BuiltCodes.{built_function, old_built_function, built_mode};
 

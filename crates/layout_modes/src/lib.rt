@@ -1,4 +1,6 @@
 // The run modes and the oscillator modes of a generator.
+#![tactic(auto)]
+
 ghost use Rattle.std.specs.Prelude.{◌≡◌, ◌<◌};
 ghost use Rattle.layout_modes.specs.Modes.{rows, switches_of, built_run, built_oscillator};
 
@@ -22,7 +24,7 @@ pub const WRITE_DATA: u32 = 0b0011;
 pub const WRITE_DAC: u32 = 0b0010;
 
 // A run mode's switches, 1 or 0: oscillator on, envelope on, envelope free. The output is 1 where it adds, 2 where it replaces, else 0.
-#[derive(Drop)]
+#[derive(Clone, Copy)]
 pub struct Switches {
     pub oscillator: u8,
     pub envelope: u8,

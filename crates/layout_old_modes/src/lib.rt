@@ -1,4 +1,6 @@
 // The modes of a generator of the older text.
+#![tactic(auto)]
+
 ghost use Rattle.std.specs.Prelude.{◌≡◌};
 ghost use Rattle.layout_old_modes.specs.OldModes.{old_run_mode};
 

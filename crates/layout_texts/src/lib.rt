@@ -1,10 +1,12 @@
 // The texts that a machine can follow, and what stands in a generator's words by a text. Elsewhere a text is only handed on.
+#![tactic(auto)]
+
 ghost use Rattle.std.specs.Prelude.{◌≡◌, ◌<◌};
 ghost use Rattle.layout.specs.Machine.{Reaches};
 ghost use Rattle.layout_texts.specs.Texts.{run_mode_at, dac_number_at, source_at, distance_of};
 
 // A specification: that of 1978, and the older one.
-#[derive(Drop)]
+#[derive(Clone, Copy)]
 pub enum Text {
     Of1978,
     Old,

@@ -1,4 +1,6 @@
 // The machine's run of words: a fresh machine, and questions 1 and 2.
+#![tactic(auto)]
+
 ghost use Rattle.std.specs.Prelude.{◌≡◌, [], ◌∷◌, length};
 ghost use Rattle.layout.specs.Machine.{Reaches};
 ghost use Rattle.machine.specs.Questions.{question1, question2, valid, good_address, generator_registers, modifier_registers, delay_registers, fresh_answer, fresh_run};

@@ -1,4 +1,6 @@
 // A change of one partial: of a generator's GMODE, GSUM, GFM or DAC number, or of T by one.
+#![tactic(auto)]
+
 ghost use Rattle.std.specs.Prelude.{◌≡◌, true, length, ◌<◌, ◌≤◌};
 ghost use Rattle.layout.specs.Layout.{machine_length, generators};
 ghost use Rattle.layout.specs.Machine.{Reaches, ticks_of};

@@ -1,4 +1,6 @@
 // A run of units of so many words each, word j of every unit being column j: what the words of a column are below, and what a field of them is.
+#![tactic(auto)]
+
 ghost use Rattle.std.specs.Prelude.{◌≡◌, false, ◌+◌, ◌*◌, ◌/◌, ◌%◌, ◌^◌, ◌<◌, ◌≤◌, ltb, length, get_or};
 ghost use Rattle.machine_sweep.specs.AsCoded.{every_word, rows_below, swept, flags_of};
 

@@ -1,9 +1,11 @@
 // One modifier by value: its registers, and its products.
+#![tactic(auto)]
+
 ghost use Rattle.std.specs.Prelude.{◌≡◌, ◌≤◌, ◌<◌, ◌^◌, length};
 ghost use Rattle.base_words.specs.Words.{sum, Word};
 ghost use Rattle.modifier.specs.Modifier.{loaded, stored, Ranged, function_of, times_m1, times_m0, times_signal, integer_m1, integer_m0, whole_m0, gives};
 
-#[derive(Drop)]
+#[derive(Clone, Copy)]
 pub struct Modifier {
     pub m0: u32,
     pub m1: u32,
@@ -16,7 +18,7 @@ pub struct Modifier {
 }
 
 // What a turn gives: the registers afterwards, and S.
-#[derive(Drop)]
+#[derive(Clone, Copy)]
 pub struct Turned {
     pub unit: Modifier,
     pub s: u32,

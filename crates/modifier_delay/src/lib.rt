@@ -1,4 +1,6 @@
 // The modifiers' turn that invokes a delay unit.
+#![tactic(auto)]
+
 ghost use Rattle.std.specs.Prelude.{◌≡◌, ◌<◌, ◌^◌, eqb};
 ghost use Rattle.modifier.specs.Modifier.{Ranged};
 ghost use Rattle.modifier_delay.specs.Invoke.{unit_of, invoke_delay};

@@ -1,4 +1,6 @@
 // The modifiers' turns with poles and zeros.
+#![tactic(auto)]
+
 ghost use Rattle.std.specs.Prelude.{◌≡◌, ◌<◌, ◌^◌};
 ghost use Rattle.modifier.specs.Modifier.{Ranged, shifted};
 ghost use Rattle.base_words.specs.Words.{Word};

@@ -1,4 +1,6 @@
 // The modifiers' turns that change no register.
+#![tactic(auto)]
+
 ghost use Rattle.std.specs.Prelude.{◌≡◌, ◌<◌, ◌^◌};
 ghost use Rattle.modifier.specs.Modifier.{Ranged};
 ghost use Rattle.modifier_mixers.specs.Mixers.{inactive, integer_mixing, mixing, signum, minimum, maximum, threshold};

@@ -1,4 +1,6 @@
 // The modifiers' turns that keep a term in L1 for the next pass, filters aside.
+#![tactic(auto)]
+
 ghost use Rattle.std.specs.Prelude.{◌≡◌, ◌<◌, ◌^◌};
 ghost use Rattle.modifier.specs.Modifier.{Ranged};
 ghost use Rattle.base_words.specs.Words.{Word};

@@ -1,4 +1,6 @@
 // A modifier's turn by the older text. Where its formula is the 1978 text's, so is the function.
+#![tactic(auto)]
+
 ghost use Rattle.std.specs.Prelude.{◌≡◌, ◌<◌, ◌^◌};
 ghost use Rattle.base_words.specs.Words.{Word};
 ghost use Rattle.modifier.specs.Modifier.{Ranged};

@@ -1,4 +1,6 @@
 // The modifiers' products of signed words of 20 bits, and what else a modifier asks of such words.
+#![tactic(auto)]
+
 ghost use Rattle.std.specs.Prelude.{◌≡◌, ◌<◌, ◌≤◌, ◌^◌, nat_abs};
 ghost use Rattle.base_words.specs.Words.{signed, low_bits};
 ghost use Rattle.modifier_product.specs.Product.{scaled, product, integer_product, whole_product, less, opposite, half};

@@ -1,4 +1,6 @@
 // A modifier's turn by the code of its function.
+#![tactic(auto)]
+
 ghost use Rattle.std.specs.Prelude.{◌≡◌, ◌<◌, ◌^◌};
 ghost use Rattle.modifier.specs.Modifier.{Ranged};
 ghost use Rattle.modifier_turn.specs.Turn.{turn_of, reads_late};

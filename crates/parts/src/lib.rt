@@ -1,11 +1,13 @@
 // What parts two orders of the generators: the first point that fails, and contents that show it.
+#![tactic(auto)]
+
 ghost use Rattle.std.specs.Prelude.{◌≡◌};
 ghost use Rattle.parts.specs.Parts.{parts_refusal, parts_of};
 
 use layout_texts::Text;
 
 // What the call answers: the number of the refusing question or 0, the first point that fails and the lowest place at which it fails.
-#[derive(Drop)]
+#[derive(Clone, Copy)]
 pub struct Parted {
     pub number: u32,
     pub point: u32,

@@ -1,4 +1,6 @@
 // Contents that show which point fails, written into a run of a machine's words and into a read list.
+#![tactic(auto)]
+
 ghost use Rattle.std.specs.Prelude.{◌≡◌, ◌+◌, ◌≤◌, length};
 ghost use Rattle.layout.specs.Layout.{machine_length, generators};
 ghost use Rattle.base_fills.specs.Fills.{filled};

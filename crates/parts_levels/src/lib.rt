@@ -1,4 +1,6 @@
 // GL of the generators where one of them sounds and all others are silent.
+#![tactic(auto)]
+
 ghost use Rattle.std.specs.Prelude.{◌≡◌, ◌^◌, ◌<◌, length};
 ghost use Rattle.layout.specs.Layout.{machine_length, generators, generator_words, GL};
 ghost use Rattle.layout.specs.Machine.{Reaches};

@@ -1,4 +1,6 @@
 // By what passes from the contents for two orders differ.
+#![tactic(auto)]
+
 ghost use Rattle.std.specs.Prelude.{◌≡◌, length};
 ghost use Rattle.pass_model.specs.Pass.{plain_call, pass_of};
 ghost use Rattle.parts_shown.specs.Shown.{first_different, difference_shown};
@@ -6,7 +8,7 @@ ghost use Rattle.parts_shown.specs.Shown.{first_different, difference_shown};
 use layout_texts::Text;
 
 // By what two passes differ: a word of the machine, or an item of the written data.
-#[derive(Drop)]
+#[derive(Clone, Copy)]
 pub enum Difference {
     Word(usize),
     Written(usize),

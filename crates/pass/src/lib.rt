@@ -1,4 +1,6 @@
 // A pass by an order of the generators.
+#![tactic(auto)]
+
 ghost use Rattle.std.specs.Prelude.{◌≡◌, ◌≤◌};
 ghost use Rattle.layout.specs.Machine.{Reaches, ticks_of};
 ghost use Rattle.generator_sine.specs.Sine.{quarter};
@@ -13,7 +15,7 @@ use layout_texts::Text;
 use pass_sums::Clipped;
 
 // What a pass answers: the number of the refusing question or 0, the items read and written, and a mark for each word of generator-this that left its range.
-#[derive(Drop)]
+#[derive(Clone, Copy)]
 pub struct Passed {
     pub number: u32,
     pub read: usize,

@@ -1,1 +1,2 @@
 // Delay units over passes in sequence: definitions and laws only.
+#![tactic(auto)]

@@ -1,4 +1,6 @@
 // The turn of a modifier that invokes a delay unit, and of that unit.
+#![tactic(auto)]
+
 ghost use Rattle.std.specs.Prelude.{◌≡◌, true, cond, ◌<◌, ◌^◌};
 ghost use Rattle.base_words.specs.Words.{Word};
 ghost use Rattle.layout.specs.Layout.{modifier_at, delay_at};

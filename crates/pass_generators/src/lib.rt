@@ -1,4 +1,6 @@
 // The generators of a pass, taken in an order.
+#![tactic(auto)]
+
 ghost use Rattle.std.specs.Prelude.{◌≡◌, true, ◌<◌, ◌^◌};
 ghost use Rattle.layout.specs.Machine.{Reaches};
 ghost use Rattle.generator_sine.specs.Sine.{quarter};
@@ -21,7 +23,7 @@ use pass_outputs::Triggered;
 use pass_sums::{Clipped, Sums};
 
 // How many items were read and written.
-#[derive(Drop)]
+#[derive(Clone, Copy)]
 pub struct Items {
     pub reads: usize,
     pub writes: usize,

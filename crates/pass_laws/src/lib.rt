@@ -1,1 +1,2 @@
 // What a pass keeps: definitions and laws only.
+#![tactic(auto)]

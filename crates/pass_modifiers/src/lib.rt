@@ -1,4 +1,6 @@
 // The modifiers of a pass, taken by number.
+#![tactic(auto)]
+
 ghost use Rattle.std.specs.Prelude.{◌≡◌, [], ◌≤◌, ◌<◌, get_or, set};
 ghost use Rattle.layout.specs.Layout.{modifier_at};
 ghost use Rattle.layout.specs.Machine.{Reaches};

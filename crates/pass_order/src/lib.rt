@@ -1,4 +1,6 @@
 // An order of the generators, questions 5 and 6, and how many generators read and write data.
+#![tactic(auto)]
+
 ghost use Rattle.std.specs.Prelude.{◌≡◌, cond, [], ◌∷◌, ◌≤◌, eqb, length};
 ghost use Rattle.layout.specs.Layout.{generators};
 ghost use Rattle.layout.specs.Machine.{Reaches, ticks_of};
@@ -10,7 +12,7 @@ ghost use Rattle.pass_order.specs.AsCoded.{unmarked, number_marked};
 use layout_texts::Text;
 
 // How many generators below T read data, and how many write data.
-#[derive(Drop)]
+#[derive(Clone, Copy)]
 pub struct Counts {
     pub reads: usize,
     pub writes: usize,

@@ -1,4 +1,6 @@
 // What a generator's turn brings beside its registers: P in sum memory, whether the sum left its range, items read and written, a DAC, a trigger.
+#![tactic(auto)]
+
 ghost use Rattle.std.specs.Prelude.{◌≡◌, cond, eqb, ◌+◌, ◌<◌, ◌^◌, get_or, set};
 ghost use Rattle.layout.specs.Machine.{Reaches};
 ghost use Rattle.generator.specs.Generator.{Ranged};

@@ -1,4 +1,6 @@
 // The registers of a modifier in the machine: loaded, and written back.
+#![tactic(auto)]
+
 ghost use Rattle.std.specs.Prelude.{◌≡◌, ◌<◌};
 ghost use Rattle.layout.specs.Layout.{modifier_at};
 ghost use Rattle.layout.specs.Machine.{Reaches};

@@ -1,4 +1,6 @@
 // Modifier-this as a modifier sees it: what it reads there, its turn by that, and its write.
+#![tactic(auto)]
+
 ghost use Rattle.std.specs.Prelude.{◌≡◌, [], ◌<◌, ◌^◌, get_or, set};
 ghost use Rattle.base_words.specs.Words.{Word};
 ghost use Rattle.modifier.specs.Modifier.{Ranged};

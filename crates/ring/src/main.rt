@@ -1,6 +1,8 @@
 // Program ring: rings the bench file on standard input and prints a line for each pass, or a refusal.
 // Without an argument each pass goes by number, with `-` by pitch, with another by the order file of that name.
 // A read or a write that fails, and a second argument, end it with a line on standard error.
+#![tactic(auto)]
+
 ghost use Rattle.std.specs.Prelude.{◌≡◌};
 ghost use Rattle.ring_pass.specs.BenchPass.{ordering_of};
 ghost use Rattle.ring_steps.specs.AsCoded.{ringing_at};
@@ -8,7 +10,6 @@ ghost use Rattle.ring_steps.specs.declared.Output.TheVariants.{Lines};
 ghost use Rattle.ring_gathering.specs.AsCoded.{gathered};
 
 use layout_texts::Text;
-use libc::STDOUT_FILENO;
 use ring_order::By;
 use ring_steps::{Output, Progress};
 
@@ -16,7 +17,7 @@ use ring_steps::{Output, Progress};
 const OUTPUT_BYTES: usize = 65536;
 
 // What is left to ring after a part, and whether the part was written.
-#[derive(Drop)]
+#[derive(Clone, Copy)]
 struct Part {
     next: Progress,
     written: bool,
@@ -24,6 +25,7 @@ struct Part {
 
 // Rings as many passes as the buffer has room for, and prints them; says whether they were written.
 fn ring_part(
+    rt: HostRuntime,
     text: Text,
     at: Progress,
     m: &mut [u32],
@@ -47,12 +49,13 @@ fn ring_part(
         &mut out,
     );
     let length = next.length;
-    let written = io::write_all(STDOUT_FILENO, &out[0..length]);
+    let written = rt.write_all(&out[0..length]).is_ok();
     Part { next, written }
 }
 
 // Rings until no pass is left or a write fails; says whether all was written.
 fn ring_all(
+    rt: HostRuntime,
     text: Text,
     start: Progress,
     m: &mut [u32],
@@ -63,7 +66,7 @@ fn ring_all(
 ) -> bool {
     let mut at = start;
     while at.passes != 0 {
-        let part = ring_part(text, at, m, commands, memory, given, order);
+        let part = ring_part(rt, text, at, m, commands, memory, given, order);
         if !part.written {
             return false;
         }
@@ -74,7 +77,7 @@ fn ring_all(
 }
 
 // Rings a file from its beginning, or prints what is refused; says whether all was written.
-fn ring(file: &[u8], by: By, listing: &[u8]) -> bool {
+fn ring(rt: HostRuntime, file: &[u8], by: By, listing: &[u8]) -> bool {
     let mut m = [0u32; layout::MACHINE_LENGTH];
     let mut room = [0u32; file_bench::COMMAND_PLACES];
     let mut memory = [0u32; layout::MEMORY_WORDS];
@@ -82,7 +85,7 @@ fn ring(file: &[u8], by: By, listing: &[u8]) -> bool {
     let length = start.length;
     let line = start.line;
     if length != 0 {
-        return io::write_all(STDOUT_FILENO, &line[0..length]);
+        return rt.write_all(&line[0..length]).is_ok();
     }
     let text = start.text;
     let at = start.at;
@@ -91,6 +94,7 @@ fn ring(file: &[u8], by: By, listing: &[u8]) -> bool {
     let entries = start.entries;
     let order = start.order;
     ring_all(
+        rt,
         text,
         at,
         &mut m,
@@ -101,21 +105,21 @@ fn ring(file: &[u8], by: By, listing: &[u8]) -> bool {
     )
 }
 
-fn main() {
+fn main(rt: HostRuntime) {
     let mut order = [0u8; ring_streams::FILE_ROOM];
-    let request = ring_streams::read_arguments(b"ring", &mut order);
+    let request = ring_streams::read_arguments(rt, b"ring", &mut order);
     if !request.good {
         return;
     }
     let by = request.by;
     let length = request.length;
     let mut file = [0u8; ring_streams::FILE_ROOM];
-    let read = ring_streams::read_bench(b"ring", &mut file);
+    let read = ring_streams::read_bench(rt, b"ring", &mut file);
     if !read.good {
         return;
     }
     let n = read.length;
-    if !ring(&file[..n], by, &order[..length]) {
-        ring_streams::complain(b"ring", b": cannot write\n");
+    if !ring(rt, &file[..n], by, &order[..length]) {
+        ring_streams::complain(rt, b"ring", b": cannot write\n");
     }
 }

@@ -1,1 +1,2 @@
 // What is claimed of a bench file that is rung by an order: laws only.
+#![tactic(auto)]

@@ -1,4 +1,6 @@
 // The beginning of a ringing: the machine and the commands of a bench file, a delay memory of zeros, no command taken, and the order that its passes go by.
+#![tactic(auto)]
+
 ghost use Rattle.std.specs.Prelude.{◌≡◌, ℕ, ◌≤◌, length, take};
 ghost use Rattle.std.proofs.lemmas.List.Edits.{sets};
 ghost use Rattle.base_lists.specs.Lists.{zeros};
@@ -18,7 +20,7 @@ use ring_order::By;
 use ring_steps::Progress;
 
 // A beginning: the length of the line of a refusal, or 0, and that line with zeros after it; the text; how far it is; how many commands there are; whether an order is given, how many entries it has, and the order with zeros after it.
-#[derive(Drop)]
+#[derive(Clone, Copy)]
 pub struct Beginning {
     pub length: usize,
     pub line: [u8; LINE_BYTES],

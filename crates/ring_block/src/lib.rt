@@ -1,4 +1,6 @@
 // A ringing in blocks: so many passes, each followed by an update with the commands still left, with the chosen DACs of each in a run for frames.
+#![tactic(auto)]
+
 ghost use Rattle.std.specs.Prelude.{◌≡◌, false, ◌≢◌, ◌+◌, ◌*◌, ◌^◌, ◌≤◌, ◌<◌, length};
 ghost use Rattle.std.proofs.lemmas.List.Edits.{sets};
 ghost use Rattle.generator_sine.specs.Sine.{quarter};
@@ -16,7 +18,7 @@ use layout_texts::Text;
 use ring_steps::{Output, Progress};
 
 // What a block answers: the number of the refusal that ended it or 0, the passes done, and the commands taken.
-#[derive(Drop)]
+#[derive(Clone, Copy)]
 pub struct Answer {
     pub number: u32,
     pub done: u32,
@@ -54,7 +56,7 @@ fn put_frame(frames: &mut [u32], at: usize, dacs: &[u32], m: &[u32]) -> usize
 }
 
 // How far a block is: the passes left, the passes done, the commands taken, the place of the next frame, and the number of the refusal that ended it, or 0.
-#[derive(Drop)]
+#[derive(Clone, Copy)]
 struct Stage {
     passes: u32,
     done: u32,

@@ -1,4 +1,6 @@
 // By what the passes of a bench file go: by number, by pitch, or by an order file.
+#![tactic(auto)]
+
 ghost use Rattle.std.specs.Prelude.{◌≡◌, ◌≤◌, length, take};
 ghost use Rattle.layout.specs.Layout.{generators};
 ghost use Rattle.layout.specs.Machine.{Reaches, ticks_of};
@@ -8,7 +10,7 @@ ghost use Rattle.ring_pass.specs.BenchPass.{throughout, ordering_of};
 ghost use Rattle.ring_order.specs.RungOrder.{by_name, ordering_by, order_refusal};
 
 // The three ways.
-#[derive(Drop)]
+#[derive(Clone, Copy)]
 pub enum By {
     Number,
     Pitch,
@@ -29,7 +31,7 @@ pub fn by_name(name: &[u8]) -> By
 }
 
 // An order to go by: 9 where a file is no order file, or 0; whether there is one, else it is by number; how many entries it has; and the entries with zeros after them.
-#[derive(Drop)]
+#[derive(Clone, Copy)]
 pub struct Filled {
     pub number: u32,
     pub given: bool,

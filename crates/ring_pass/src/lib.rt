@@ -1,4 +1,6 @@
 // A pass of the bench: by number or by an order that is given, with no read items and no written places. Its questions are asked apart from it, since a pass that is let through keeps its machine and delay memory good.
+#![tactic(auto)]
+
 ghost use Rattle.std.specs.Prelude.{◌≡◌, false, [], ◌∷◌, length};
 ghost use Rattle.generator_sine.specs.Sine.{quarter};
 ghost use Rattle.generator_exponential.specs.Exponential.{table_size, entries};

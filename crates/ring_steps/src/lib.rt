@@ -1,4 +1,6 @@
 // The ringing of a bench file: one step, a pass by number or by an order that is given, and then an update with the commands still left.
+#![tactic(auto)]
+
 ghost use Rattle.std.specs.Prelude.{◌≡◌, ◌≢◌, false, [], ◌∷◌, ◌+◌, ◌≤◌, length, drop};
 ghost use Rattle.std.proofs.lemmas.List.Edits.{sets};
 ghost use Rattle.generator_sine.specs.Sine.{quarter};
@@ -15,14 +17,14 @@ use generator_sine::Quarter;
 use layout_texts::Text;
 
 // What a ringing gives out: lines of file, or frames of sound.
-#[derive(Drop)]
+#[derive(Clone, Copy)]
 pub enum Output {
     Lines,
     Frames,
 }
 
 // How far a ringing is: the passes left, the commands taken so far, the length of what the last step gave out, and the number of the refusal that ended it, or 0.
-#[derive(Drop)]
+#[derive(Clone, Copy)]
 pub struct Progress {
     pub passes: u32,
     pub taken: usize,

@@ -1,4 +1,6 @@
 // A bench file as sound: a RIFF/WAVE file in a buffer. A refusal anywhere leaves none.
+#![tactic(auto)]
+
 ghost use Rattle.std.specs.Prelude.{◌≡◌, [], ◌∷◌, ◌-◌, ◌≤◌, length, get_or, take};
 ghost use Rattle.std.proofs.lemmas.List.Edits.{sets};
 ghost use Rattle.layout.specs.Layout.{nAt, machine_length};
@@ -23,14 +25,14 @@ use ring_steps::{Output, Progress};
 pub const WAVE_ROOM: usize = 393318;
 
 // What was made of a ringing: the number of its refusal or 0, and the length of its file.
-#[derive(Drop)]
+#[derive(Clone, Copy)]
 struct Made {
     number: u32,
     length: usize,
 }
 
 // What there is to write: the length of the sound; the length of a refusal's line, or 0, and that line with zeros after it.
-#[derive(Drop)]
+#[derive(Clone, Copy)]
 pub struct Writing {
     pub length: usize,
     pub error: usize,

@@ -1,5 +1,7 @@
 // The benchmark's job over the proved leaves: turns of 256 generators, or products, many times over; prints a checksum.
 // The same job stands in plain C in benchmarks/leaves.c.
+#![tactic(auto)]
+
 ghost use Rattle.std.specs.Prelude.{◌≡◌, ◌^◌, ◌<◌, true, length};
 ghost use Rattle.generator_sine.specs.Sine.{quarter};
 ghost use Rattle.generator_exponential.specs.Exponential.{table_size, entries};
@@ -207,9 +209,9 @@ fn checksum(
 }
 
 // The input is two words, job and count, and the eleven words of 256 generators. The tables are copied once, as the plain C reads its own.
-fn main() {
+fn main(rt: HostRuntime) {
     let mut input = [0u8; 11272];
-    let n = io::read_full(0, &mut input);
+    let n = trial_octets::read_full(&mut rt.stdin(), &mut input);
     if n < 11272 {
         return;
     }
@@ -226,6 +228,5 @@ fn main() {
         &decay,
         &modes,
     );
-    io::print_decimal(1, sum as u64);
-    io::write_all(1, b"\n");
+    let _ = rt.println(sum);
 }

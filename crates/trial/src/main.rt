@@ -1,5 +1,7 @@
 // The test program over the proved leaves. A request is 16 words, and so is its answer; requests follow one another until the input ends.
 // Word 0 is the operation: 0 sine, 1 exponential, 2 products, 3 a generator's turn, 4 a modifier's turn, 5 whether modes are built, 6 sums, 7 a modifier's turn by the older text, 8 a generator's turn by the older text.
+#![tactic(auto)]
+
 ghost use Rattle.std.specs.Prelude.{◌≡◌, true, ◌+◌, ◌*◌, ◌≤◌, ◌<◌, ◌^◌, length};
 ghost use Rattle.generator_sine.specs.Sine.{quarter};
 ghost use Rattle.generator_exponential.specs.Exponential.{table_size, entries};
@@ -267,25 +269,25 @@ fn answer_all(
 }
 
 // Reads requests, answers them, and says whether there may be more.
-fn answer_some(sine: &Quarter, decay: &Entries, modes: &Rows) -> bool
+fn answer_some(rt: HostRuntime, sine: &Quarter, decay: &Entries, modes: &Rows) -> bool
     requires { (sine.now ≡ quarter) × (decay.now ≡ entries table_size) × (modes.now ≡ rows) }
 {
-    let mut input = io::large_buffer();
-    let mut output = io::large_buffer();
-    let n = io::read_full(0, &mut input);
+    let mut input = [0u8; 65536];
+    let mut output = [0u8; 65536];
+    let n = trial_octets::read_full(&mut rt.stdin(), &mut input);
     let count = n / 64;
     answer_all(&input, &mut output, count, sine, decay, modes);
-    let written = io::write_all(1, &output[..64 * count]);
+    let written = rt.write_all(&output[..64 * count]).is_ok();
     written && n == 65536
 }
 
 // A proved loop has to end, so the turns are counted down from a number that no input uses up.
-fn main() {
+fn main(rt: HostRuntime) {
     let sine = generator_sine::table();
     let decay = generator_exponential::table();
     let modes = layout_modes::table();
     let mut turns = u64::MAX;
-    while turns > 0 && answer_some(&sine, &decay, &modes) {
+    while turns > 0 && answer_some(rt, &sine, &decay, &modes) {
         turns -= 1;
     }
 }

@@ -1,0 +1,16 @@
+-- `any_order_sums::shift_feeder` meets its contract: the sources of the DAC follow where the count has begun or ceased to be 0.
+-- Assumes nothing.
+use Rattle.std.proofs.Common.{◌+◌, ◌*◌, arith}
+use Rattle.any_order_sums.proofs.Steps.{fed-at-edge, off-edge}
+use Rattle.any_order_sums.proofs.shift_feeder.Goals as goal
+
+pub returns-then-n-up : goal.returns-then-n-up
+returns-then-n-up c =
+    let a = c.args in
+    fed-at-edge a.up a.kept.now (256 + 128 * a.d + a.v) c.shift-n.ensures.value c.shift-n.ensures.kept_after c.if-n-up.true
+    (omega arith) (omega arith) (omega arith) c.shift_fed.ensures
+
+pub returns-else-n-up : goal.returns-else-n-up
+returns-else-n-up c =
+    let a = c.args in
+    off-edge a.up a.kept.now (256 + 128 * a.d + a.v) c.shift-n.ensures.value c.shift-n.ensures.kept_after c.if-n-up.false

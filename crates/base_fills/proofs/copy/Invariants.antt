@@ -1,0 +1,13 @@
+-- `base_fills::copy` meets its contract: the words passed are filled with those of the other run, in the end all.
+-- Assumes nothing.
+use mathlib.Core.Path.{◌≡◌}
+use Prim.Native.Nat.{◌≤◌, ◌-◌}
+use lib.ListN.{length, get_or}
+use Rattle.base_fills.specs.Fills.{filled}
+use Rattle.base_fills.proofs.copy.Given as goal
+
+abbrev pub invariant-loop-i : goal.invariant-loop-i
+invariant-loop-i l = (l.i ≤ length l.from) × (l.run ≡ filled 0 1 l.i (λ k. get_or l.from k 0) l.initial.run) × (length l.run ≡ length l.initial.run)
+
+abbrev pub decreases-loop-i : goal.decreases-loop-i
+decreases-loop-i l = length l.from - l.i

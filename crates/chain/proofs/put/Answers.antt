@@ -1,0 +1,24 @@
+-- `chain::put` meets its contract: the numbers passed are put.
+-- Assumes nothing.
+use mathlib.Core.Path.{◌≡◌, ap, ◌∙◌}
+use Prim.Native.Nat.{ℕ}
+use lib.ListN.{get_or}
+use Rattle.base_fills.specs.Fills.{filled}
+use Rattle.base_fills.proofs.Filled.{filled_none}
+use Rattle.chain.proofs.Loops.{put_next}
+use native.Mathlib.Omega.{arith}
+use Rattle.chain.proofs.put.Goals as goal
+
+pub loop-k-init : goal.loop-k-init
+loop-k-init c = let a = c.args in (omega arith, filled_none 0 1 (λ j. get_or a.found.now j 0) a.numbers.now)
+
+pub loop-k-preserved : goal.loop-k-preserved
+loop-k-preserved c =
+    let a = c.args in
+    (omega arith, put_next (λ j. get_or a.found.now j 0) a.numbers.now c.loop-k.k c.loop-k.invariant.1)
+
+pub returns : goal.returns
+returns c =
+    let a = c.args in
+    let e : c.loop-k.k ≡ a.n = omega arith in
+    c.loop-k.invariant.1 ∙ ap (λ (k : ℕ). filled 0 1 k (λ j. get_or a.found.now j 0) a.numbers.now) e

@@ -1,0 +1,12 @@
+-- `delay_questions::memory_good` meets its contract: the length, and the or of the words.
+-- Assumes nothing.
+use mathlib.Core.Path.{sym}
+use borrow.Author.Tests.{eq-eqb, ne_eqb}
+use Rattle.delay_questions.proofs.Memory.{other_length, right-length}
+use Rattle.delay_questions.proofs.memory_good.Goals as goal
+
+pub returns-then-memory-ne-MEMORY_WORDS : goal.returns-then-memory-ne-MEMORY_WORDS
+returns-then-memory-ne-MEMORY_WORDS c = sym (other_length _ (ne_eqb _ _ c.if-memory-ne-MEMORY_WORDS.true))
+
+pub returns : goal.returns
+returns c = rw c.ored.ensures (sym (right-length _ (eq-eqb _ _ c.if-memory-ne-MEMORY_WORDS.false)))

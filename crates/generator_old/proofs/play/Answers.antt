@@ -1,0 +1,18 @@
+-- `generator_old::play` meets its contract: what the steps have computed is the turn, whether it triggers or not.
+-- Assumes nothing.
+use Rattle.generator_old.proofs.OldTurns.{old-sounded-triggers, old-sounded-quiet}
+use Rattle.generator_old.proofs.play.Goals as goal
+
+pub returns-then-sounded : goal.returns-then-sounded
+returns-then-sounded c =
+    old-sounded-triggers
+    c.args.unit c.args.f c.args.on c.requires.on_value.0 c.requires.on_value.1 _ _ _ _
+    c.phase-exact.ensures c.low20-j.ensures.0 c.output-p.ensures c.advance-sounded.ensures
+    c.ended-ended.ensures c.if-sounded.true
+
+pub returns : goal.returns
+returns c =
+    old-sounded-quiet
+    c.args.unit c.args.f c.args.on c.requires.on_value.0 c.requires.on_value.1 _ _ _ _
+    c.phase-exact.ensures c.low20-j.ensures.0 c.output-p.ensures c.advance-sounded.ensures
+    c.if-sounded.false

@@ -1,0 +1,8 @@
+-- `modifier::added` meets its contract: the sum's promise, and its width.
+-- Assumes nothing.
+use Rattle.base_words.proofs.Residues.{sum_low}
+use Rattle.modifier.proofs.Low.{word_of}
+use Rattle.modifier.proofs.added.Goals as goal
+
+pub returns : goal.returns
+returns c = word_of c.add20.ensures (sum_low 20 _ _)

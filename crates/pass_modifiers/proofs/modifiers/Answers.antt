@@ -1,0 +1,28 @@
+-- `modifiers` meets its contract: after k modifiers the arrays hold the lagging stage, which is the definition's.
+use mathlib.Core.Path.{refl, ◌∙◌}
+use native.Mathlib.Omega.{arith}
+use Rattle.layout.proofs.Reach.{same-reach}
+use Rattle.pass_modifiers.specs.AsCoded.{lagged}
+use Rattle.pass_modifiers.proofs.Lags.{lagged-on, stage-end}
+use Rattle.pass_modifiers.proofs.modifiers.Goals as goal
+
+pub loop-k-init : goal.loop-k-init
+unfolding lagged
+loop-k-init c = (omega arith, refl, refl, refl)
+
+pub step-requires : goal.step-requires
+step-requires c = record { reaches = same-reach c.loop-k.invariant.1 c.requires.reaches; k_bound = omega arith }
+
+pub loop-k-preserved : goal.loop-k-preserved
+loop-k-preserved c =
+    let a = c.args in (
+      omega arith,
+      c.step.auto.m ∙ c.loop-k.invariant.1,
+      c.step.auto.memory ∙ c.loop-k.invariant.2,
+      lagged-on a.text a.t (record { words = a.m.now; memory = a.memory.now }) a.s.now c.loop-k.k c.step.ensures c.loop-k.invariant.3,
+    )
+
+pub returns : goal.returns
+returns c =
+    let a = c.args in
+    stage-end a.text a.t (record { words = a.m.now; memory = a.memory.now }) a.s.now a.n c.loop-k.k (omega arith) c.loop-k.invariant.3

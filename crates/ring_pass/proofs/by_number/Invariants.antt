@@ -1,0 +1,11 @@
+-- `ring_pass::by_number` meets its contract: the entries below i are filled.
+-- Assumes nothing.
+use Prim.Native.Nat.{◌-◌}
+use Rattle.ring_pass.proofs.ByNumber.{Filled}
+use Rattle.ring_pass.proofs.by_number.Given as goal
+
+abbrev pub invariant-loop-i : goal.invariant-loop-i
+invariant-loop-i l = Filled l.order l.i
+
+abbrev pub decreases-loop-i : goal.decreases-loop-i
+decreases-loop-i l = 256 - l.i

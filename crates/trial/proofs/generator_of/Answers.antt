@@ -1,0 +1,7 @@
+-- `trial::generator_of` meets its contract: a generator that was loaded is within its widths.
+-- Assumes nothing.
+use Rattle.generator.proofs.Registers.{ranged}
+use Rattle.trial.proofs.generator_of.Goals as goal
+
+pub returns : goal.returns
+returns c = rw c.load.ensures (ranged _)
