@@ -1,4 +1,4 @@
-"""Runs target/bin/speed and the plain C, at -O2 and at -O3, by turns on the same generators; benchmarks/leaves calls it.
+"""Runs the program speed and the plain C, at -O2 and at -O3, by turns on the same generators; benchmarks/leaves calls it.
 
 The time is the processor's, so that other work on the machine disturbs it less. The ratio
 is the median of the ratios of neighbouring runs, since the machine's pace may change.
@@ -13,7 +13,7 @@ from statistics import median
 
 from reference.tables import EXPONENTIAL, SINE
 
-RATTLE, TABLES = "target/bin/speed", "target/benchmarks/tables"
+TABLES = "target/benchmarks/tables"
 PLAIN = {"-O2": "target/benchmarks/leaves_O2", "-O3": "target/benchmarks/leaves_O3"}
 RUNS = 61
 SEED = 1978
@@ -53,7 +53,7 @@ def measure(job, number, what, modes, count, each):
     chance = random.Random(SEED)
     words = [word for _ in range(GENERATORS) for word in generator(chance, modes)]
     body = struct.pack("<%dI" % len(words), *words)
-    commands = [([RATTLE], struct.pack("<2I", number, count) + body)]
+    commands = [([sys.argv[1]], struct.pack("<2I", number, count) + body)]
     commands += [([program, TABLES, job, str(count)], body) for program in PLAIN.values()]
     seconds, printed = [[] for _ in commands], set()
     for _ in range(RUNS):

@@ -1,7 +1,7 @@
 /* join_host.c: two bells in one ring, by karvelorn_join. It joins the machines of two bench files and writes the bench
  * file of the joined one:
  *
- *     gcc -std=c99 -I include examples/join_host.c target/staticlib/libkarvelorn.a -o target/join_host
+ *     gcc -std=c99 -I include examples/join_host.c crates/karvelorn/out/libkarvelorn.a -o target/join_host
  *     target/join_host examples/low_bell.txt examples/high_bell.txt > target/both_bells.txt
  *     ./hear target/both_bells.txt
  *

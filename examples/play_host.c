@@ -1,7 +1,7 @@
 /* play_host.c: a bell written from karvelorn.h alone, and played in blocks through a callback as audio programs do. It is
  * played into a WAVE file, and every block's time is held to its deadline:
  *
- *     gcc -std=c99 -O2 -I include examples/play_host.c target/staticlib/libkarvelorn.a -lm -o target/play_host
+ *     gcc -std=c99 -O2 -I include examples/play_host.c crates/karvelorn/out/libkarvelorn.a -lm -o target/play_host
  *     target/play_host bell.wav            (or: target/play_host bell.wav SECONDS T)
  *
  * The bell has five partials and is struck a second time after 1.5 seconds, by commands that wait for their pass. T is how

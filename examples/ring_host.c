@@ -1,6 +1,6 @@
 /* ring_host.c: a host for Karvelorn in C99, to learn karvelorn.h from. It rings a bench file:
  *
- *     gcc -std=c99 -I include examples/ring_host.c target/staticlib/libkarvelorn.a -o target/ring_host
+ *     gcc -std=c99 -I include examples/ring_host.c crates/karvelorn/out/libkarvelorn.a -o target/ring_host
  *     target/ring_host < examples/bell.txt
  *
  * A bench file says how many passes to ring, then which words of a fresh machine to set, then the commands for the

@@ -1,6 +1,6 @@
 /* karvelorn.h: a 1978 synthesizer in whole numbers, for a host in C99 or C++.
  *
- * The library is libkarvelorn.a (target/staticlib, made by `rt staticlib karvelorn`) or libkarvelorn.so, for x86-64. It
+ * The library is libkarvelorn.a (crates/karvelorn/out, made by `tools/built karvelorn`) or libkarvelorn.so, for x86-64. It
  * needs nothing but memcpy, memset and memcmp of the C library, keeps nothing between calls, allocates nothing and prints
  * nothing. Calls on different machines may run at the same time. examples/ring_host.c is a whole host to start from, and a
  * small one stands below. Below: what a host must see to, the questions, the words of a machine, how to write a bell,

@@ -90,7 +90,7 @@ class Refused(Exception):
 def _library():
     """The shared library, by the places that the head of this file names."""
     here = Path(__file__).resolve().parent
-    built = here.parent / "target" / "staticlib" / f"libkarvelorn.so.{VERSION}"
+    built = here.parent / "target" / f"libkarvelorn.so.{VERSION}"
     places = [os.environ.get("KARVELORN_LIBRARY"), here / "libkarvelorn.so", built]
     found = next((str(place) for place in places if place and Path(place).exists()), "libkarvelorn.so." + VERSION.rpartition(".")[0])
     try:

@@ -1,6 +1,6 @@
 """Installs the module with the shared library beside it: pip install --no-build-isolation --no-index ./python
 
-The library is made of the repository's static one, which `rt staticlib karvelorn` proves and builds.
+The library is made of the repository's static one, which `tools/built karvelorn` proves and builds.
 """
 
 import shutil
@@ -16,10 +16,10 @@ REPOSITORY = Path(__file__).resolve().parent.parent
 def library():
     """The shared library of the repository."""
     sys.path.insert(0, str(REPOSITORY / "tools"))
-    from building import LIBRARY
+    from places import LIBRARY
     from sharing import built_shared
     if not LIBRARY.exists():
-        sys.exit("karvelorn: the library isn't built: rt staticlib karvelorn")
+        sys.exit("karvelorn: the library isn't built: tools/built karvelorn")
     return built_shared()
 
 

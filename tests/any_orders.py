@@ -3,7 +3,7 @@
     python3 tests/any_orders.py [--dry] [--fault NAME] [COUNT] [SEED]
 
 Run from the repository root. Builds tests/any_orders.c with include/karvelorn.h and
-target/staticlib/libkarvelorn.a (which it has rt make where it is missing or older than the
+the library for C (which it has rt make where it is missing or older than the
 code). Each number and each yes or no must be the reference's, and the machine must stay as
 it was. On machines with T at most 4 every pair of orders is compared by the library too:
 all are equal exactly where the answer is yes. Fails too where the requests met something

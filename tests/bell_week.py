@@ -23,6 +23,7 @@ import drawers
 import heard
 import longer
 import partials
+import places
 import sounds
 from recording_cases import wave_file, whole_numbers
 
@@ -282,7 +283,7 @@ def kept(folder):
         assert (drawer / name).read_bytes() == (at / name).read_bytes()
     text = (drawer / "index.html").read_text()
     for part in ("Zoë &lt;b&gt;", "412.5 kg", "ring 3, 2 turns of 0.4 mm", "&quot;a &amp; b&quot;", "Yes: the same bell in both orders.", 'src="bell.wav"', 'src="bell.ring-3.both.wav"', run("git", "rev-parse", "HEAD").out.strip(),
-                 hashlib.sha256((ROOT / "target" / "bin" / "wav").read_bytes()).hexdigest(), *(hashlib.sha256((drawer / name).read_bytes()).hexdigest() for name in files if name not in ("index.html", "SHA256SUMS"))):
+                 hashlib.sha256(places.program("wav").read_bytes()).hexdigest(), *(hashlib.sha256((drawer / name).read_bytes()).hexdigest() for name in files if name not in ("index.html", "SHA256SUMS"))):
         assert part in text, part
     assert not re.search(r"https?:|//", text.split("</style>")[1]), "the page names something outside"
     done = call("drawer", drawers, "check", drawer)

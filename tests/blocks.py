@@ -2,7 +2,7 @@
 
     python3 tests/blocks.py [--text old] [--dry] [--fault NAME] [COUNT] [SEED]
 
-Run from the repository root. Builds tests/blocks.c with include/karvelorn.h and target/staticlib/libkarvelorn.a (which it has rt make
+Run from the repository root. Builds tests/blocks.c with include/karvelorn.h and the library for C (which it has rt make
 where it is missing or older than the code). COUNT ringings at random, each cut into blocks at random places: with commands, Lingers,
 an order or none, chosen DACs, refusals in the middle, runs too short for all frames. Of each call the number, the passes done, the
 commands taken and every sample must be the reference's, and at the end every word of the machine and of delay memory; the program
@@ -19,7 +19,7 @@ from collections import Counter
 from typing import NamedTuple
 
 # First, since it makes the reference known.
-from library import LIBRARY, ROOT, Test, compared, counts, library_is_new, met_seldom, packed, read_arguments, show_words, unpacked
+from library import LIBRARY, ROOT, Test, compared, counts, make_library, met_seldom, packed, read_arguments, show_words, unpacked
 
 from pass_requests import BAD_ORDERS, good_order
 from reference import layout
@@ -295,8 +295,7 @@ def main(arguments):
             first.append((request, answer))
 
     if not options.dry:
-        if not library_is_new():
-            subprocess.run(["rt", "staticlib", "karvelorn"], cwd=ROOT, check=True, stdout=subprocess.DEVNULL)
+        make_library("blocks")
         build(test, "", "gcc", "-std=c99", "-x", "c")
     status = compared(test, requests(options.count, options.seed, options.text), count, options.dry)
     if not options.dry:

@@ -2,7 +2,7 @@
 
     python3 tests/by_order.py [--text old] [--dry] [--fault NAME] [COUNT] [SEED]
 
-target/bin/ring and target/bin/wav must be built. COUNT bench files at random, of 1978 or with --text old of the older text, some of
+The programs ring and wav must be built. COUNT bench files at random, of 1978 or with --text old of the older text, some of
 them damaged, each with an order: good ones, nearly by number, by number, by pitch, too short, too long, doubled, beyond T, and texts
 that are no order file. Some files have a command that sets another T: then the pass after it is refused by 5. What ring prints must be
 the reference's, byte for byte; where wav isn't refused it gives these lines as a sound, else the refusal on standard error. By number
@@ -20,7 +20,7 @@ from concurrent.futures import ThreadPoolExecutor
 from typing import NamedTuple, Union
 
 # First, since it makes the reference known.
-from library import ROOT, counts, met_seldom, read_arguments
+from library import counts, met_seldom, program_of, read_arguments
 
 from pass_requests import BAD_ORDERS, good_order, swapped
 from reference import layout
@@ -36,7 +36,7 @@ from texts import NEW_TEXT, OLD_TEXT, Chance
 from wav import NO_PASSES, expected as sound_of
 
 COUNT, COUNT_OLD, SEED = 400, 400, 39
-RING, WAV = (os.path.join(ROOT, "target", "bin", name) for name in ("ring", "wav"))
+RING, WAV = map(program_of, ("ring", "wav"))
 TIME_MOST, SHOWN = 60, 5
 TICKS_T = 0b00011 << 7
 

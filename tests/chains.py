@@ -3,7 +3,7 @@
     python3 tests/chains.py [--dry] [--fault NAME] [COUNT] [SEED]
 
 Run from the repository root. Builds tests/chains.c with include/karvelorn.h and
-target/staticlib/libkarvelorn.a (which it has rt make where it is missing or older than the code).
+the library for C (which it has rt make where it is missing or older than the code).
 All chains of up to four entries and COUNT at random, good and damaged: the number and all 128
 words must be the reference's, within a stack of 256 kB. Then chains of up to 18 entries are put to use through
 tests/passes.c: in one pass each reader finds the bit of every entry that it names, and an early

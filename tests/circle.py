@@ -1,7 +1,7 @@
 """The circle closes: from a table of partials to a bench file, rung by `wav`, and analysed. What is measured is what is in
 the sound, and what isn't as the table says is told.
 
-    /usr/bin/python3 tests/circle.py [PROGRAM]      (PROGRAM: target/bin/wav where none is named; needs numpy and scipy)
+    /usr/bin/python3 tests/circle.py [PROGRAM]      (PROGRAM: wav where none is named; needs numpy and scipy)
 
 Bells, doublets, close sets, strokes and channels: each partial is found without the table's help, gets its own name, and is
 within 1 cent or 0.1 Hz, 0.5 dB and 5 % of its decay (10 % where it is more than 40 dB below the loudest), or the report names
@@ -25,6 +25,7 @@ sys.path.insert(0, str(ROOT / "tools"))
 import analysis  # noqa: E402
 import naming  # noqa: E402
 import partials as tables  # noqa: E402
+import places  # noqa: E402
 import sounds  # noqa: E402
 
 # Each bell: so many partials, N, and the seed of its numbers.
@@ -306,7 +307,7 @@ def all_faults(program, folder, counts):
 
 
 def main():
-    program = sys.argv[1] if len(sys.argv) > 1 else str(ROOT / "target" / "bin" / "wav")
+    program = sys.argv[1] if len(sys.argv) > 1 else str(places.program("wav"))
     counts = {"partials": 0, "named": 0, "told": 0, "quiet": 0, "unsure": 0, "one": 0}
     with tempfile.TemporaryDirectory() as folder:
         faults = list(all_faults(program, folder, counts))

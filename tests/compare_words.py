@@ -1,7 +1,7 @@
 """What ./compare says, word for word, with its exit status: bells in two orders that are the same, orders that are parted at each
 of the four points, refusals, and what can't be read.
 
-    /usr/bin/python3 tests/compare_words.py      (target/bin/sorted and target/bin/wav must be built)
+    /usr/bin/python3 tests/compare_words.py      (the programs sorted and wav must be built)
 
 Then random machines: the status is the reference's answer, and the generators that are named are those of its points.
 """
@@ -18,6 +18,7 @@ from pathlib import Path
 ROOT = Path(__file__).resolve().parent.parent
 sys.path[:0] = [str(ROOT), str(ROOT / "tools")]
 import compared  # noqa: E402
+import places  # noqa: E402
 import questions  # noqa: E402
 from machine_words import name_of  # noqa: E402
 from statuses import Status  # noqa: E402
@@ -25,7 +26,7 @@ from reference import layout, orders, parts  # noqa: E402
 from reference.machine import fresh_machine, put_update_ticks  # noqa: E402
 from reference.update import run_update  # noqa: E402
 
-PROGRAM = ROOT / "target" / "bin" / "sorted"
+PROGRAM = places.program("sorted")
 INACTIVE, PAUSE, TO_DAC, WRITES, READS, WAITS, STOPS, TRIGGERS, RUNS = 0, 1, 0b0010, 0b0011, 0b0111, 0b1001, 0b1101, 0b1110, 0b1111
 MODIFIER_LAST = 64
 YES, NO = "Yes: the same bell in both orders.", "No: the two orders can ring differently."

@@ -3,7 +3,7 @@
     python3 tests/compares.py [--text old] [--dry] [COUNT] [SEED]
 
 Run from the repository root. With --text old the machines are those of the older text. Builds tests/compares.c with include/karvelorn.h and
-target/staticlib/libkarvelorn.a (which it has rt make where it is missing or older than the
+the library for C (which it has rt make where it is missing or older than the
 code). Each answer must be the reference's. Where it is yes, passes of the library by
 the two orders from contents at random must end alike, delay memory too; where it is no,
 they must differ from contents that are made to part the two orders, but not in delay

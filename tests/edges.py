@@ -3,7 +3,7 @@
     python3 tests/edges.py           checks, for the gate
     python3 tests/edges.py --write   writes crates.txt's names and the picture anew
 
-A crate names another where its code says `other::`, or its definitions or proofs `Rattle·other.`.
+A crate names another where its code says `other::`, or its clauses, definitions or proofs `Rattle.other.`.
 The picture leaves out an edge that a chain of others makes."""
 
 import re
@@ -14,23 +14,23 @@ ROOT = Path(__file__).resolve().parent.parent
 LIST = ROOT / "crates.txt"
 PAGE = ROOT / "docs" / "ARCHITECTURE.md"
 BEGIN, END = "<!-- edges: written by tests/edges.py -->", "<!-- end of edges -->"
-KIT = {"io": "libc", "check": "", "os": "libc", "bytes": "", "libc": ""}
-LINE = re.compile(r"^(\w+):(.*)$")
+KIT = {"check"}  # the kit's libraries that a line lists beside std, which none does
+LINE = re.compile(r"^(\w+)( staticlib)?:(.*)$")
 
 
 def listed():
     """The crates of crates.txt in sequence, each with the crates that its line names."""
-    return {m.group(1): m.group(2).split() for m in map(LINE.match, LIST.read_text().splitlines()) if m}
+    return {m.group(1): m.group(3).split() for m in map(LINE.match, LIST.read_text().splitlines()) if m}
 
 
 def named_by(crate, crates):
     """The crates that a crate's files name."""
     text = ""
     for path in sorted((ROOT / "crates" / crate).rglob("*")):
-        if path.suffix in (".rt", ".antt") and "must-fail" not in path.parts:
+        if path.suffix in (".rt", ".antt") and "out" not in path.parts:
             lines = path.read_text().splitlines()
             text += "\n".join(line.split("//" if path.suffix == ".rt" else "--")[0] for line in lines) + "\n"
-    found = set(re.findall(r"Rattle·(\w+?)[.·]", text)) | set(re.findall(r"(?<![\w:])(\w+)::", text))
+    found = set(re.findall(r"\bRattle\.(\w+)\.", text)) | set(re.findall(r"(?<![\w:])(\w+)::", text))
     return {name for name in found if (name in crates or name in KIT) and name != crate}
 
 
@@ -40,9 +40,7 @@ def deps():
     out = {}
     for crate in crates:
         names = named_by(crate, crates)
-        kit = names & set(KIT)
-        kit |= {KIT[k] for k in kit if KIT[k]}
-        out[crate] = [c for c in crates if c in names] + sorted(kit)
+        out[crate] = [c for c in crates if c in names] + sorted(names & KIT)
     return out
 
 
@@ -69,7 +67,7 @@ def main():
     if "--write" in sys.argv:
         def line(text):
             found = LINE.match(text)
-            return f"{found.group(1)}: {' '.join(edges[found.group(1)])}".rstrip() if found else text
+            return f"{found.group(1)}{found.group(2) or ''}: {' '.join(edges[found.group(1)])}".rstrip() if found else text
         LIST.write_text("\n".join(map(line, LIST.read_text().splitlines())) + "\n")
         PAGE.write_text(wanted)
         return

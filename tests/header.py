@@ -11,7 +11,7 @@ import subprocess
 import sys
 from pathlib import Path
 
-from library import LIBRARY, ROOT, library_is_new
+from library import LIBRARY, ROOT, TARGET, make_library, program_of
 
 HEADER = Path(ROOT, "include", "karvelorn.h")
 WARNINGS = ("-Wall", "-Wextra", "-Wpedantic", "-Wconversion", "-Werror")
@@ -40,7 +40,7 @@ word=4113:2
 
 def built(name, title, folder="tests"):
     """A program over the library, of a file in a folder."""
-    program = Path(ROOT, "target", f"{name}-{title.replace('+', 'p')}")
+    program = Path(TARGET, f"{name}-{title.replace('+', 'p')}")
     subprocess.run([*COMPILERS[title], *WARNINGS, "-I", str(HEADER.parent), str(Path(ROOT, folder, f"{name}.c")),
                     "-x", "none", LIBRARY, "-lm", "-o", str(program)], check=True)
     return program
@@ -50,11 +50,11 @@ def header_bell(title):
     """Whether the bell that stands in the header, made a program, sounds as its bench file rung by ring."""
     lines = re.search(r"^ \* To write a bell\.(?:.*\n){1,3}?((?: \*     .*\n)+)", HEADER.read_text(), re.M).group(1)
     body = re.sub(r"^ \*     ", "    ", lines, flags=re.M)
-    Path(ROOT, "target", "header_bell.c").write_text(
+    Path(TARGET, "header_bell.c").write_text(
         '#include <stdio.h>\n#include "karvelorn.h"\nstatic void play(int32_t sample) { printf("%d\\n", (int)sample); }\n'
         f"int main(void) {{\n{body}    return 0;\n}}\n")
-    played = subprocess.run([built("header_bell", title, "target")], check=True, stdout=subprocess.PIPE).stdout.decode()
-    rung = subprocess.run([Path(ROOT, "target", "bin", "ring")], input=BELL.encode(), check=True, stdout=subprocess.PIPE).stdout.decode()
+    played = subprocess.run([built("header_bell", title, TARGET)], check=True, stdout=subprocess.PIPE).stdout.decode()
+    rung = subprocess.run([program_of("ring")], input=BELL.encode(), check=True, stdout=subprocess.PIPE).stdout.decode()
     samples = re.findall(r" left=(-?\d+) ", rung)
     same = played.split() == samples and len(set(samples)) > 1000
     print(f"the header's bell: {len(samples)} samples, " + ("as rung" if same else "not as rung"))
@@ -81,8 +81,7 @@ def faults():
 
 
 def main():
-    if not library_is_new():
-        subprocess.run(["rt", "staticlib", "karvelorn"], cwd=ROOT, check=True, stdout=subprocess.DEVNULL)
+    make_library("header")
     wrong = list(faults())
     for line in wrong:
         print(f"header: {line}")

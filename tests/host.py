@@ -3,10 +3,10 @@
     python3 tests/host.py [--dry] [COUNT] [SEED]
 
 Run from the repository root. Builds examples/ring_host.c with include/karvelorn.h and
-target/staticlib/libkarvelorn.a, with the address and undefined-behaviour sanitizers on and
+the library for C, with the address and undefined-behaviour sanitizers on and
 tests/host_guard.c before each call, and rings the files of tests/ring_files.py, COUNT of
 them at random, and every ninth of those that tests/text_files.py makes by hand: the host
-must print what target/bin/ring does, which tests/ring.py compares with the reference on
+must print what the program ring does, which tests/ring.py compares with the reference on
 these very files, and the sanitizers nothing. Fails too where the files met something too
 seldom. With --dry nothing is built or run, and the reference answers.
 """
@@ -19,7 +19,7 @@ from itertools import chain, islice
 
 import ring_files
 import text_files
-from library import LIBRARY, ROOT, library_is_new, read_arguments
+from library import LIBRARY, ROOT, TARGET, make_library, program_of, read_arguments
 from ringing import PROMISED, compared, printed_by
 
 COUNT, SEED = 300, 1978
@@ -29,8 +29,8 @@ SOURCE = os.path.join(ROOT, "examples", "ring_host.c")
 GUARD = os.path.join(ROOT, "tests", "host_guard.c")
 ALONE = os.path.join(ROOT, "tests", "alone.c")
 GUARDED = tuple("-Wl,--wrap=karvelorn_" + call for call in ("fresh", "pass", "old_pass", "update", "read"))
-HOST = os.path.join(ROOT, "target", "ring_host")
-RING = os.path.join(ROOT, "target", "bin", "ring")
+HOST = os.path.join(TARGET, "ring_host")
+RING = program_of("ring")
 # What is promised of the printed lines and the commands; what delay units met is seen in the reference's passes alone.
 TOLD = {kind: least for kind, least in PROMISED.items() if kind.startswith(("rung", "refused=", "DLY", "a number"))}
 WARNINGS = ("-Wall", "-Wextra", "-Werror", "-pedantic")
@@ -57,13 +57,12 @@ def header_compiles():
 def links_alone():
     """Whether the library needs nothing of the C library but what the header names."""
     return compiled("gcc", "-std=c99", *WARNINGS, "-ffreestanding", "-nostdlib", "-static", "-I", INCLUDE,
-                    ALONE, LIBRARY, "-o", os.path.join(ROOT, "target", "alone"))
+                    ALONE, LIBRARY, "-o", os.path.join(TARGET, "alone"))
 
 
 def build():
     """Builds the host; says whether that went well."""
-    if not library_is_new():
-        subprocess.run(["rt", "staticlib", "karvelorn"], cwd=ROOT, check=True, stdout=subprocess.DEVNULL)
+    make_library("host")
     return links_alone() and compiled("gcc", "-std=c99", *WARNINGS, *SANITIZERS, *GUARDED, "-I", INCLUDE,
                     SOURCE, GUARD, LIBRARY, "-o", HOST)
 

@@ -14,6 +14,7 @@ import tempfile
 from pathlib import Path
 
 from calls import ROOT, Status, names, refused, run
+import places
 
 VERSION = (ROOT / "VERSION").read_text().strip()
 BELL = ROOT / "examples" / "short_bell.txt"
@@ -89,7 +90,7 @@ def in_place(folder):
     assert done.status == 0 and f"stand under {prefix}" in done.err, done
     assert names(prefix / "bin") == ["karvelorn"], "everybody's path has one name"
     for name in ("ring", "wav", "sorted"):
-        assert (prefix / "libexec" / "karvelorn" / "programs" / name).read_bytes() == (ROOT / "target" / "bin" / name).read_bytes()
+        assert (prefix / "libexec" / "karvelorn" / "programs" / name).read_bytes() == places.program(name).read_bytes()
     before = files_below(prefix)
     links(prefix)
     assert commands(folder, prefix) == host(folder, prefix)

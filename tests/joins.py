@@ -3,7 +3,7 @@
     python3 tests/joins.py [--dry] [--fault NAME] [COUNT] [SEED]
 
 Run from the repository root. Builds tests/joins.c with include/karvelorn.h and
-target/staticlib/libkarvelorn.a (which it has rt make where it is missing or older than the code).
+the library for C (which it has rt make where it is missing or older than the code).
 The number and each word of the first machine must be the reference's. Every tenth pair is rung for
 200 passes of the library beside each bell alone: sums, DACs and generators of each bell must be
 those it has alone, half of them with every envelope overflowing, half with changes to one bell's

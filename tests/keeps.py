@@ -3,7 +3,7 @@
     python3 tests/keeps.py [--dry] [--fault NAME] [COUNT] [SEED]
 
 Run from the repository root. Builds tests/keeps.c with include/karvelorn.h and
-target/staticlib/libkarvelorn.a (which it has rt make where it is missing or older than the code).
+the library for C (which it has rt make where it is missing or older than the code).
 COUNT lists of changes, from fresh machines and others: after each change the array must be the one
 that karvelorn_keep makes of the machine then, and its answer karvelorn_any_order's; in lists that
 the test makes, numbers, answers and machines must be the reference's. With arbitrary arrays number

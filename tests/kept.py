@@ -18,16 +18,17 @@ PAGE = CRATES / "claims" / "specs" / "Claims.antt"
 PROVED = CRATES / "claims" / "proofs" / "Proved.antt"
 
 # Names of the library, and the one module that each comes from.
-LIBRARY = {
-    "_≡_": "mathlib.Core.Path", "_↔_": "mathlib.Core.Logic", "_≢_": "mathlib.Core.Logic",
-    "true": "mathlib.Core.Bool", "false": "mathlib.Core.Bool", "cond": "mathlib.Core.Bool", "not": "mathlib.Core.Bool",
-    "_&&_": "mathlib.Core.Bool", "_||_": "mathlib.Core.Bool", "Bool": "mathlib.Core.Bool",
-    "List": "mathlib.Core.List", "[]": "mathlib.Core.List", "_∷_": "mathlib.Core.List", "_++_": "mathlib.Core.List",
-    "ℕ": "Prim.Native.Nat", "zero": "Prim.Native.Nat", "suc": "Prim.Native.Nat", "_+_": "Prim.Native.Nat",
-    "_-_": "Prim.Native.Nat", "_*_": "Prim.Native.Nat", "_/_": "Prim.Native.Nat", "_%_": "Prim.Native.Nat",
-    "_^_": "Prim.Native.Nat", "_<_": "Prim.Native.Nat", "_≤_": "Prim.Native.Nat",
-    "length": "lib.ListN", "getD": "lib.ListN", "set": "lib.ListN", "take": "lib.ListN", "drop": "lib.ListN",
-    "eqb": "lib.Dec", "ltb": "lib.Dec", "leb": "lib.Dec",
+PRELUDE = "Rattle.std.specs.Prelude"
+LIBRARY = dict.fromkeys((
+    "◌≡◌", "◌↔◌", "◌≢◌", "◌⊎◌", "Bool", "true", "false", "cond", "not", "◌&&◌", "◌||◌", "◌==◌",
+    "List", "[]", "◌∷◌", "◌++◌", "map", "replicate", "length", "get_or", "set", "take", "drop", "slice_index", "slice_set",
+    "ℕ", "zero", "suc", "◌+◌", "◌-◌", "◌*◌", "◌/◌", "◌%◌", "◌^◌", "◌<◌", "◌≤◌", "min", "max", "eqb", "ltb", "leb", "nat_lt", "nat_le",
+    "ℤ", "pos", "negsuc", "◌+ℤ◌", "◌-ℤ◌", "◌*ℤ◌", "neg_ℤ", "nat_abs",
+), PRELUDE) | {
+    "sets": "Rattle.std.proofs.lemmas.List.Edits", "beq": "Rattle.std.specs.Bool",
+    "bit_or": "Rattle.std.specs.Int.Bits", "bit_xor": "Rattle.std.specs.Int.Bits",
+    **dict.fromkeys(("mag", "lt_z", "shr_z", "non_neg"), "Rattle.std.specs.Int.Signed"),
+    "code": "Prim.Native.Char", "String": "Prim.Native.String",
 }
 
 USE = re.compile(r"^(?:ghost )?use ([^\s{]+)\.\{([^}]*)\};?$", re.M)
@@ -49,7 +50,7 @@ def brought(text):
 
 def file_of(module, crate):
     """The file of specs/ that a module of the repository's is, seen from a crate."""
-    found = re.fullmatch(r"Rattle·(\w+)(?:·specs)?\.(?:specs\.)?(?:specs\.)?(\w+)", module)
+    found = re.fullmatch(r"Rattle\.(\w+)\.specs\.(\w+)", module)
     return CRATES / found.group(1) / "specs" / f"{found.group(2)}.antt" if found else None
 
 
@@ -169,7 +170,7 @@ def faults():
     proved = PROVED.read_text()
     if not re.search(r"^pub claims : Claims\nclaims =\n", proved, re.M):
         yield "the value `claims : Claims` is gone"
-    if "use Rattle·claims·specs.specs.Claims.{Claims}" not in proved:
+    if "use Rattle.claims.specs.Claims.{Claims}" not in proved:
         yield "the proof of the claims does not bring in their page"
     if "pub mod Proved" not in (CRATES / "claims" / "proofs" / "Lib.antt").read_text().splitlines():
         yield "the proof of the claims is no module of its crate"

@@ -9,19 +9,21 @@ import resource
 import subprocess
 import sys
 from array import array
-from glob import glob
 from itertools import islice
 from typing import Callable, NamedTuple, Optional
 
 ROOT = os.path.dirname(os.path.dirname(os.path.abspath(__file__)))
 sys.path.insert(0, ROOT)
+sys.path.append(os.path.join(ROOT, "tools"))
 
+import building  # noqa: E402
+import places  # noqa: E402
 from reference import layout  # noqa: E402
 from reference.faults import NAMES, switched_on  # noqa: E402
 from texts import NEW_TEXT, OLD_TEXT, TEXTS, Text  # noqa: E402
 
 BATCH, SHOWN, WORDS_SHOWN = 500, 5, 8
-LIBRARY = os.path.join(ROOT, "target", "staticlib", "libkarvelorn.a")
+LIBRARY, TARGET = str(places.LIBRARY), str(places.TARGET)
 
 
 class Test(NamedTuple):
@@ -43,7 +45,7 @@ class Test(NamedTuple):
     @property
     def program(self):
         """The path of the C program."""
-        return os.path.join(ROOT, "target", self.title)
+        return os.path.join(TARGET, self.title)
 
     def limit_stack(self):
         """The limit for the program's stack, in a child that is to run it."""
@@ -57,19 +59,21 @@ class Test(NamedTuple):
 
 # Building
 
-def library_is_new():
-    """Whether the static library is there and no source file is newer."""
-    sources = glob(os.path.join(ROOT, "crates", "*", "src", "**", "*.rt"), recursive=True)
-    return (os.path.exists(LIBRARY)
-            and max(map(os.path.getmtime, sources)) <= os.path.getmtime(LIBRARY))
+def program_of(name):
+    """A program's path; it must be built (tools/built NAME)."""
+    return str(places.program(name))
+
+
+def make_library(test):
+    """Builds the library where it is not there or a file of its crates is newer."""
+    building.built(test, places.LIBRARY_CRATE)
+    os.makedirs(TARGET, exist_ok=True)
 
 
 def build(test):
     """The test's program, over the static library. It takes its place whole: another test may be running it."""
-    if not library_is_new():
-        subprocess.run(["rt", "staticlib", "karvelorn"], cwd=ROOT, check=True, stdout=subprocess.DEVNULL)
+    make_library(test.name)
     source = os.path.join(ROOT, "tests", test.name + ".c")
-    made = f"{test.program}-{os.getpid()}"
     defined = ["-DOLD_TEXT"] if test.text is OLD_TEXT else []
     # Put in its place whole: a test beside this one may run the same program.
     made = f"{test.program}.{os.getpid()}"

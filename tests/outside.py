@@ -3,7 +3,7 @@ Then the recipe of docs/HEAR.md for many files, also on a disk of 500 kB.
 
     python3 tests/outside.py [PROGRAM]
 
-target/bin/ring and target/bin/wav must be built. It runs in a stack of 512 kB. A failed write must end it with one line on
+The programs ring and wav must be built. It runs in a stack of 512 kB. A failed write must end it with one line on
 standard error and no later line; a failed read must have it print nothing, since a part of a file may be
 another file. The recipe leaves whole sounds or none, and ends with a status that tells. What the machine cannot do is left
 out with a sentence.
@@ -24,12 +24,12 @@ import time
 from contextlib import contextmanager
 from typing import NamedTuple
 
-from library import ROOT
+from library import ROOT, program_of
 from ring_files import EXAMPLE, EXAMPLE_PRINTED, PASSES_MOST, bench, file, sizes
 from reference.ring import FILE_MOST, ring
 from ringing import TIME_MOST, small_stack
 
-PROGRAM = sys.argv[1] if sys.argv[1:] else os.path.join(ROOT, "target", "bin", "ring")
+PROGRAM = sys.argv[1] if sys.argv[1:] else program_of("ring")
 CANNOT_READ, CANNOT_WRITE = b"ring: cannot read\n", b"ring: cannot write\n"
 # Silence by all 256 generators, so that it takes many times as long as to start a program.
 LONG = bench(PASSES_MOST, [(11 * g + 10, 962) for g in range(256)] + [(4113, 256)])
@@ -133,7 +133,7 @@ def full_disk():
 def closed_pipes():
     """A reader that leaves after the first bytes, with the signal ignored and as usual; an output that is not open."""
     endings = (("ignored", ignore_sigpipe, Outcome(b"", CANNOT_WRITE, 0)),
-               ("as usual", lambda: None, Outcome(b"", b"", -signal.SIGPIPE)))
+               ("as usual", lambda: None, Outcome(b"", CANNOT_WRITE, 0)))  # the runtime ignores it: the write fails
     for name, prepare, wanted in endings:
         reader, writer = os.pipe()
         process = started(opened(LONG), writer, prepare=prepare)
@@ -319,7 +319,7 @@ TICKS_1 = 0x00000180
 
 def by_arguments(program, arguments, source):
     """What one of the three programs prints and tells of a file on standard input, with arguments."""
-    path = os.path.join(ROOT, "target", "bin", program)
+    path = program_of(program)
     done = subprocess.run([path, *arguments], input=source, stdout=subprocess.PIPE, stderr=subprocess.PIPE, timeout=TIME_MOST,
                           preexec_fn=None if program == "wav" else small_stack)  # tests/wav.py has its stack
     return done.stdout, done.stderr

@@ -28,10 +28,10 @@ def faults():
     yield from (f"the layers lack {name}" for name in sorted(crates - layers))
     named = set(re.findall(r"`(\w+)`", section(page, "Which definitions need belief")))
     for path in sorted(CRATES.glob("*/specs/*.antt")):
-        brought = re.findall(r"^use Rattle·[^\s{]*\.AsCoded\.\{([^}]*)\}", path.read_text(), re.M) if path.stem != "AsCoded" else []
+        brought = re.findall(r"^use Rattle\.[^\s{]*\.AsCoded\.\{([^}]*)\}", path.read_text(), re.M) if path.stem != "AsCoded" else []
         for name in sorted({name.strip() for names in brought for name in names.split(",")} - named):
             yield f"{path.parent.parent.name}/specs/{path.name} is to be believed and names {name}, which is in the code's shape"
-    edits = {f"{path.relative_to(CRATES).parts[0]}/{path.stem}" for path in CRATES.glob("*/must-fail/**/*.edit")}
+    edits = {f"{path.relative_to(CRATES).parts[0]}/{path.stem}" for folder in ("must-fail", "beyond") for path in CRATES.glob(f"*/{folder}/**/*.edit")}
     for path in NAMING:
         for crate, label in re.findall(r"`(\w+)/([a-z][a-z0-9_]+)`", path.read_text()):
             if crate in crates and label not in ("specs", "proofs", "src") and f"{crate}/{label}" not in edits:

@@ -3,7 +3,7 @@
     python3 tests/parts.py [--text old] [--dry] [--fault NAME] [COUNT] [SEED]
 
 Run from the repository root. With --text old the machines are those of the older text. Builds tests/parts.c with include/karvelorn.h and
-target/staticlib/libkarvelorn.a (which it has rt make where it is missing or older than the
+the library for C (which it has rt make where it is missing or older than the
 code). Each number, point and place must be the reference's, and compare must say no exactly
 where a point is named. From the contents that are lent, passes of the library by the two
 orders must run and part over delay memories of zeros, of ones and at random; they must have

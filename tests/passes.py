@@ -3,7 +3,7 @@
     python3 tests/passes.py [--text old] [--dry] [--fault NAME] [COUNT] [SEED]
 
 Run from the repository root. With --text old the passes are those of the older text. Builds tests/passes.c with include/karvelorn.h and
-target/staticlib/libkarvelorn.a (which it has rt make where it is missing or older than the
+the library for C (which it has rt make where it is missing or older than the
 code) and compares each answer, the marks of sum words that clipped over, each word of the
 machine, each written place and each word of delay memory. Fails too where the requests met
 something too seldom. With --fault the reference has one fault of reference/faults.py on:

@@ -27,6 +27,7 @@ import joining
 import longer
 import numbered
 import partials
+import places
 import ring_files
 import sameness
 import shown
@@ -42,7 +43,6 @@ from texts import OLD_TEXT, Chance
 
 SEED = 1978
 GATE, FULL = {"chains": 90, "into": 45, "pairs": 30, "bells": 6}, {"chains": 1000, "into": 300, "pairs": 300, "bells": 30}
-PROGRAMS = ROOT / "target" / "bin"
 LOW, HIGH = (ROOT / "examples" / f"{name}_bell.txt" for name in ("low", "high"))
 BELL, REPORT, TABLE = (ROOT / "examples" / f"bell.{ending}" for ending in ("txt", "report", "csv"))
 
@@ -54,7 +54,7 @@ def built_already(*others):
     asking = (as_rung, numbered, joining, *others)
     kept, kept_host, kept_at_hand = [module.built for module in asking], hosts.host, hosts.at_hand
     for module in asking:
-        module.built = lambda command, *programs: [str(PROGRAMS / program) for program in programs]
+        module.built = lambda command, *programs: [str(places.program(program)) for program in programs]
     hosts.host, hosts.at_hand = (lambda command, name: asked[name]), lambda name: True
     longer.host = hosts.host
     try:
@@ -70,9 +70,9 @@ def built_already(*others):
 def chain_text(draw, chain, called, present=None):
     """A chain in the form of its text, with comments, commas and blanks here and there."""
     lines = []
-    for i, (read, places) in enumerate(chain):
+    for i, (read, seen) in enumerate(chain):
         name = called(i) + (f"={present[i]}" if present else "")
-        words = [name] if not places and draw.randrange(2) else [name, read, *map(called, places)]
+        words = [name] if not seen and draw.randrange(2) else [name, read, *map(called, seen)]
         lines.append(draw.choice((" ", "  ", "\t")).join(words) if draw.randrange(3) or len(words) < 3 else f"{words[0]} {words[1]} {', '.join(words[2:])}")
         if draw.randrange(6) == 0:
             lines.append(draw.choice(("", "# a comment", "   ")))
@@ -184,7 +184,7 @@ def into(folder, sizes):
         moved = [command & ~127 | new_of[names_modifier(command)] if command >> 8 & 15 > 11 else command for command in commands]
         assert [command for _, command in new.commands] == moved, (commands, new.commands)
         after = run_pass(new.machine, range(256), [], [], zero_memory()).machine
-        wanted = [(i, j) for i, (_, places) in enumerate(chain) for j in places]
+        wanted = [(i, j) for i, (_, seen) in enumerate(chain) for j in seen]
         assert all(chain_requests.seen_by(after, chain, numbers, i, False) >> j & 1 for i, j in wanted), chain
         met["reads seen"] += len(wanted)
         alike = ring((at / "bell.txt").read_bytes()) == ring((at / "new.txt").read_bytes())
@@ -370,10 +370,10 @@ def moved_machine(machine, words, dacs):
         moved[at + 8], moved[at + 9] = words.get(machine[at + 8], machine[at + 8]), words.get(machine[at + 9], machine[at + 9])
         if machine[at + 10] >> 6 == 0b0010:
             moved[at] = machine[at] & ~15 | dacs.get(machine[at] & 15, machine[at] & 15)
-    for base, places in ((3840, words), (3904, words), (4096, dacs)):
-        for one in places:
+    for base, given in ((3840, words), (3904, words), (4096, dacs)):
+        for one in given:
             moved[base + one] = 0
-        for one, to in places.items():
+        for one, to in given.items():
             moved[base + to] = machine[base + one]
     return moved
 
@@ -386,7 +386,7 @@ def examples(folder, sizes):
     done = run(ROOT / "karvelorn", "join", "low.txt", "high.txt", "-o", "both.txt", cwd=folder)
     assert done == (0, "both.txt: 12000 passes, T = 11, N = 1025\n  low.txt: generators 0 to 5; sum words 0 and 63; DAC 0 (left), in each pass as it is alone\n"
                     "  high.txt: generators 6 to 10; sum words 1 and 62; DAC 1 (right), in each pass as it is alone\n", ""), done
-    low, high, both = ([line.split() for line in as_rung.rung_lines(str(PROGRAMS / "ring"), (at / f"{name}.txt").read_bytes())[0]] for name in ("low", "high", "both"))
+    low, high, both = ([line.split() for line in as_rung.rung_lines(str(places.program("ring")), (at / f"{name}.txt").read_bytes())[0]] for name in ("low", "high", "both"))
     assert [line[1] for line in both] == [line[1] for line in low] and [line[2] for line in both] == [line[2] for line in high] and len(both) == 12000
     (at / "both.report").write_text("older")
     ends(call("join", joining, at / "low.txt", at / "low.txt", "-o", at / "both.txt", "--apart"), 0, "both.report is not of this file: it is now both.older.report")
@@ -423,7 +423,7 @@ def refused_pairs(at):
 
 def own_words(folder, sizes):
     """partials on words and DACs of its own: two bells by their defaults are refused by 18, on their own they are joined and each is heard on its side."""
-    draw, at, program = random.Random(SEED), Path(folder), str(PROGRAMS / "ring")
+    draw, at, program = random.Random(SEED), Path(folder), str(places.program("ring"))
     for number in range(sizes["bells"]):
         both_sides = number % 2
         for name in ("one", "two"):

@@ -13,7 +13,7 @@ from pathlib import Path
 
 import numpy as np
 
-from library import LIBRARY, ROOT, library_is_new
+from library import LIBRARY, ROOT, make_library
 
 HOME = Path(ROOT)
 SOURCE = HOME / "examples" / "play_host.c"
@@ -57,8 +57,7 @@ def fall(t60):
 
 
 def main():
-    if not library_is_new():
-        subprocess.run(["rt", "staticlib", "karvelorn"], cwd=ROOT, check=True, stdout=subprocess.DEVNULL)
+    make_library("played")
     partials = [tuple(float(number) for number in found) for found in PARTIAL.findall(SOURCE.read_text())]
     assert len(partials) == 5
     with tempfile.TemporaryDirectory() as folder:

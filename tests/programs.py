@@ -4,8 +4,8 @@ ring, wav and sorted is made by an edit, built without a proof and run on an inp
     python3 tests/programs.py [--list] [NAME..]
 
 Run from the repository root. Each input is run by the program as it is, which must write what is expected, and by the wrong
-ones, which must write something else: compiled three ways (`rt try`, in a folder of its own, over the crates' sources as
-they are). It takes some minutes and proves nothing: outside the gate. --list only says what there is.
+ones, which must write something else: compiled with checks, and where it can by an interpreter too (`rt try`, in a folder of its
+own, over the crates' sources as they are). It takes some minutes and proves nothing: outside the gate. --list only says what there is.
 """
 
 import os
@@ -24,9 +24,9 @@ from reference.by_order import ring_by
 from reference.ring import FILE_MOST, ring
 from reference.sorted import sorted_text
 
-# What `rt try` says of the three ways in which a program is compiled. The interpreter, which takes so many steps and no more, is not asked.
-WAYS = 3
-MATCHES, DIFFERS = (re.compile(f"the native program .* ended{ending} what is expected") for ending in (" and wrote", ", but did not write"))
+# What `rt try` says of a case: that the program ended, whether its two ways of running it or one answered, and what it wrote.
+CASE = "given"
+MATCHES, DIFFERS = (re.compile(rf"^case={CASE} run=ended status=\d+ runners=[12] output={output} ", re.M) for output in ("expected", "differs"))
 STREAMS, RING, WAV, SORTED = ("crates/ring_streams/src/lib.rt", *(f"crates/{name}/src/main.rt" for name in ("ring", "wav", "sorted")))
 TIME_MOST = 1800
 
@@ -126,21 +126,18 @@ WRONG = (
     Wrong("ring_ends_with_its_first_part", "ring", "ring, more than a buffer", (((RING, "while at.passes != 0 {", "if at.passes != 0 {"),),)),
     Wrong("ring_by_1978_alone", "ring", "ring, an old file", (
         ((RING, "let text = start.text;", "let text = Text::Of1978;"),), ((RING, "let text = reading.text;", "let text = Text::Of1978;"),))),
-    Wrong("wav_refusal_on_standard_output", "wav", "wav, a refused file", (
-        ((WAV, "io::write_all(STDERR_FILENO, &line[0..error])", "io::write_all(STDOUT_FILENO, &line[0..error])"),),
-        ((WAV, "ring_streams::refuse(STDERR_FILENO, made.number)", "ring_streams::refuse(STDOUT_FILENO, made.number)"),))),
-    Wrong("sorted_takes_two_files", "sorted", "sorted, two order files", tuple(((path, "if 2 < count {", "if 3 < count {"),) for path in (STREAMS, SORTED))),
-    Wrong("sorted_by_its_own_name", "sorted", "sorted, an order file", tuple(((path, "os::arg(1, &mut name)", "os::arg(0, &mut name)"),) for path in (STREAMS, SORTED))),
-    Wrong("sorted_without_its_argument", "sorted", "sorted, an order file", tuple(((path, "if count < 2 {", "if count < 3 {"),) for path in (STREAMS, SORTED))),
+    Wrong("wav_refusal_on_standard_output", "wav", "wav, a refused file", (((WAV, "rt.stderr().write_all(&line[0..error])", "rt.write_all(&line[0..error])"),),)),
+    Wrong("sorted_takes_two_files", "sorted", "sorted, two order files", (((STREAMS, "if is_given(rt, 2) {", "if is_given(rt, 3) {"),),)),
+    Wrong("sorted_by_its_own_name", "sorted", "sorted, an order file", (((STREAMS, "rt.arg(1, &mut name)", "rt.arg(0, &mut name)"),),)),
+    Wrong("sorted_without_its_argument", "sorted", "sorted, an order file", (((STREAMS, "if !is_given(rt, 1) {", "if !is_given(rt, 2) {"),),)),
     Wrong("sorted_files_exchanged", "sorted", "sorted, an order file", (
-        ((SORTED, "print(&file[..n], by, &order[..length])", "print(&order[..length], by, &file[..n])"),),
-        ((SORTED, "findings(file, given, order, &mut out)", "findings(order, given, file, &mut out)"),))),
+        ((SORTED, "print(rt, &file[..n], by, &order[..length])", "print(rt, &order[..length], by, &file[..n])"),),)),
     Wrong("ring_ignores_its_order", "ring", "ring, an order that is heard", by_number(RING)),
     Wrong("wav_ignores_its_order", "wav", "wav, an order that is heard", by_number(WAV)),
     Wrong("ring_cuts_its_order_file", "ring", "ring, the longest order file and one byte more", order_cut(RING)),
     Wrong("sorted_cuts_its_order_file", "sorted", "sorted, the longest order file and one byte more", order_cut(SORTED)),
-    Wrong("ring_files_exchanged", "ring", "ring, an order file", (((RING, "ring(&file[..n], by, &order[..length])", "ring(&order[..length], by, &file[..n])"),),)),
-    Wrong("wav_files_exchanged", "wav", "wav, an order file", (((WAV, "sound(&file[..n], by, &order[..length])", "sound(&order[..length], by, &file[..n])"),),)),
+    Wrong("ring_files_exchanged", "ring", "ring, an order file", (((RING, "ring(rt, &file[..n], by, &order[..length])", "ring(rt, &order[..length], by, &file[..n])"),),)),
+    Wrong("wav_files_exchanged", "wav", "wav, an order file", (((WAV, "sound(rt, &file[..n], by, &order[..length])", "sound(rt, &order[..length], by, &file[..n])"),),)),
 )
 # Where ring and wav take no order file, they have none to exchange.
 TAKE_NONE = () if "by, &order[..length]" in open(os.path.join(ROOT, RING)).read() else ("ring_files_exchanged", "wav_files_exchanged")
@@ -156,41 +153,36 @@ def fitting(wrong):
 
 # Running
 
-def scratch(folder, program, case, edits):
+def scratch(folder, case, edits):
     """A repository with the crates as they are but for the edits, and the program's input and output."""
     shutil.copy(os.path.join(ROOT, "crates.txt"), folder)
-    own = {program, *(path.split("/")[1] for path, _, _ in edits)}
-    os.mkdir(os.path.join(folder, "crates"))
     for crate in os.listdir(os.path.join(ROOT, "crates")):
-        source, made = (os.path.join(top, "crates", crate) for top in (ROOT, folder))
-        if crate in own:
-            shutil.copytree(os.path.join(source, "src"), os.path.join(made, "src"))
-        else:
-            os.symlink(source, made)
+        shutil.copytree(*(os.path.join(top, "crates", crate, "src") for top in (ROOT, folder)))
     for path, old, new in edits:
         with open(os.path.join(folder, path)) as file:
             text = file.read()
         with open(os.path.join(folder, path), "w") as file:
             file.write(text.replace(old, new))
-    at = os.path.join(folder, "crates", program)
-    os.mkdir(os.path.join(at, "data"))
-    written = {"stdin": case.stdin, "stdout": case.stdout, "args": "".join(word + "\n" for word in case.arguments).encode()}
-    for name, content in {**written, **{f"data/{name}": content for name, content in case.files.items()}}.items():
-        with open(os.path.join(at, name), "wb") as file:
+    for name in ("cases", "data"):
+        os.mkdir(os.path.join(folder, name))
+    written = {CASE: case.stdin, f"{CASE}.stdout": case.stdout, f"{CASE}.args": "".join(word + "\n" for word in case.arguments).encode()}
+    for name, content in {**{f"cases/{name}": content for name, content in written.items()}, **{f"data/{name}": content for name, content in case.files.items()}}.items():
+        with open(os.path.join(folder, name), "wb") as file:
             file.write(content)
 
 
 def tried(program, case, edits=()):
     """What `rt try` says."""
     with tempfile.TemporaryDirectory() as folder:
-        scratch(folder, program, case, edits)
-        done = subprocess.run(["rt", "try", program], cwd=folder, stdout=subprocess.PIPE, stderr=subprocess.STDOUT, timeout=TIME_MOST)
+        scratch(folder, case, edits)
+        data = [word for name in case.files for word in ("--data", f"{name}={folder}/data/{name}")]
+        done = subprocess.run(["rt", "try", "--cases", f"{folder}/cases", *data], cwd=os.path.join(folder, "crates", program), stdout=subprocess.PIPE, stderr=subprocess.STDOUT, timeout=TIME_MOST)
     return done.stdout.decode(errors="replace")
 
 
 def fault(said, wrong):
     """What is amiss with a run, or nothing: the program as it is must match, a wrong one run and write something else."""
-    return "" if len((DIFFERS if wrong else MATCHES).findall(said)) == WAYS else said[-2000:]
+    return "" if (DIFFERS if wrong else MATCHES).search(said) else said[-2000:]
 
 
 def main(arguments):

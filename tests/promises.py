@@ -21,17 +21,17 @@ REACHABLE = {
     ("any_order", "any_order"): "any_order_of",
     ("any_order_kept", "keep"): "keep_of",
     ("any_order_kept", "change"): "change_of",
-    ("parts", "parts"): "partsOf",
+    ("parts", "parts"): "parts_of",
     ("any_order_kept", "keep"): "keep_of",
     ("any_order_kept", "change"): "change_of",
     ("chain", "chain"): "chain_of",
-    ("join", "join"): "joinOf",
-    ("file_bench", "read"): "readOf",
+    ("join", "join"): "join_of",
+    ("file_bench", "read"): "read_of",
     ("file_read", "read"): "read_into",
     ("ring_gathering", "gather"): "gathered",
     ("ring_begin", "begin"): "output_of",
     ("ring_wave", "wave"): "wave_output_of",
-    ("ring_block", "ring"): "blockOf",
+    ("ring_block", "ring"): "block_of",
     ("sorted_findings", "findings"): "findings_of",
     ("karvelorn", "karvelorn_fresh"): "fresh_run",
     ("karvelorn", "karvelorn_pass"): "pass_of",
@@ -40,21 +40,21 @@ REACHABLE = {
     ("karvelorn", "karvelorn_any_order"): "any_order_of",
     ("karvelorn", "karvelorn_keep"): "keep_of",
     ("karvelorn", "karvelorn_change"): "change_of",
-    ("karvelorn", "karvelorn_parts"): "partsOf",
-    ("karvelorn", "karvelorn_join"): "joinOf",
+    ("karvelorn", "karvelorn_parts"): "parts_of",
+    ("karvelorn", "karvelorn_join"): "join_of",
     ("karvelorn", "karvelorn_keep"): "keep_of",
     ("karvelorn", "karvelorn_change"): "change_of",
     ("karvelorn", "karvelorn_old_pass"): "pass_of",
     ("karvelorn", "karvelorn_old_compare"): "compare_of",
-    ("karvelorn", "karvelorn_old_parts"): "partsOf",
+    ("karvelorn", "karvelorn_old_parts"): "parts_of",
     ("karvelorn", "karvelorn_chain"): "chain_of",
     ("karvelorn", "karvelorn_read"): "read_into",
-    ("karvelorn", "karvelorn_ring"): "blockOf",
-    ("karvelorn", "karvelorn_old_ring"): "blockOf",
+    ("karvelorn", "karvelorn_ring"): "block_of",
+    ("karvelorn", "karvelorn_old_ring"): "block_of",
 }
 
 # Calls that read and write: what a program reads or writes has no contract in the language.
-STREAMS = {("ring_streams", "read_arguments"), ("ring_streams", "read_bench"), ("ring_streams", "complain")}
+STREAMS = {("ring_streams", "read_arguments"), ("ring_streams", "read_bench"), ("ring_streams", "complain"), ("trial_octets", "read_full")}
 
 # The named forms: what it is, the crate, and a pattern that its source has.
 FORMS = (
@@ -82,7 +82,9 @@ FORMS = (
 # Records of equations that contracts of inner functions use.
 EQUATIONS = ("≡", "Word ", "Wave ", "RunsOf ")
 
-FUNCTION = re.compile(r"^ *pub (?:extern \"C\" )?fn (\w+).*?^ *\{$", re.M | re.S)
+FUNCTION = re.compile(r"^ *pub (?:extern \"C\" )?fn (\w+)")
+CLAUSE = re.compile(r"^ *(?:requires|ensures|measure)\b")
+ENSURED = re.compile(r"\bensures(?: \w+)? (?=\{)")
 
 
 def library_of(crate):
@@ -92,13 +94,30 @@ def library_of(crate):
 
 
 def contracts_of(crate):
-    """The pub functions of a crate, each with its head: from `pub` to its body."""
-    return [(found.group(1), found.group(0)) for found in FUNCTION.finditer(library_of(crate))]
+    """The pub functions of a crate, each with its head: from `pub` to its body, which begins with a line `{`, or at the end of a line that is
+    no clause."""
+    lines, found = library_of(crate).splitlines(), []
+    for place, line in enumerate(lines):
+        if name := FUNCTION.match(line):
+            last = next(at for at in range(place, len(lines)) if lines[at].strip() == "{" or lines[at].endswith("{") and not CLAUSE.match(lines[at]) and at_rest("\n".join(lines[place:at])))
+            found.append((name.group(1), "\n".join(lines[place:last + 1])))
+    return found
+
+
+def at_rest(text):
+    """Whether each brace of a text is closed."""
+    return text.count("{") == text.count("}")
 
 
 def ensured(head):
-    """The clauses that a head ensures."""
-    return re.findall(r"ensures[^{]*\{[^⌜}]*⌜([^⌝]*)⌝", head)
+    """The clauses that a head ensures: each what stands between its braces."""
+    for found in ENSURED.finditer(head):
+        depth = 0
+        for at in range(found.end(), len(head)):
+            depth += {"{": 1, "}": -1}.get(head[at], 0)
+            if depth == 0:
+                yield head[found.end() + 1:at].strip()
+                break
 
 
 def reached():
@@ -131,7 +150,7 @@ def faults():
             yield f"{crate}::{name} is not there"
         elif "requires" in heads[0]:
             yield f"{crate}::{name} has a requires"
-        elif not any("≡" in clause and definition in clause for clause in ensured(heads[0])):
+        elif not any("≡" in clause and re.search(rf"\b{definition}\b", clause) for clause in ensured(heads[0])):
             yield f"{crate}::{name} has no equation with {definition}"
     for folder in sorted(CRATES.iterdir()):
         for name, head in contracts_of(folder.name):

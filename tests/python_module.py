@@ -4,7 +4,7 @@ library: it exports the calls of the header and nothing else, has no text reloca
 
     /usr/bin/python3 tests/python_module.py [COUNT] [SEED]
 
-The library must be built (rt staticlib karvelorn). Where target/bin/ring is not, the reference alone says what is printed.
+The library must be built (tools/built karvelorn). Where the program ring is not, the reference alone says what is printed.
 """
 
 import os
@@ -17,7 +17,7 @@ from pathlib import Path
 
 import numpy as np
 
-from library import ROOT, library_is_new
+from library import ROOT, make_library, program_of
 
 import ring_files
 import text_files
@@ -28,7 +28,7 @@ sys.path[:0] = [str(HOME / "tools"), str(HOME / "python")]
 import sharing  # noqa: E402
 
 COUNT, SEED, SHORT = 15, 1978, 400  # files with more passes are left to the program itself
-RING = HOME / "target" / "bin" / "ring"
+RING = Path(program_of("ring"))
 
 
 def printed(karvelorn, file):
@@ -210,8 +210,7 @@ def by_pip(folder):
 
 def main(arguments):
     count, seed = (int(number) for number in [*arguments, *(str(number) for number in (COUNT, SEED)[len(arguments):])])
-    if not library_is_new():
-        subprocess.run(["rt", "staticlib", "karvelorn"], cwd=ROOT, check=True, stdout=subprocess.DEVNULL)
+    make_library("python_module")
     print(f"python: {library()}")
     import karvelorn
     for step in (names, calls):

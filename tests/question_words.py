@@ -3,7 +3,7 @@ it finds something wrong with a text exactly where they answer 9 or 13, and with
 
     /usr/bin/python3 tests/question_words.py [COUNT] [SEED]
 
-target/bin/ring and target/bin/sorted must be built. The files are those of tests/files and examples, those by hand in
+The programs ring and sorted must be built. The files are those of tests/files and examples, those by hand in
 tests/ring_files.py, COUNT of its files at random, a third of them damaged, those of tests/sorted_requests.py, and those with text=
 lines of tests/text_files.py. Each sentence names a line that the file has.
 """
@@ -19,13 +19,13 @@ from itertools import chain
 import ring_files
 import sorted_requests
 import text_files
-from library import ROOT
+from library import ROOT, program_of
 
 sys.path.append(os.path.join(ROOT, "tools"))
 import questions  # noqa: E402
 
 COUNT, SEED = 500, 1978
-RING, SORTED = (os.path.join(ROOT, "target", "bin", name) for name in ("ring", "sorted"))
+RING, SORTED = map(program_of, ("ring", "sorted"))
 REFUSED = re.compile(rb"refused=(\d+)\n")
 LEAST = {0: 900, 2: 300, 9: 500, 13: 30}  # how often each verdict must have been met
 # What must have been said at least once of a text that is no bench file.

@@ -3,7 +3,7 @@
     python3 tests/reads.py [--dry] [--fault NAME] [COUNT] [SEED]
 
 Run from the repository root. Builds tests/reads.c with include/karvelorn.h and
-target/staticlib/libkarvelorn.a. The files are those of tests/ring.py, by both texts, and
+the library for C. The files are those of tests/ring.py, by both texts, and
 COUNT drawn ones, a third of them damaged, into machines and places for commands of the
 right and of other lengths; each answer and each word of both runs is compared. Fails too
 where the requests met something too seldom.

@@ -1,8 +1,10 @@
-"""Reads why each must-fail edit was refused, after `rt ci` or `rt must-fail` has tried them: the first error of an edit
-must be a fact that fails, not a name, a field or a shape that the proof file no longer fits. An edit of a definition
-carries the prefix `definition_`, and no other edit changes one.
+"""Reads why each must-fail edit was refused, from what `rt ci` or `rt must-fail` printed: what it names first must be a fact that
+fails, not a name, a field or a shape that the proof file no longer fits. An edit of a definition carries the prefix `definition_`,
+and no other edit changes one.
 
-    python3 tests/refusals.py [CRATE..]
+    python3 tests/refusals.py [--log FILE] [CRATE..]
+
+FILE is what rt printed; without the option it is what the gate keeps of `rt ci` (target/ci.log).
 """
 
 import re
@@ -10,25 +12,28 @@ import sys
 from pathlib import Path
 
 ROOT = Path(__file__).resolve().parent.parent
-LOGS = ROOT / "target" / "must-fail"
+sys.path.append(str(ROOT / "tools"))
+import places  # noqa: E402
 
 # So many edits there are at least.
 FLOOR = 463
 
-# One need of a function where another was expected.
-NEEDS = r"expected type `[\w.]*Need-[\w-]+[^`]*`, but this has type `[\w.]*Need-"
+# A line of rt on an edit: the crate, the edit, and what it came to; in round brackets why a refusal may say little.
+LINE = re.compile(r"^rt: must-fail (\w+)/([\w.-]+)\.edit: (.*)$", re.M)
+REFUSED = re.compile(r"refused, as it must be(?: \((only .*?)\))?(?:: (.*))?")
+BY_LIMIT = "only by a limit of the prover"
 
-# First errors that only say that the text no longer fits: by what they say anywhere, and by their first line.
+# What a proof file says where the text no longer fits, and no fact is tried: by what it says anywhere. rt cuts it off after some words.
 UNFIT = (
     r"that can be named from here",
     r"has no field",
     r"is not in scope",
     # A test turned round.
     r"a dimension .{,60} is expected here",
-    r"one has `[\w.]*_≢_` \(expected\), at the start, and the other has `[\w.]*_≡_`",
-    NEEDS,
-)
-SHAPE = (
+    r"one has `[\w.]*◌≢◌`",
+    # One need of a function where another was expected.
+    r"expected type `[\w.]*Need-",
+    # What a compiler says.
     r"error\[",
     r"was not admitted",
     r"no proof: expected",
@@ -37,28 +42,29 @@ SHAPE = (
 )
 
 
-def first_error(log):
-    """A fact that is not proved of a function without a proof file, else the first message of a log that reports an error,
-    whole: with the lines, set in, that go on with it."""
-    lines = log.read_text(errors="replace").splitlines()
-    errors = [line for line in lines if "it is not proved that" in line]
-    for place, line in enumerate(lines):
-        if "error" in line and not line.startswith(("note", "help")):
-            rest = lines[place + 1:]
-            count = next((i for i, more in enumerate(rest) if not more.startswith(" ")), len(rest))
-            errors.append("\n".join([line, *rest[:count]]))
-    return errors[0] if errors else ""
-
-
 def is_shape(error):
     """Whether a message only says that the text no longer fits."""
-    whole, first = " ".join(error.split()), error.split("\n", 1)[0]
-    return any(re.search(pattern, whole) for pattern in UNFIT) or any(re.search(pattern, first) for pattern in SHAPE)
+    return any(re.search(pattern, error) for pattern in UNFIT)
 
 
-def faults(crates):
-    """What is wrong, a line each; the number of edits looked at is the last item."""
-    seen = 0
+def fault(told):
+    """What is wrong with what an edit came to, or nothing."""
+    if not told:
+        return "was not tried (run rt ci or rt must-fail first)"
+    refused = REFUSED.fullmatch(told)
+    if not refused:
+        return f"was not refused: {told[:300]}"
+    why, error = refused[1] or "", refused[2] or ""
+    if why.startswith(BY_LIMIT):
+        return ""
+    if why or is_shape(error):
+        return f"refused for its shape, not for a fact: {(error or why)[:300]}"
+    return "" if error else "its refusal has no error"
+
+
+def faults(log, crates):
+    """What is wrong, a line each; the last items are how many edits were looked at, and how many of these a limit of the prover refused."""
+    told, seen, limits = {(crate, label): what for crate, label, what in LINE.findall(log)}, 0, 0
     for edit in sorted(ROOT.glob("crates/*/must-fail/*.edit")):
         crate, label = edit.parent.parent.name, edit.stem
         if crates and crate not in crates:
@@ -67,26 +73,24 @@ def faults(crates):
         of_definition = any(line.startswith("file: specs/") for line in edit.read_text().splitlines())
         if of_definition != label.startswith("definition_"):
             yield f"{crate}/{label}: " + ("changes a definition without the prefix definition_" if of_definition else "has the prefix definition_ and changes none")
-        log = LOGS / crate / label / ".log"
-        if not log.exists():
-            yield f"{crate}/{label}: has no log (run rt ci or rt must-fail first)"
-            continue
-        error = first_error(log)
-        if not error:
-            yield f"{crate}/{label}: its log has no error"
-        elif is_shape(error):
-            yield f"{crate}/{label}: refused for its shape, not for a fact: {error[:300]}"
+        what = told.get((crate, label), "")
+        limits += BY_LIMIT in what
+        if amiss := fault(what):
+            yield f"{crate}/{label}: {amiss}"
     yield seen
+    yield limits
 
 
-def main():
-    found = list(faults(sys.argv[1:]))
-    seen = found.pop()
-    if not sys.argv[1:] and seen < FLOOR:
+def main(arguments):
+    path = places.CI_LOG
+    if arguments[:1] == ["--log"]:
+        path, arguments = Path(arguments[1]), arguments[2:]
+    *found, seen, limits = faults(path.read_text(errors="replace") if path.exists() else "", arguments)
+    if not arguments and seen < FLOOR:
         found.append(f"{seen} edits, and there were {FLOOR}: an edit that goes is taken off this number with its reason")
-    print("\n".join(found) if found else f"{seen} edits, each refused because a fact fails")
+    print("\n".join(found) if found else f"{seen} edits, each refused because a fact fails" + (f", {limits} of them only by a limit of the prover" if limits else ""))
     sys.exit(1 if found or not seen else 0)
 
 
 if __name__ == "__main__":
-    main()
+    main(sys.argv[1:])

@@ -2,7 +2,7 @@
 
     python3 tests/ring.py [--text old] [--dry] [--fault NAME] [COUNT] [SEED]
 
-target/bin/ring must be built. It rings, within a stack of 512 kB, the files of tests/files
+The program ring must be built. It rings, within a stack of 512 kB, the files of tests/files
 (each .bench with its .lines, written by hand), those made by hand in tests/ring_files.py
 and COUNT random and damaged ones. With --text old they are those of tests/text_files.py, with
 text= lines. Fails too where these met something too seldom. With --dry the program is not run.
@@ -10,11 +10,10 @@ With --fault it is not run either: it is said for how many of the files a fault 
 reference/faults.py shows.
 """
 
-import os
 import sys
 from itertools import chain
 
-from library import ROOT, read_arguments
+from library import program_of, read_arguments
 
 import text_files
 from reference.faults import switched_on
@@ -41,7 +40,7 @@ def main(arguments):
     options = read_arguments(arguments, None, SEED)
     old = options.text is OLD_TEXT
     count = options.count or (COUNT_OLD if old else COUNT)
-    program = os.path.join(ROOT, "target", "bin", "ring")
+    program = program_of("ring")
     if old:
         files = chain(text_files.by_hand(), text_files.at_random(count, options.seed))
     else:

@@ -2,7 +2,7 @@
 
     python3 tests/ringings.py [--text old] [COUNT] [SEED]
 
-Run from the repository root. Builds tests/ringings.c with include/karvelorn.h and target/staticlib/libkarvelorn.a (which it
+Run from the repository root. Builds tests/ringings.c with include/karvelorn.h and the library for C (which it
 has rt make where it is missing or older than the code). The machines and orders are those of tests/compare_requests.py with
 no generator below T in 1001 or 1101 (100 or 101 by the older text). Where the reference says that two orders are equal, two
 ringings from contents at random with modifiers and delay units, other items in each pass, must leave the same machine, delay

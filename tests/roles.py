@@ -6,7 +6,7 @@ Run from the repository root. Machines are those of the older text. Each generat
 idle, waits, adds in one of three ways or reads, on one of two words, feeds one of two DACs, or
 writes. For T 2 and 3 every setting of roles is taken, for T 4 COUNT of them at random; other
 modes, GFM and the free bits of GN are drawn. Builds tests/roles.c with include/karvelorn.h and
-target/staticlib/libkarvelorn.a (which it has rt make where it is missing or older than the code).
+the library for C (which it has rt make where it is missing or older than the code).
 Of every pair of orders the point and the place must be the reference's; passes by equal orders
 from contents at random must end alike, and the library's own contents must part every other pair.
 With --fault the reference has one fault of reference/faults.py on: the comparison must fail. With

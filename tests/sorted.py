@@ -2,11 +2,11 @@
 
     python3 tests/sorted.py [--text old] [--dry] [--fault NAME] [COUNT] [SEED]
 
-target/bin/sorted must be built. With --text old most bells follow the older text. Within a stack of 512 kB it sorts the bench files of tests/files and examples, those by hand in
+The program sorted must be built. With --text old most bells follow the older text. Within a stack of 512 kB it sorts the bench files of tests/files and examples, those by hand in
 tests/ring_files.py and those of COUNT bells at random, by pitch and by order files, good and bad. All
 lines must be the reference's. Where a point fails, the word or the written item must be the first at
 which passes of the reference by the two orders differ, from the contents that karvelorn_parts gives:
-tests/contents.c is built for that with target/staticlib/libkarvelorn.a (which it has rt make where it
+tests/contents.c is built for that with the library for C (which it has rt make where it
 is missing or older than the code). Some orders that the program printed are handed back to it. Last,
 but for the older text, come files and streams that cannot be read or written, or come in pieces. Fails too where an outcome
 was met too seldom. With --fault the reference has one fault of reference/faults.py on: the comparison
@@ -28,7 +28,7 @@ from threading import Thread
 from typing import NamedTuple
 
 # First, since it makes the reference known.
-from library import ROOT, Test, build, counts, met_seldom, packed, read_arguments, unpacked
+from library import ROOT, Test, build, counts, met_seldom, packed, program_of, read_arguments, unpacked
 
 from reference import layout
 from reference.cases.old_orders import settings
@@ -42,7 +42,7 @@ from sorted_requests import all_inputs
 from texts import NEW_TEXT, OLD_TEXT
 
 COUNT, SEED = 500, 1978
-PROGRAM = os.path.join(ROOT, "target", "bin", "sorted")
+PROGRAM = program_of("sorted")
 CANNOT_READ, CANNOT_WRITE = b"sorted: cannot read", b"sorted: cannot write"
 SHOWN, BATCH, TIME_MOST = 5, 100, 60
 HEAD, NUMBERS = struct.Struct("<4I"), struct.Struct("<3I")

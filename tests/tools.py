@@ -235,7 +235,10 @@ def helps(_folder):
     refused(run("./karvelorn", "ring"), MISUSED, "no such command: ring")
     assert "The gate: " in run(".ci/run", "--help").out and run(".ci/run", "-h").status == 0 and run(".ci/run", "--version").out == run("./hear", "--version").out
     assert run("tools/libraries", "--help").status == run("tools/libraries", "-h").status == 0 and run("tools/libraries", "--version").out == run("./hear", "--version").out
-    return len(callers) * 4 + 5
+    assert run("tools/built", "--help").status == run("tools/built", "-h").status == 0 and run("tools/built", "--version").out == run("./hear", "--version").out
+    refused(run("tools/built"), MISUSED, "name what is to be built")
+    refused(run("tools/built", "ring_pass"), MISUSED, "no program and not the library: ring_pass")
+    return len(callers) * 4 + 8
 
 
 def completion(folder):

@@ -12,10 +12,10 @@ import os
 import subprocess
 import sys
 
-from library import LIBRARY, ROOT
+from library import LIBRARY, ROOT, TARGET, program_of
 
-HOST = os.path.join(ROOT, "target", "join_host")
-RING = os.path.join(ROOT, "target", "bin", "ring")
+HOST = os.path.join(TARGET, "join_host")
+RING = program_of("ring")
 FLAGS = ("-std=c99", "-Wall", "-Wextra", "-Werror", "-pedantic", "-O1", "-g", "-fsanitize=address,undefined",
          "-fno-sanitize-recover=all")
 NO_LEAKS = {**os.environ, "ASAN_OPTIONS": "detect_leaks=0"}

@@ -20,8 +20,8 @@ def words_of(text):
 
 
 def is_used(name, words):
-    """An operator as _+_ is used by what stands between its places."""
-    pieces = [p for p in name.split("_") if p] if name.startswith("_") or name.endswith("_") else [name]
+    """An operator as ◌+◌ is used by what stands between its places."""
+    pieces = [p for p in name.split("◌") if p]
     return name in words or all(p in words for p in pieces)
 
 
@@ -50,7 +50,7 @@ def without(text):
 def main():
     write = sys.argv[1:] == ["--write"]
     count = 0
-    for path in sorted([*CRATES.rglob("*.antt"), *CRATES.rglob("*.rt")]):
+    for path in sorted(path for part in ("src", "specs", "proofs") for path in CRATES.glob(f"*/{part}/**/*") if path.suffix in (".rt", ".antt")):
         text = path.read_text()
         names = [name for _, _, name in unused_in(text)]
         if names:

@@ -3,7 +3,7 @@
     python3 tests/updates.py [--dry] [--fault NAME] [COUNT] [SEED]
 
 Run from the repository root. Builds tests/updates.c with include/karvelorn.h and
-target/staticlib/libkarvelorn.a (which it has rt make where it is missing or older than the
+the library for C (which it has rt make where it is missing or older than the
 code) and compares each answer, each count of commands taken and each word of the machine.
 Fails too where the requests met something too seldom. With --fault the reference has one
 fault of reference/faults.py on: the comparison must fail. With --dry nothing is built or

@@ -3,7 +3,7 @@ where ring prints a refusal nothing is heard. Python's `wave`, sox and soxi read
 
     python3 tests/wav.py [--text old] [COUNT] [SEED]
 
-target/bin/ring and target/bin/wav must be built; wav runs in a stack of 1 MB. With --text old the files are those of
+The programs ring and wav must be built; wav runs in a stack of 1 MB. With --text old the files are those of
 tests/text_files.py, with text= lines.
 """
 
@@ -20,11 +20,11 @@ from fractions import Fraction
 
 import ring_files
 import text_files
-from library import ROOT, read_arguments
+from library import ROOT, program_of, read_arguments
 from texts import NEW_TEXT
 
 COUNT, SEED = 300, 24
-RING, WAV = (os.path.join(ROOT, "target", "bin", name) for name in ("ring", "wav"))
+RING, WAV = map(program_of, ("ring", "wav"))
 STACK = 1 << 20
 N_AT = 4114
 # Which refusals the files must have met, and how many must be heard; by 1978 and with text= lines.

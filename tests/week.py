@@ -25,6 +25,7 @@ import as_rung
 import bench_files
 import hosts
 import partials
+import places
 import renumbered
 import ring_files
 import sameness
@@ -40,7 +41,6 @@ GATE, FULL = {"new": 90, "old": 40, "bells": 60, "orders": 300, "older": 12}, {"
 EXAMPLES = sorted((ROOT / "examples").glob("*.txt"))
 BELL, TABLE, REPORT = (ROOT / "examples" / f"bell.{ending}" for ending in ("txt", "csv", "report"))
 OLD_LINE = b"text=old\n"
-PROGRAMS = ROOT / "target" / "bin"
 
 
 @contextlib.contextmanager
@@ -48,7 +48,7 @@ def built_already():
     """The programs as they are, without a look at each crate's files for every call."""
     asked = hosts.host("week", "library_calls")
     kept = as_rung.built, renumbered.built, hosts.host, hosts.at_hand
-    as_rung.built = renumbered.built = lambda command, *programs: [str(PROGRAMS / program) for program in programs]
+    as_rung.built = renumbered.built = lambda command, *programs: [str(places.program(program)) for program in programs]
     hosts.host, hosts.at_hand = (lambda command, name: asked), lambda name: True
     try:
         yield
@@ -463,7 +463,7 @@ def swapped(draw, t):
 
 def printed(data):
     """What the proved program prints of a file."""
-    return subprocess.run([str(PROGRAMS / "ring")], input=data, stdout=subprocess.PIPE, check=True).stdout
+    return subprocess.run([str(places.program("ring"))], input=data, stdout=subprocess.PIPE, check=True).stdout
 
 
 def by_name(folder, sizes):

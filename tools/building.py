@@ -1,8 +1,8 @@
-"""The one place where programs and the library are built from the crates, for all commands and for ./install.
+"""The one place where programs and the library are built from the crates, for all commands, ./install, tests and benchmarks.
 
-What is older than the files it is made of is built by `rt`, which proves only what has changed; as many crates are proved at a time
-as processors and memory allow. Each step is told: "12 of 59 crates". One build runs at a time; a second one waits for it. What is
-installed is never built.
+What is older than the files it is made of is built by `rt`, which proves only what has changed, one crate after the other, lowest
+first (for a large one it takes several processors). Each step is told: "12 of 59 crates". One build runs at a time; a second one
+waits for it. What is installed is never built. tools/places.py says where everything lies.
 """
 
 import fcntl
@@ -11,19 +11,16 @@ import re
 import shutil
 import signal
 import subprocess
+import sys
 import time
 
-from command_line import ENDING_SIGNALS, HOME, IN_REPOSITORY, Ending, Status, tell
+from command_line import ENDING_SIGNALS, IN_REPOSITORY, Ending, Status, ended, finish, say, tell
+from places import CI_LOG, HOME, LIBRARY, LIBRARY_CRATE, PARTS, TARGET, crate, made, proved, rlib
 
-TARGET = HOME / "target"
-PROGRAMS = ("ring", "wav", "sorted")
-LIBRARY = TARGET / "staticlib" / "libkarvelorn.a"
-LIBRARY_CRATE = "karvelorn"
-PARTS = ("src", "specs", "proofs")  # a crate's files
-PROVED = re.compile(r"rt: (\w+) proved \((.*)\)")
+# What rt prints of a crate at its end: its name, and some lines later whether it is proved; then of a program that it is run.
+NAMED, PROVED, RUNS, WAITS = re.compile(r"crate (\w+): modules"), "logic=proved ", "rt: running out/", "rt: waiting for "
 LOG, LOG_SHOWN = TARGET / "build.log", 20
-CRATE_MEMORY = 1.5e9  # bytes that a crate's proof may need
-# Estimates: a crate costs so much, and more the more crates stand below it. Measured: `wav` from nothing, two idle cores.
+# Estimates: a crate costs so much, and more the more crates stand below it. Measured: `wav` from nothing, two idle cores, with the older kit.
 CRATE_COST, MEASURED, MEASURED_SECONDS, MEASURED_CORES = 20, "wav", 580, 2
 
 
@@ -33,7 +30,7 @@ def dependencies():
     for line in (HOME / "crates.txt").read_text(encoding="utf-8").splitlines():
         name, colon, named = line.partition("#")[0].partition(":")
         if colon:
-            found[name.strip()] = named.split()
+            found[name.split()[0]] = named.split()  # after the name may stand what kind of crate it is
     return {name: [other for other in named if other in found] for name, named in found.items()}
 
 
@@ -50,10 +47,10 @@ def below(name, named):
 
 def changed_at(crates, newest):
     """When a file of some crates was changed last, or the time that is given, whichever is later."""
-    for crate in crates:
+    for name in crates:
         for part in PARTS:
-            for folder, _, names in os.walk(HOME / "crates" / crate / part):
-                newest = max([newest, os.path.getmtime(folder), *(os.path.getmtime(os.path.join(folder, name)) for name in names)])
+            for folder, _, names in os.walk(crate(name) / part):
+                newest = max([newest, os.path.getmtime(folder), *(os.path.getmtime(os.path.join(folder, file)) for file in names)])
     return newest
 
 
@@ -62,20 +59,10 @@ def stamp(name):
     return TARGET / "built" / name
 
 
-def made(name):
-    """The file that is built for a name."""
-    return LIBRARY if name == LIBRARY_CRATE else TARGET / "bin" / name
-
-
 def is_stale(name, crates):
     """Whether something isn't built or a file of its crates has changed since."""
     known = [os.path.getmtime(path) for path in (made(name), stamp(name)) if path.exists()]
     return not made(name).exists() or max(known) < changed_at(crates, os.path.getmtime(HOME / "crates.txt"))
-
-
-def proved(name):
-    """The file by which rt knows a crate that it has proved."""
-    return TARGET / "stamp" / name
 
 
 def pending(crates, named):
@@ -95,9 +82,10 @@ class Progress:
 
     def __init__(self, command, crates, named, cores):
         self.command, self.began, self.count = command, time.monotonic(), len(crates)
+        self.since, self.crate = self.began, ""
         cost = {name: CRATE_COST + len(below(name, named)) for name in named}
-        expected = pending(crates, named)
-        self.left, self.pending = {name: cost[name] if name in expected else 0 for name in crates}, len(expected)
+        self.left = {name: cost[name] for name in pending(crates, named)}
+        self.pending = len(self.left)
         self.pace = MEASURED_SECONDS * MEASURED_CORES / cores / sum(cost[name] for name in below(MEASURED, named))
         self.all, self.done = sum(self.left.values()), 0
 
@@ -108,31 +96,16 @@ class Progress:
         return left * pace
 
     def take(self, line):
-        """Counts a line that rt printed, and tells of a crate that was proved now."""
-        found = PROVED.match(line)
-        if not found or found[1] not in self.left:
-            return
-        cost = self.left.pop(found[1])
-        if "unchanged" in found[2]:
-            self.all -= cost
-            return
-        self.done += cost
-        left = f", about {length(self.expected())} left" if self.left else ""
-        tell(self.command, f"{self.count - len(self.left)} of {self.count} crates: {found[1]} proved ({found[2]}){left}")
-
-
-def memory():
-    """The bytes of memory that can be had."""
-    try:
-        with open("/proc/meminfo", encoding="ascii") as lines:
-            return next(1024 * int(line.split()[1]) for line in lines if line.startswith("MemAvailable:"))
-    except (OSError, StopIteration):
-        return 0
-
-
-def jobs():
-    """How many crates are proved at a time: one for each processor, and up to two where memory allows, since rt starts the next ones when all of a batch have ended."""
-    return max(cores(), min(2 * cores(), int(memory() / CRATE_MEMORY)))
+        """Counts a line that rt printed, and tells of a crate that was proved now, and of another rt that has to end first."""
+        if found := NAMED.match(line):
+            self.crate = found[1]
+        elif line.startswith(WAITS):
+            tell(self.command, line.rstrip())
+        elif line.startswith(PROVED) and self.crate in self.left:
+            self.done += self.left.pop(self.crate)
+            took, self.since = time.monotonic() - self.since, time.monotonic()
+            left = f", about {length(self.expected())} left" if self.left else ""
+            tell(self.command, f"{self.count - len(self.left)} of {self.count} crates: {self.crate} proved ({took:.0f} s){left}")
 
 
 def cores():
@@ -140,15 +113,36 @@ def cores():
     return len(os.sched_getaffinity(0))
 
 
-def run_rt(words, progress):
-    """Runs rt; what it prints goes to the log. Ended early, it ends with all that it started."""
+def over_ci(name, named, verb, *more):
+    """The words by which rattle checks or builds a crate over what `rt ci` left of the crates below it, where the gate's log says that it
+    passed since the last change and nothing was built there since: `rt lib` and `rt check` take none of that, and would prove each of them
+    again. Else none."""
+    lower, log = sorted(below(name, named) - {name}), CI_LOG.read_text(errors="replace") if CI_LOG.exists() else ""
+    if not log.endswith(" passed, 0 failed\n") or CI_LOG.stat().st_mtime < changed_at([*lower, name], os.path.getmtime(HOME / "crates.txt")):
+        return []
+    if any(proved(other).exists() or not rlib(other).is_dir() for other in lower):
+        return []
+    doc = subprocess.run(["rt", "doc"], stdin=subprocess.DEVNULL, stdout=subprocess.PIPE, stderr=subprocess.DEVNULL, text=True).stdout.strip()
+    kit = os.path.dirname(doc)
+    libraries = [f"std={kit}/rlibs/std.rlib", *(f"{other}={rlib(other)}" for other in named[name])]
+    folders = [f"{kit}/rlibs", *(str(rlib(other).parent) for other in lower)]
+    return [f"{kit}/bin/rattle", verb, "--crate-name", name, next(path for path in ("src/main.rt", "src/lib.rt") if (crate(name) / path).exists()),
+            *(word for library in libraries for word in ("--extern", library)), *(word for folder in folders for word in ("-L", f"dependency={folder}")),
+            "--antt-project", f"{kit}/rattle/logic/antt-project.json", "--logic-built", f"{kit}/logic_built", "--links", f"{name}=",
+            *(("--crate-type", "staticlib") if name == LIBRARY_CRATE else ()), "--jobs", "1", *(word.format(kit=kit) for word in more)]
+
+
+def run_rt(words, name, progress):
+    """Runs rt (or rattle) in a crate's folder; what it prints goes to the log. Ended early, it ends with all that it started. A program is
+    run by rt as it is built, on nothing: how that ends is not looked at."""
     kept = signal.pthread_sigmask(signal.SIG_BLOCK, ENDING_SIGNALS)  # none comes between the start of rt and what sees to its end
     try:
-        process = subprocess.Popen(["rt", *words], cwd=HOME, env={**os.environ, "RT_JOBS": str(jobs())}, stdin=subprocess.DEVNULL, stdout=subprocess.PIPE, stderr=subprocess.STDOUT,
+        process = subprocess.Popen(words, cwd=crate(name), stdin=subprocess.DEVNULL, stdout=subprocess.PIPE, stderr=subprocess.STDOUT,
                                    text=True, errors="replace", start_new_session=True, preexec_fn=lambda: signal.pthread_sigmask(signal.SIG_SETMASK, kept))
     except OSError as error:
         signal.pthread_sigmask(signal.SIG_SETMASK, kept)
         raise Ending(f"cannot run rt: {error.strerror}", Status.MISSING) from None
+    runs = False
     try:
         signal.pthread_sigmask(signal.SIG_SETMASK, kept)
         with open(LOG, "a", encoding="utf-8") as log:
@@ -156,7 +150,8 @@ def run_rt(words, progress):
                 log.write(line)
                 log.flush()
                 progress(line)
-        if process.wait() != 0:
+                runs = runs or line.startswith(f"{RUNS}{name};")
+        if process.wait() != 0 and not runs or not made(name).exists():
             shown = LOG.read_text(encoding="utf-8", errors="replace").splitlines()[-LOG_SHOWN:]
             raise Ending("\n".join([*shown, f"the build failed, see {LOG}"]), Status.MISSING)
     finally:
@@ -167,19 +162,20 @@ def run_rt(words, progress):
 
 def build(command, names, named):
     """Builds programs and perhaps the library."""
-    crates = set().union(*(below(name, named) for name in names))
+    words = {name: over_ci(name, named, "build", "--toolchain", "{kit}/toolchain", "--backend", "llvm", "-o", str(LIBRARY)) if name == LIBRARY_CRATE else [] for name in names}
+    crates = set().union(*({name} if words[name] else below(name, named) for name in names))
     progress, began = Progress(command, crates, named, cores()), time.time()
     tell(command, f"building {', '.join(names)}: {progress.pending} of {len(crates)} crates to be proved, about {length(progress.expected())} on {cores()} idle cores")
     LOG.write_text("")
-    for name in names:
-        if not made(name).exists():
-            proved(name).unlink(missing_ok=True)  # rt builds no program that it knows as proved
-    run_rt(["check", *names], progress.take)
-    if LIBRARY_CRATE in names:
-        tell(command, "making the library for C")
-        run_rt(["staticlib", LIBRARY_CRATE], lambda line: None)
     stamp("").mkdir(exist_ok=True)
     for name in names:
+        plain = ["rt", "lib" if name == LIBRARY_CRATE else "run"]
+        try:
+            run_rt(words[name] or plain, name, progress.take)
+        except Ending:
+            if not words[name]:
+                raise
+            run_rt(plain, name, progress.take)
         stamp(name).touch()
         os.utime(stamp(name), (began, began))
 
@@ -213,3 +209,17 @@ def wait_for(command, lock):
     except BlockingIOError:
         tell(command, "another build is running: waiting for it")
         fcntl.flock(lock, fcntl.LOCK_EX)
+
+
+def main(arguments):
+    """Builds what is named, for a shell: tools/built."""
+    named = dependencies()
+    if unknown := [name for name in arguments if name not in named or name != LIBRARY_CRATE and not (crate(name) / "src" / "main.rt").exists()] or not arguments:
+        raise Ending(f"no program and not the library: {' '.join(unknown)}" if arguments else "name what is to be built: tools/built NAME..", Status.MISUSED)
+    for path in built("built", *arguments):
+        say(path)
+    return Status.DONE
+
+
+if __name__ == "__main__":
+    finish(ended("built", main, sys.argv[1:]))

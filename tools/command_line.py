@@ -9,9 +9,9 @@ import importlib.util
 import os
 import signal
 import sys
-from pathlib import Path
 
-HOME = Path(__file__).resolve().parent.parent  # the repository, or the folder of what is installed
+from places import HOME
+
 if str(HOME) not in sys.path:
     sys.path.append(str(HOME))  # the reference stands there
 

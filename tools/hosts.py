@@ -9,8 +9,9 @@ import shutil
 import struct
 import subprocess
 
-from building import LIBRARY, LIBRARY_CRATE, TARGET, below, built, dependencies, is_stale
+from building import below, built, dependencies, is_stale
 from command_line import HOME, IN_REPOSITORY, Ending, Status
+from places import LIBRARY, LIBRARY_CRATE, TARGET
 from reference import layout
 
 HOSTS = {"ring_on": "to ring on after a bench file's passes", "library_calls": "to ask the library"}  # a program, and what it is for
@@ -34,6 +35,7 @@ def compile_host(name, library):
     compiler = shutil.which("gcc") or shutil.which("cc")
     if not compiler:
         raise Ending(f"{HOSTS[name]} a C compiler is needed: apt install gcc", Status.MISSING)
+    TARGET.mkdir(exist_ok=True)
     made = f"{program(name)}.{os.getpid()}"
     done = subprocess.run([compiler, "-std=c99", "-O2", "-I", str(HOME / "include"), str(source(name)), str(library), "-o", made], stdout=subprocess.PIPE, stderr=subprocess.STDOUT)
     if done.returncode:

@@ -12,9 +12,10 @@ import interrupts  # noqa: F401  (first)
 import json
 import os
 
-from building import LIBRARY, LIBRARY_CRATE, PROGRAMS, built, made
+from building import built
 from command_line import HOME, Ending, Parser, Status, start, tell, version
 from outputs import temporary_beside
+from places import LIBRARY, LIBRARY_CRATE, PROGRAMS, made
 import hosts
 import sharing
 import versions

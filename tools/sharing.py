@@ -7,8 +7,8 @@ import os
 import shutil
 import subprocess
 
-from building import LIBRARY
 from command_line import Ending, Status, version
+from places import LIBRARY, TARGET
 
 EXPORTS = "{ global: karvelorn_*; local: *; };\n"
 
@@ -21,7 +21,7 @@ def soname():
 
 def shared():
     """Where the shared library stands."""
-    return LIBRARY.parent / f"libkarvelorn.so.{version()}"
+    return TARGET / f"libkarvelorn.so.{version()}"
 
 
 def linked(library, to):
@@ -46,6 +46,7 @@ def linked(library, to):
 
 def built_shared():
     """The shared library, linked where it is older than the static one."""
+    TARGET.mkdir(exist_ok=True)
     if not shared().exists() or os.path.getmtime(shared()) < os.path.getmtime(LIBRARY):
         linked(LIBRARY, shared())
     return shared()

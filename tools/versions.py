@@ -4,8 +4,8 @@ import hashlib
 import json
 import subprocess
 
-from building import LIBRARY, PROGRAMS, made
 from command_line import HOME, IN_REPOSITORY, version
+from places import LIBRARY, PROGRAMS, made
 
 BUILD = "BUILD"  # what an installation knows of its making
 
