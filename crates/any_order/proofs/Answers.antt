@@ -24,7 +24,7 @@ pub valid-countable : (m : Machine) → length m ≡ machine_length → valid Of
 valid-countable m whole good =
     record {
       reaches = reaches m whole;
-      ticks = (valid-controls Of1978 m good).tHigh;
+      ticks = (valid-controls Of1978 m good).t_high;
       gsums = λ g h. (valid-generator Of1978 m good g h).gsum;
       gfms = λ g h. (valid-generator Of1978 m good g h).gfm;
     }

@@ -11,7 +11,7 @@ use lib.Dec.{eqb, ltb}
 use lib.ListN.{length, get_or, set}
 use lib.Seq.{get_or-set_same}
 use Rattle.base_lists.proofs.Below.{both_ways, and_second}
-use Rattle.layout.specs.Layout.{machine_length, generator_at, tAt, update_ticks_at}
+use Rattle.layout.specs.Layout.{machine_length, generator_at, t_at, update_ticks_at}
 use Rattle.layout.specs.Machine.{Machine, ticks_of}
 use Rattle.layout.proofs.UpdateTicks.{counted-other}
 use Rattle.layout_texts.specs.declared.Text.TheVariants.{Of1978}
@@ -35,20 +35,20 @@ unfolding place_in
 same_place m n h go gsum gfm gmode = rw (go, gsum, gfm, gmode)
 
 -- A word of another generator is none that a change is of, nor is T where T is not changed.
-not-of : (kind g v i : ℕ) → (kind ≤ 3 → (j : ℕ) → j < 11 → i ≢ generator_at g + j) → (3 < kind → (i ≢ tAt) × (i ≢ update_ticks_at))
+not-of : (kind g v i : ℕ) → (kind ≤ 3 → (j : ℕ) → j < 11 → i ≢ generator_at g + j) → (3 < kind → (i ≢ t_at) × (i ≢ update_ticks_at))
     → is_of (record { kind = kind; generator = g; value = v }) i ≡ false
 unfolding is_of
 not-of kind g v i words ticks = go (eqb kind 0) refl (eqb kind 1) refl (eqb kind 2) refl (eqb kind 3) refl
   where
     go : (a : Bool) → eqb kind 0 ≡ a → (b : Bool) → eqb kind 1 ≡ b → (c : Bool) → eqb kind 2 ≡ c → (d : Bool) → eqb kind 3 ≡ d
-        → cond a (eqb i (generator_at g + 10)) (cond b (eqb i (generator_at g + 8)) (cond c (eqb i (generator_at g + 9)) (cond d (eqb i (generator_at g + 0)) (eqb i tAt || eqb i update_ticks_at)))) ≡ false
+        → cond a (eqb i (generator_at g + 10)) (cond b (eqb i (generator_at g + 8)) (cond c (eqb i (generator_at g + 9)) (cond d (eqb i (generator_at g + 0)) (eqb i t_at || eqb i update_ticks_at)))) ≡ false
     go true p b q c r d s = ne_eqb i (generator_at g + 10) (words (omega (arith, eqb-true kind 0 p)) 10 (omega arith))
     go false p true q c r d s = ne_eqb i (generator_at g + 8) (words (omega (arith, eqb-true kind 1 q)) 8 (omega arith))
     go false p false q true r d s = ne_eqb i (generator_at g + 9) (words (omega (arith, eqb-true kind 2 r)) 9 (omega arith))
     go false p false q false r true s = ne_eqb i (generator_at g + 0) (words (omega (arith, eqb-true kind 3 s)) 0 (omega arith))
     go false p false q false r false s =
         let none = ticks (omega (arith, eqb-false kind 0 p, eqb-false kind 1 q, eqb-false kind 2 r, eqb-false kind 3 s)) in
-        rw (ne_eqb i tAt none.0, ne_eqb i update_ticks_at none.1)
+        rw (ne_eqb i t_at none.0, ne_eqb i update_ticks_at none.1)
 
 module _ (m : Machine) (whole : length m ≡ machine_length) (good : valid Of1978 m ≡ true) (kind g v : ℕ) where
   abbrev c : Change
@@ -83,7 +83,7 @@ module _ (m : Machine) (whole : length m ≡ machine_length) (good : valid Of197
 
     ticks-after : (t : ℕ) → n ≡ with_ticks m t → ticks_of n ≡ t
     ticks-after t e =
-        ap (λ (x : Machine). get_or x tAt 0) e ∙ counted-other (set m tAt t) tAt (eqb-false tAt update_ticks_at refl) ∙ get_or-set_same m tAt t 0 (omega (arith, whole))
+        ap (λ (x : Machine). get_or x t_at 0) e ∙ counted-other (set m t_at t) t_at (eqb-false t_at update_ticks_at refl) ∙ get_or-set_same m t_at t 0 (omega (arith, whole))
 
     concerns : Concerned
     concerns = go (eqb kind tick_more) refl (eqb kind tick_fewer) refl
@@ -108,7 +108,7 @@ module _ (m : Machine) (whole : length m ≡ machine_length) (good : valid Of197
             let k = eqb-true kind tick_fewer q in
             let is = fewer-concerns m kind g v no k refl in
             let room = fewer-room m kind g v no k passes in
-            let high = (valid-controls Of1978 m good).tHigh in
+            let high = (valid-controls Of1978 m good).t_high in
             let after = ticks-after (ticks_of m - 1) (sym (fewer-changed m kind g v no k refl)) in
             record {
               below = omega (arith, is, room, high);
@@ -129,7 +129,7 @@ module _ (m : Machine) (whole : length m ≡ machine_length) (good : valid Of197
               named = λ h. sym is;
               ticks = λ h off.
                   ap (λ (t : ℕ). ltb h t)
-                  (sym (change-elsewhere m kind g v few tAt (not-of kind g v tAt (λ l j b e. omega (arith, e, fits.1, b)) (λ l. absurd (omega (arith, l, fits.0))))));
+                  (sym (change-elsewhere m kind g v few t_at (not-of kind g v t_at (λ l j b e. omega (arith, e, fits.1, b)) (λ l. absurd (omega (arith, l, fits.0))))));
             }
 
     pub concerned-below : concerned m c < 256

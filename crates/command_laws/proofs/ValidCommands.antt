@@ -10,7 +10,7 @@ use lib.Dec.{eqb, leb, ltb, lit<}
 use Rattle.base_lists.specs.Lists.{is_one_of}
 use Rattle.base_lists.proofs.Below.{and_both}
 use Rattle.base_lists.proofs.Choices.{of-cond, of_test}
-use Rattle.layout.specs.Layout.{GMODE, tAt, nAt, counter_at, lingering_at, linger_pass_at, overrun_at}
+use Rattle.layout.specs.Layout.{GMODE, t_at, n_at, counter_at, lingering_at, linger_pass_at, overrun_at}
 use Rattle.layout.specs.Machine.{Reaches, gmode_at, with_update_ticks}
 use Rattle.layout.specs.Widths.{word_bits, counter_bits, linger_bits}
 use Rattle.layout_texts.specs.Texts.{run_mode_at}
@@ -82,8 +82,8 @@ ticks-valid : (m : List ℕ) → Valid m → Reaches m → (c : ℕ) → Accepte
 unfolding ticks_set regions test_at
 ticks-valid m e r c p t =
     of_test (λ (l : List ℕ). Valid (with_update_ticks l)) (flag 32 c)
-    (λ q. valid-with-ticks Of1978 m e r nAt (ticks_data c + 2) (lit< tt) (within 2 1025 (ticks_data c + 2) (omega arith) (omega arith)))
-    (λ q. let l = ticks-accepted c p t q in valid-with-ticks Of1978 m e r tAt (ticks_data c + 1) (lit< tt) (within 1 256 (ticks_data c + 1) (omega arith) (omega arith)))
+    (λ q. valid-with-ticks Of1978 m e r n_at (ticks_data c + 2) (lit< tt) (within 2 1025 (ticks_data c + 2) (omega arith) (omega arith)))
+    (λ q. let l = ticks-accepted c p t q in valid-with-ticks Of1978 m e r t_at (ticks_data c + 1) (lit< tt) (within 1 256 (ticks_data c + 1) (omega arith) (omega arith)))
 
 -- An accepted command, and any command in its turn.
 pub done-valid : (m : List ℕ) → Valid m → Reaches m → (c : ℕ) → command_refusal c ≡ 0 → Valid (done m c)

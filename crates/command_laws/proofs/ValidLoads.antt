@@ -12,7 +12,7 @@ use Rattle.base_words.specs.Words.{extended, signed}
 use Rattle.base_words.proofs.Residues.{low-lt}
 use Rattle.base_lists.proofs.Below.{and_second, and_both}
 use Rattle.base_lists.proofs.Choices.{of-cond, of_test}
-use Rattle.layout.specs.Layout.{generator_at, modifier_at, dx_at, nAt, delay_at, delay_x, delay_y, delay_z, delay_p, GO, GJ, GK, GN, GM, GP, GQ, GL, GSUM, GFM, GMODE, M0, M1, L0, L1, MIN, MRM, MSUM, MMODE}
+use Rattle.layout.specs.Layout.{generator_at, modifier_at, dx_at, n_at, delay_at, delay_x, delay_y, delay_z, delay_p, GO, GJ, GK, GN, GM, GP, GQ, GL, GSUM, GFM, GMODE, M0, M1, L0, L1, MIN, MRM, MSUM, MMODE}
 use Rattle.layout.specs.Widths.{gj_bits, gn_bits, gm_bits, gq_bits, gl_bits, gsum_bits, gfm_bits, coefficient_bits, msum_bits, mmode_bits, word_bits, delay_bits, delay_mode_bits}
 use Rattle.layout_texts.specs.declared.Text.TheVariants.{Of1978}
 use Rattle.layout_codes.specs.BuiltCodes.{built_function, built_mode}
@@ -61,7 +61,7 @@ pub dx-keeps : (v : ℕ) → Passes 4 0 v → Keeps dx_at v
 unfolding regions
 dx-keeps v p = control-keeps dx_at v (lit≤ tt) (lit< tt) (single-below (lit< tt)) p
 
-pub later-keeps : (i v : ℕ) → nAt < i → i < delay_at 0 → Passes 4 (i - dx_at) v → Keeps i v
+pub later-keeps : (i v : ℕ) → n_at < i → i < delay_at 0 → Passes 4 (i - dx_at) v → Keeps i v
 later-keeps i v h l p = control-keeps i v (omega arith) l (single-above h (omega arith)) p
 
 delay-keeps : (u j v : ℕ) → u < 32 → j < 7 → Passes 5 j v → Keeps (delay_at u + j) v

@@ -8,7 +8,7 @@ use native.Mathlib.Omega.{arith}
 use lib.Dec.{eqb, ltb, lit<}
 use lib.ListN.{set}
 use Rattle.base_lists.proofs.Choices.{of-cond, of_test}
-use Rattle.layout.specs.Layout.{generator_at, modifier_at, delay_at, dx_at, tAt, nAt, counter_at, lingering_at, overrun_at, update_ticks_at, GO, GJ, GK, GN, GM, GP, GQ, GL, GSUM, GFM, GMODE, M0, M1, L0, L1, MIN, MRM, MSUM, MMODE, delay_x, delay_y, delay_z, delay_p}
+use Rattle.layout.specs.Layout.{generator_at, modifier_at, delay_at, dx_at, t_at, n_at, counter_at, lingering_at, overrun_at, update_ticks_at, GO, GJ, GK, GN, GM, GP, GQ, GL, GSUM, GFM, GMODE, M0, M1, L0, L1, MIN, MRM, MSUM, MMODE, delay_x, delay_y, delay_z, delay_p}
 use Rattle.layout.specs.Machine.{with_update_ticks}
 use Rattle.layout_texts.specs.Texts.{run_mode_at}
 use Rattle.layout_texts.specs.declared.Text.TheVariants.{Of1978}
@@ -50,10 +50,10 @@ its c j l = modifier-aside (modifier_number c) j (omega arith) l
 dx-aside : Aside dx_at
 dx-aside = record { off = λ e. omega arith }
 
-t-aside : Aside tAt
+t-aside : Aside t_at
 t-aside = record { off = λ e. omega arith }
 
-n-aside : Aside nAt
+n-aside : Aside n_at
 n-aside = record { off = λ e. omega arith }
 
 ticks-aside : Aside update_ticks_at

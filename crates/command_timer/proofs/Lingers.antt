@@ -5,7 +5,7 @@ use native.Mathlib.Nat.{mod-mod}
 use borrow.Author.Tests.{lt-leb}
 use Rattle.base_words.specs.Words.{low_bits}
 use Rattle.base_words.proofs.Residues.{low-add, minus-code}
-use Rattle.layout.specs.Layout.{tAt, nAt, counter_at, lingering_at, linger_pass_at, overrun_at, update_ticks_at}
+use Rattle.layout.specs.Layout.{t_at, n_at, counter_at, lingering_at, linger_pass_at, overrun_at, update_ticks_at}
 use Rattle.layout.specs.Machine.{Reaches, update_ticks, with_update_ticks}
 use Rattle.layout.proofs.UpdateTicks.{ticks-by-t, ticks-by-n}
 use Rattle.layout.specs.Widths.{linger_bits}
@@ -61,10 +61,10 @@ module _ (m : List ℕ) (c : ℕ) {number tt : ℕ} (en : number ≡ data_of c) 
 
 -- TICKS by Q, likewise, with the update ticks of the T and N that it leaves.
 module _ (m : List ℕ) (r : Reaches m) (c : ℕ) {number : ℕ} {q : Bool} (en : number ≡ ticks_data c) (eq : q ≡ flag 32 c) {ticks : ℕ} where
-  pub ticks-n : q ≡ true → ticks ≡ update_ticks (get_or m tAt 0) (number + 2) → set (set m nAt (number + 2)) update_ticks_at ticks ≡ ticks_set m c
+  pub ticks-n : q ≡ true → ticks ≡ update_ticks (get_or m t_at 0) (number + 2) → set (set m n_at (number + 2)) update_ticks_at ticks ≡ ticks_set m c
   unfolding ticks_set with_update_ticks
   ticks-n e et = rw (← eq, e, ← en, et, ticks-by-n m r (number + 2))
 
-  pub ticks-t : q ≡ false → ticks ≡ update_ticks (number + 1) (get_or m nAt 0) → set (set m tAt (number + 1)) update_ticks_at ticks ≡ ticks_set m c
+  pub ticks-t : q ≡ false → ticks ≡ update_ticks (number + 1) (get_or m n_at 0) → set (set m t_at (number + 1)) update_ticks_at ticks ≡ ticks_set m c
   unfolding ticks_set with_update_ticks
   ticks-t e et = rw (← eq, e, ← en, et, ticks-by-t m r (number + 1))

@@ -2,7 +2,7 @@
 -- Assumes nothing.
 use Rattle.std.specs.Prelude.{ℕ, ◌+◌, Bool, false, cond, not, pos, ◌-ℤ◌, ◌==◌, nat_le, slice_set}
 use Rattle.base_words.specs.Words.{low_bits}
-use Rattle.layout.specs.Layout.{tAt, nAt, counter_at, lingering_at, linger_pass_at, overrun_at}
+use Rattle.layout.specs.Layout.{t_at, n_at, counter_at, lingering_at, linger_pass_at, overrun_at}
 use Rattle.layout.specs.Machine.{Machine, with_update_ticks, low_counter}
 use Rattle.layout.specs.Widths.{linger_bits}
 use Rattle.command_fields.specs.Fields.{field, flag, data_of}
@@ -48,4 +48,4 @@ abbrev pub ticks_data : ℕ → ℕ
 ticks_data c = field 14 23 c
 
 unfoldable pub ticks_set : Machine → ℕ → Machine
-ticks_set m c = with_update_ticks (cond (flag 32 c) (slice_set m nAt (ticks_data c + 2)) (slice_set m tAt (ticks_data c + 1)))
+ticks_set m c = with_update_ticks (cond (flag 32 c) (slice_set m n_at (ticks_data c + 2)) (slice_set m t_at (ticks_data c + 1)))

@@ -24,7 +24,7 @@ is-traceable text m e =
     let passed = machine-passes text m e in
     record {
       reaches = reaches m passed.0;
-      ticks = (valid-controls text m passed.1).tHigh;
+      ticks = (valid-controls text m passed.1).t_high;
       gsums = λ g h. (valid-generator text m passed.1 g h).gsum;
       gmodes = record { gmodes = λ g h. (valid-generator text m passed.1 g h).gmode };
     }

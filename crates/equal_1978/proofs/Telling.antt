@@ -39,7 +39,7 @@ either-half x h =
 
 module _ (m : Machine) (good : Good Of1978 m) where
   few : ticks_of m ≤ 256
-  few = (valid-controls Of1978 m good.is-valid).tHigh
+  few = (valid-controls Of1978 m good.is-valid).t_high
 
   told-tells : (g : ℕ) → g < 256 → eqb (run_mode_at Of1978 m g) wait ≡ true → (a b : Bool)
       → (turn_at (generators_of Of1978) (triggering_contents m) g a).unit.gmode ≡ (turn_at (generators_of Of1978) (triggering_contents m) g b).unit.gmode → a ≡ b

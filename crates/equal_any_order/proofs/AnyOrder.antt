@@ -50,7 +50,7 @@ module _ (m : Machine) (good : Good Of1978 m) where
       }
     where
       few : ticks_of m ≤ 256
-      few = (valid-controls Of1978 m good.is-valid).tHigh
+      few = (valid-controls Of1978 m good.is-valid).t_high
 
   -- Where the rule fails, the two orders are orders that are not equal.
   part : order_free (counts_in (settings_of Of1978 m)) ≡ false → Part (settings_of Of1978 m)

@@ -12,8 +12,8 @@ use Rattle.layout_texts.specs.declared.Text.TheVariants.{Of1978}
 use Rattle.base_questions.specs.Questions.{asked}
 use Rattle.layout_modes.specs.Modes.{built_run, built_oscillator, adds, replaces, free, oscillator_on, envelope_on}
 use Rattle.generator_oscillator.specs.Oscillator.{wave_of, sawtooth}
-use Rattle.generator_envelope.specs.Envelope.{overflows, decayed, qOf, level, rounded, enveloped}
-use Rattle.generator.specs.Generator.{loaded, stored, jOf, gj_after, k_of, gk_after, wOf, gq_after, vOf, pOf, triggers, gmode_after, after}
+use Rattle.generator_envelope.specs.Envelope.{overflows, decayed, q_of, level, rounded, enveloped}
+use Rattle.generator.specs.Generator.{loaded, stored, j_of, gj_after, k_of, gk_after, w_of, gq_after, v_of, p_of, triggers, gmode_after, after}
 use Rattle.machine.specs.Questions.{fresh_machine, regions, test_at}
 use Rattle.machine.proofs.ValidMachine.{single-below, valid-set}
 use Rattle.delay_questions.specs.Questions.{good_line, lines_good, named_once, question11, question12}
@@ -89,13 +89,13 @@ marks order p = let call : Call = plain_call order [] [] in rw (let_through Of19
 
 forth-marks : marked_by (generators_of Of1978) [] (begun up_and_down (sums_of up_and_down) []) no_marks forth ≡ set no_marks 0 1
 unfolding up_and_down of_two fresh_machine with_update_ticks zeros marked_by marked marked_at sum_leaves begun step triggered_below fed summed turn1978 generator_of loaded stored sums_of quadrant_of word_at sum_at put_sum f_at
-    jOf gj_after k_of gk_after wOf gq_after vOf pOf triggers gmode_after after wave_of sawtooth overflows decayed qOf level rounded enveloped
+    j_of gj_after k_of gk_after w_of gq_after v_of p_of triggers gmode_after after wave_of sawtooth overflows decayed q_of level rounded enveloped
     low_bits signed sum leaves sum_into exact_sum outside adds replaces free oscillator_on envelope_on is_one_of
 forth-marks = refl
 
 back-marks : marked_by (generators_of Of1978) [] (begun up_and_down (sums_of up_and_down) []) no_marks back ≡ no_marks
 unfolding up_and_down of_two fresh_machine with_update_ticks zeros marked_by marked marked_at sum_leaves begun step triggered_below fed summed turn1978 generator_of loaded stored sums_of quadrant_of word_at sum_at put_sum f_at
-    jOf gj_after k_of gk_after wOf gq_after vOf pOf triggers gmode_after after wave_of sawtooth overflows decayed qOf level rounded enveloped
+    j_of gj_after k_of gk_after w_of gq_after v_of p_of triggers gmode_after after wave_of sawtooth overflows decayed q_of level rounded enveloped
     low_bits signed sum leaves sum_into exact_sum outside adds replaces free oscillator_on envelope_on is_one_of
 back-marks = refl
 

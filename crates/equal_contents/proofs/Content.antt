@@ -9,7 +9,7 @@ use lib.Dec.{eqb, lit<, lit≤}
 use lib.ListN.{get_or}
 use Rattle.base_lists.specs.Lists.{is_one_of}
 use Rattle.layout_codes.specs.BuiltCodes.{built_functions, built_function, old_built_functions, old_built_function}
-use Rattle.layout.specs.Layout.{generator_at, modifier_at, quadrant_at, tAt, MMODE, GO, GN, GSUM, GFM, GMODE}
+use Rattle.layout.specs.Layout.{generator_at, modifier_at, quadrant_at, t_at, MMODE, GO, GN, GSUM, GFM, GMODE}
 use Rattle.layout.specs.Machine.{Machine, ticks_of}
 use Rattle.layout_texts.specs.Texts.{run_mode_at}
 use Rattle.layout_texts.specs.declared.Text.{Text}
@@ -57,7 +57,7 @@ inactive-good Old = refl
 module _ (text : Text) where
   -- Words before T that pass the tests of their places keep a machine good.
   filled-valid : (at step n : ℕ) (f : ℕ → ℕ) (m : Machine)
-      → ((k : ℕ) → k < n → (at + step * k < tAt) × (test_at (regions text) (at + step * k) (f k) ≡ true)) → valid text m ≡ true → valid text (filled at step n f m) ≡ true
+      → ((k : ℕ) → k < n → (at + step * k < t_at) × (test_at (regions text) (at + step * k) (f k) ≡ true)) → valid text m ≡ true → valid text (filled at step n f m) ≡ true
   unfolding filled
   filled-valid at step zero f m fits e = e
   filled-valid at step (suc n) f m fits e =
@@ -65,7 +65,7 @@ module _ (text : Text) where
       valid-set text (filled at step n f m) (filled-valid at step n f m (λ k h. fits k (omega arith)) e) (at + step * n) (f n) (single-below here.0) here.1
 
   filled-good : (at step n : ℕ) (f : ℕ → ℕ) (m : Machine)
-      → ((k : ℕ) → k < n → (at + step * k < tAt) × (test_at (regions text) (at + step * k) (f k) ≡ true)) → Good text m → Good text (filled at step n f m)
+      → ((k : ℕ) → k < n → (at + step * k < t_at) × (test_at (regions text) (at + step * k) (f k) ≡ true)) → Good text m → Good text (filled at step n f m)
   filled-good at step n f m fits good =
       record { whole = filled-length at step n f m ∙ good.whole; is-valid = filled-valid at step n f m fits good.is-valid }
 
@@ -88,7 +88,7 @@ module _ (text : Text) where
           inactive = λ k h.
               let e : at + 8 * k ≡ modifier_at k + MMODE = omega arith in
               rw e at (filled_at at 8 128 (λ k. 0) m k (lit< tt) h (omega (arith, good.whole)));
-          ticks = filled-other at 8 128 (λ k. 0) m tAt (λ k b e. omega arith);
+          ticks = filled-other at 8 128 (λ k. 0) m t_at (λ k b e. omega arith);
           kept = λ j l e g h. filled-other at 8 128 (λ k. 0) m (generator_at g + j) (λ k b e. omega arith);
         }
 
@@ -106,7 +106,7 @@ module _ (text : Text) where
         record {
           good = filled-good (quadrant_at q) 1 64 f n (λ w h. (omega arith, word_fits q f l w h ∙ lt-ltb (f w) (2 ^ 20) (low w h))) r.good;
           inactive = λ k h. word-before q f n l (modifier_at k + MMODE) (omega arith) ∙ r.inactive k h;
-          ticks = word-past q f n l tAt (lit≤ tt) ∙ r.ticks;
+          ticks = word-past q f n l t_at (lit≤ tt) ∙ r.ticks;
           kept = λ j i e g h. word-before q f n l (generator_at g + j) (omega arith) ∙ r.kept j i e g h;
         }
 
@@ -117,7 +117,7 @@ module _ (text : Text) where
         record {
           good = filled-good j 11 256 f n (λ g h. (omega arith, in_place g h ∙ fits g h)) r.good;
           inactive = λ k h. past j f n l (modifier_at k + MMODE) (omega arith) ∙ r.inactive k h;
-          ticks = past j f n l tAt (lit≤ tt) ∙ r.ticks;
+          ticks = past j f n l t_at (lit≤ tt) ∙ r.ticks;
           kept = λ k i e g h. other j f n l k g i (λ q. true≢false (sym e ∙ ap (is_kept text) q ∙ free)) ∙ r.kept k i e g h;
         }
       where

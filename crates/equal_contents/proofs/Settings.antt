@@ -76,7 +76,7 @@ module _ (text : Text) (m : Machine) (good : Good text m) where
       }
 
   few : ticks_of m ≤ 256
-  few = (valid-controls text m good.is-valid).tHigh
+  few = (valid-controls text m good.is-valid).t_high
 
   pub follows-settings : Follows (generators_of text) (settings_of text m) m
   follows-settings =

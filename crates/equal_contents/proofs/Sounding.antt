@@ -21,7 +21,7 @@ use Rattle.machine.specs.Questions.{regions}
 use Rattle.pass_sums.specs.Sums.{f_at, sums_of}
 use Rattle.generator_envelope.specs.Envelope.{rounded, enveloped}
 use Rattle.generator.specs.declared.Generator.{Generator}
-use Rattle.generator.specs.Generator.{jOf}
+use Rattle.generator.specs.Generator.{j_of}
 use Rattle.pass_model.specs.Generators.{generator_of}
 use Rattle.pass_laws.specs.Good.{Good}
 use Rattle.parts_model.specs.Contents.{with_columns, with_last, wave_columns, sounding_level, sounding_columns, sounding_contents}
@@ -90,7 +90,7 @@ module _ (text : Text) (m : Machine) (good : Good text m) (s : ℕ) where
     input = f_at (sums_of (sounding_contents text m s)) unit.gfm
 
     pub record SoundingAt : Type 0 where
-      pub j : jOf unit input ≡ 524288
+      pub j : j_of unit input ≡ 524288
       pub left : leaves 20 (unit.gj / 2 ^ 8) input ≡ true
       pub gk : unit.gk ≡ word_in (wave_columns text) GK (λ g. get_or ones (generator_at g + GK) 0) g
       pub gn : unit.gn ≡ word_in (wave_columns text) GN (λ g. get_or ones (generator_at g + GN) 0) g
@@ -100,7 +100,7 @@ module _ (text : Text) (m : Machine) (good : Good text m) (s : ℕ) where
       pub gmode : unit.gmode ≡ gmode_at m g
 
     pub sounding-at : g < 256 → SoundingAt
-    unfolding jOf
+    unfolding j_of
     sounding-at h =
         let loaded = is-loaded text (sounding_contents text m s) sounding-content.good.is-valid g h in
         let gj : unit.gj ≡ 134217472 = loaded.gj ∙ word GJ g (lit< tt) h in

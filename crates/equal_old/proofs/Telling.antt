@@ -21,8 +21,8 @@ use Rattle.machine.specs.Questions.{regions}
 use Rattle.machine.proofs.ValidMachine.{valid-controls}
 use Rattle.pass_sums.specs.Sums.{f_at, sums_of}
 use Rattle.generator.specs.declared.Generator.{Generator}
-use Rattle.generator.specs.Generator.{jOf}
-use Rattle.generator_old.specs.OldGenerator.{eOf, with_old_run, old_gmode_after, old_after}
+use Rattle.generator.specs.Generator.{j_of}
+use Rattle.generator_old.specs.OldGenerator.{e_of, with_old_run, old_gmode_after, old_after}
 use Rattle.pass_model.specs.Generators.{generator_of, turn_old, generators_of}
 use Rattle.pass_laws.specs.Good.{Good}
 use Rattle.compare_agreement.specs.Agreement.{settings_of}
@@ -56,7 +56,7 @@ own-j g h =
 
 module _ (m : Machine) (good : Good Old m) where
   few : ticks_of m ≤ 256
-  few = (valid-controls Old m good.is-valid).tHigh
+  few = (valid-controls Old m good.is-valid).t_high
 
   told-tells : (g : ℕ) → g < 256 → eqb (run_mode_at Old m g) wait ≡ true → (a b : Bool)
       → (turn_at (generators_of Old) (triggering_contents m) g a).unit.gmode ≡ (turn_at (generators_of Old) (triggering_contents m) g b).unit.gmode → a ≡ b
@@ -76,7 +76,7 @@ module _ (m : Machine) (good : Good Old m) where
       GJ (λ g. 256 * g) (lit< tt) refl (λ g h. lt-ltb (256 * g) (2 ^ 28) (omega arith))
 
   sends-own : (g : ℕ) → g < 256 → sends_at (generators_of Old) (sending_contents Old m) g ≡ g
-  unfolding turn_old eOf jOf sending_contents
+  unfolding turn_old e_of j_of sending_contents
   sends-own g h =
       let n = sending_contents Old m in
       let u = generator_of n g in

@@ -30,7 +30,7 @@ use Rattle.equal_orders.proofs.Settings.{follows}
 
 -- A good machine has at most 256 generators in a run mode, so that 256 items and places are enough.
 few-ticks : (text : Text) (n : Machine) → Good text n → ticks_of n ≤ 256
-few-ticks text n good = (valid-controls text n good.is-valid).tHigh
+few-ticks text n good = (valid-controls text n good.is-valid).t_high
 
 few-in-mode : (text : Text) (n : Machine) → Good text n → (r : ℕ) → in_mode text n r ≤ 256
 unfolding in_mode

@@ -45,4 +45,4 @@ module _ (text : Text) (m n : Machine) (s : SameSettings text m n) where
 
   pub follows : Good text m → Good text n → Follows (generators_of text) (settings_of text m) n
   follows good goodn =
-      follows-alike (generators_of text) (settings_of text m) (settings_of text n) n (settings-alike (valid-controls text m good.is-valid).tHigh) (follows-settings text n goodn)
+      follows-alike (generators_of text) (settings_of text m) (settings_of text n) n (settings-alike (valid-controls text m good.is-valid).t_high) (follows-settings text n goodn)

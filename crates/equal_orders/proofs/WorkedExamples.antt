@@ -18,7 +18,7 @@ use Rattle.generator_exponential.specs.Exponential.{table_size, bound, entry as 
 use Rattle.generator_exponential.proofs.Entries.{right, right-entry}
 use Rattle.generator_envelope.specs.Envelope.{overflows, decayed, rounded, enveloped}
 use Rattle.modifier_product.specs.Product.{scaled, product}
-use Rattle.layout.specs.Layout.{tAt}
+use Rattle.layout.specs.Layout.{t_at}
 use Rattle.layout.proofs.UpdateTicks.{counted-length}
 use Rattle.layout_modes.specs.Modes.{running_a, running_b, wait, read_data, write_dac, envelope_on, free, adds, replaces, built_run, built_oscillator}
 use Rattle.layout_modes.proofs.RunModes.{replaces-alone}
@@ -273,7 +273,7 @@ pub of-two-good : (mode₀ mode₁ sum₀ sum₁ fm₀ fm₁ : ℕ) → good_gmo
     → Good Of1978 (of_two mode₀ mode₁ sum₀ sum₁ fm₀ fm₁)
 unfolding of_two regions test_at
 of-two-good mode₀ mode₁ sum₀ sum₁ fm₀ fm₁ a b c d e f =
-    let m1 = with_update_ticks (set fresh_machine tAt 2) in
+    let m1 = with_update_ticks (set fresh_machine t_at 2) in
     let m2 = set m1 8 sum₀ in
     let m3 = set m2 9 fm₀ in
     let m4 = set m3 10 mode₀ in
@@ -282,7 +282,7 @@ of-two-good mode₀ mode₁ sum₀ sum₁ fm₀ fm₁ a b c d e f =
     record {
       whole =
           length-set m6 21 mode₁ ∙ length-set m5 20 fm₁ ∙ length-set m4 19 sum₁ ∙ length-set m3 10 mode₀ ∙ length-set m2 9 fm₀ ∙ length-set m1 8 sum₀
-          ∙ counted-length (set fresh_machine tAt 2) ∙ length-set fresh_machine tAt 2 ∙ fresh-length;
+          ∙ counted-length (set fresh_machine t_at 2) ∙ length-set fresh_machine t_at 2 ∙ fresh-length;
       is-valid =
           valid-set Of1978 m6
           (valid-set Of1978 m5
@@ -290,7 +290,7 @@ of-two-good mode₀ mode₁ sum₀ sum₁ fm₀ fm₁ a b c d e f =
           (valid-set Of1978 m3
           (valid-set Of1978 m2
           (valid-set Of1978 m1
-          (valid-with-ticks Of1978 fresh_machine (fresh-valid Of1978) (reaches fresh_machine fresh-length) tAt 2 (lit< tt) refl)
+          (valid-with-ticks Of1978 fresh_machine (fresh-valid Of1978) (reaches fresh_machine fresh-length) t_at 2 (lit< tt) refl)
           8 sum₀ (single-below (lit< tt)) (lt-ltb sum₀ (2 ^ 6) c))
           9 fm₀ (single-below (lit< tt)) (lt-ltb fm₀ (2 ^ 7) e))
           10 mode₀ (single-below (lit< tt)) a)

@@ -6,7 +6,7 @@ use Rattle.generator_sine.specs.Sine.{entry}
 use Rattle.generator_exponential.specs.Exponential.{table_size, exponential}
 use Rattle.generator_envelope.specs.Envelope.{enveloped}
 use Rattle.modifier_product.specs.Product.{product}
-use Rattle.layout.specs.Layout.{tAt}
+use Rattle.layout.specs.Layout.{t_at}
 use Rattle.layout_modes.specs.Modes.{running_a, running_b, wait, read_data, write_dac, envelope_on, free}
 use Rattle.machine.specs.Questions.{fresh_machine}
 use Rattle.layout.specs.Machine.{Machine, Order, ticks_of, with_update_ticks, gsum_at, gfm_at}
@@ -67,7 +67,7 @@ pub record BothFeed (m : Machine) : Type 0 where
 -- A fresh machine with T = 2, the update ticks that follow, and these GMODEs, GSUMs and GFMs of its first two generators, words 8 to 10 and 19 to 21.
 unfoldable pub of_two : ℕ → ℕ → ℕ → ℕ → ℕ → ℕ → Machine
 of_two mode₀ mode₁ sum₀ sum₁ fm₀ fm₁ =
-    set (set (set (set (set (set (with_update_ticks (set fresh_machine tAt 2)) 8 sum₀) 9 fm₀) 10 mode₀) 19 sum₁) 20 fm₁) 21 mode₁
+    set (set (set (set (set (set (with_update_ticks (set fresh_machine t_at 2)) 8 sum₀) 9 fm₀) 10 mode₀) 19 sum₁) 20 fm₁) 21 mode₁
 
 -- The twelve examples. Example 9 speaks of every generator of its kind, examples 10 to 12 of every good machine of theirs; generators and machines of each kind are shown.
 pub record WorkedExamples : Type 0 where

@@ -59,7 +59,7 @@ replacing-count text m = count-below-same (settings_of text m).replacing (λ g. 
 
 module _ (text : Text) (m : Machine) (good : Good text m) (o₁ o₂ : Order) (p₁ : OrderPasses (ticks_of m) o₁) (p₂ : OrderPasses (ticks_of m) o₂) (before : Items) (reads : in_mode text m read_data ≤ length before) where
   few : ticks_of m ≤ 256
-  few = (valid-controls text m good.is-valid).tHigh
+  few = (valid-controls text m good.is-valid).t_high
 
   abbrev point : ℕ
   point = (first_point (settings_of text m) o₁ o₂).point

@@ -74,7 +74,7 @@ module _ (text : Text) where
 
   module _ (m : Machine) (good : Good text m) (quiet : NoneWaits text m) (call : Call) where
     few : ticks_of m ≤ 256
-    few = (valid-controls text m good.is-valid).tHigh
+    few = (valid-controls text m good.is-valid).t_high
 
     -- A pass keeps the settings where no generator below T waits.
     mode-kept : (g : ℕ) → g < 256 → gmode_at m g ≡ gmode_at (pass_of text m call).machine g
@@ -141,7 +141,7 @@ module _ (text : Text) where
   pub whole-ringings : (m : Machine) → Good text m → NoneWaits text m → (o₁ o₂ : Order) → Passes m o₁ → Passes m o₂ → EqualThroughout text m o₁ o₂ ↔ Agree text m o₁ o₂
   whole-ringings m good quiet o₁ o₂ p₁ p₂ =
       let demand = demand-3 text m good o₁ o₂ p₁ p₂ in
-      let few = (valid-controls text m good.is-valid).tHigh in
+      let few = (valid-controls text m good.is-valid).t_high in
       (λ e. demand.0 (one-pass m o₁ o₂ e), λ a n g s memory ds e. each-pass m o₁ o₂ (demand.1 a) few quiet ds n g s memory e)
 
   -- So where a comparison passes its questions and no generator below T is in 1001 or 1101, it says yes just where the orders are equal throughout.

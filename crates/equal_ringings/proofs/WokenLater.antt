@@ -9,15 +9,15 @@ use lib.Dec.{lit≤, lit<}
 use lib.ListN.{get_or, set, length-set}
 use Rattle.base_lists.specs.Lists.{zeros, count, count_below, is_one_of}
 use Rattle.base_words.specs.Words.{low_bits, signed, sum, sum_into, exact_sum, outside}
-use Rattle.layout.specs.Layout.{tAt, counter_at, memory_words}
+use Rattle.layout.specs.Layout.{t_at, counter_at, memory_words}
 use Rattle.layout.specs.Machine.{Machine, Order, Memory, ticks_of, with_update_ticks}
 use Rattle.layout_texts.specs.declared.Text.TheVariants.{Of1978}
 use Rattle.layout.proofs.UpdateTicks.{counted-length}
 use Rattle.base_questions.specs.Questions.{asked}
 use Rattle.layout_modes.specs.Modes.{built_run, built_oscillator, adds, replaces, free, oscillator_on, envelope_on}
 use Rattle.generator_oscillator.specs.Oscillator.{wave_of, square}
-use Rattle.generator_envelope.specs.Envelope.{overflows, decayed, qOf, level, rounded, enveloped}
-use Rattle.generator.specs.Generator.{loaded, stored, jOf, gj_after, k_of, gk_after, wOf, gq_after, vOf, pOf, triggers, gmode_after, after}
+use Rattle.generator_envelope.specs.Envelope.{overflows, decayed, q_of, level, rounded, enveloped}
+use Rattle.generator.specs.Generator.{loaded, stored, j_of, gj_after, k_of, gk_after, w_of, gq_after, v_of, p_of, triggers, gmode_after, after}
 use Rattle.machine.specs.Questions.{fresh_machine, regions, test_at}
 use Rattle.machine.proofs.ValidMachine.{reaches, single-below, valid-set, valid-with-ticks}
 use Rattle.machine.proofs.FreshMachine.{fresh-length, fresh-valid}
@@ -51,7 +51,7 @@ use Rattle.equal_ringings.specs.WokenLater.{woken_later, woken_first, woken_last
 good : Good Of1978 woken_later
 unfolding woken_later regions test_at built_run built_oscillator is_one_of
 good =
-    let m0 = with_update_ticks (set fresh_machine tAt 3) in
+    let m0 = with_update_ticks (set fresh_machine t_at 3) in
     let m1 = set m0 5 1 in
     let m2 = set m1 6 16777215 in
     let m3 = set m2 8 5 in
@@ -61,7 +61,7 @@ good =
     record {
       whole =
           length-set m6 32 450 ∙ length-set m5 21 578 ∙ length-set m4 18 4095 ∙ length-set m3 10 898 ∙ length-set m2 8 5 ∙ length-set m1 6 16777215 ∙ length-set m0 5 1
-          ∙ counted-length (set fresh_machine tAt 3) ∙ length-set fresh_machine tAt 3 ∙ fresh-length;
+          ∙ counted-length (set fresh_machine t_at 3) ∙ length-set fresh_machine t_at 3 ∙ fresh-length;
       is-valid =
           valid-set Of1978 m6
           (valid-set Of1978 m5
@@ -70,7 +70,7 @@ good =
           (valid-set Of1978 m2
           (valid-set Of1978 m1
           (valid-set Of1978 m0
-          (valid-with-ticks Of1978 fresh_machine (fresh-valid Of1978) (reaches fresh_machine fresh-length) tAt 3 (lit< tt) refl)
+          (valid-with-ticks Of1978 fresh_machine (fresh-valid Of1978) (reaches fresh_machine fresh-length) t_at 3 (lit< tt) refl)
           5 1 (single-below (lit< tt)) refl)
           6 16777215 (single-below (lit< tt)) refl)
           8 5 (single-below (lit< tt)) refl)
@@ -113,7 +113,7 @@ first-let order p =
 
 first-ran : (ran Of1978 woken_later (call_of woken_first (zeros memory_words) one_item)).machine ≡ woken
 unfolding woken_later fresh_machine with_update_ticks zeros step steps triggered_below fed summed turn1978 generator_of loaded stored sums_of quadrant_of word_at sum_at put_sum f_at begun
-    jOf gj_after k_of gk_after wOf gq_after vOf pOf triggers gmode_after after wave_of square overflows decayed qOf level rounded enveloped
+    j_of gj_after k_of gk_after w_of gq_after v_of p_of triggers gmode_after after wave_of square overflows decayed q_of level rounded enveloped
     low_bits signed sum sum_into exact_sum outside adds replaces free oscillator_on envelope_on is_one_of
     ran finished generators_taken taken_by completed counted closed modified_by modified modify modifier_of with_writes with_write late_view early_view seen given second_input turn_seen delayed
     modifier_loaded modifier_stored turn_of reads_late inactive
@@ -165,7 +165,7 @@ second-let order p memory g = past_memory Of1978 woken (call_of order memory one
 
 second-first : (memory : Memory) → get_or (ran Of1978 woken (call_of woken_first memory one_item)).machine 3904 0 ≡ 0
 unfolding woken_later fresh_machine with_update_ticks zeros step steps triggered_below fed summed turn1978 generator_of loaded stored sums_of quadrant_of word_at sum_at put_sum f_at begun
-    jOf gj_after k_of gk_after wOf gq_after vOf pOf triggers gmode_after after wave_of square overflows decayed qOf level rounded enveloped
+    j_of gj_after k_of gk_after w_of gq_after v_of p_of triggers gmode_after after wave_of square overflows decayed q_of level rounded enveloped
     low_bits signed sum sum_into exact_sum outside adds replaces free oscillator_on envelope_on is_one_of
     ran finished generators_taken taken_by completed counted closed modified_by modified modify modifier_of with_writes with_write late_view early_view seen given second_input turn_seen delayed
     modifier_loaded modifier_stored turn_of reads_late inactive
@@ -173,7 +173,7 @@ second-first memory = refl
 
 second-last : (memory : Memory) → get_or (ran Of1978 woken (call_of woken_last memory one_item)).machine 3904 0 ≡ 131040
 unfolding woken_later fresh_machine with_update_ticks zeros step steps triggered_below fed summed turn1978 generator_of loaded stored sums_of quadrant_of word_at sum_at put_sum f_at begun
-    jOf gj_after k_of gk_after wOf gq_after vOf pOf triggers gmode_after after wave_of square overflows decayed qOf level rounded enveloped
+    j_of gj_after k_of gk_after w_of gq_after v_of p_of triggers gmode_after after wave_of square overflows decayed q_of level rounded enveloped
     low_bits signed sum sum_into exact_sum outside adds replaces free oscillator_on envelope_on is_one_of
     ran finished generators_taken taken_by completed counted closed modified_by modified modify modifier_of with_writes with_write late_view early_view seen given second_input turn_seen delayed
     modifier_loaded modifier_stored turn_of reads_late inactive

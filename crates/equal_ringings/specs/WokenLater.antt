@@ -1,7 +1,7 @@
 -- A machine on which two orders that agree part in the second pass (document 02, Q-14: why no generator may be in 1001).
 -- Assumes nothing.
 use Rattle.std.specs.Prelude.{[], ◌∷◌, set}
-use Rattle.layout.specs.Layout.{tAt}
+use Rattle.layout.specs.Layout.{t_at}
 use Rattle.layout.specs.Machine.{Machine, Order, with_update_ticks}
 use Rattle.machine.specs.Questions.{fresh_machine}
 use Rattle.pass_laws.specs.Passes.{PassData}
@@ -10,7 +10,7 @@ use Rattle.pass_laws.specs.Passes.{PassData}
 -- Generator 1 waits on word 0 with GL 4,095. Generator 2 is a 0111 on word 0.
 unfoldable pub woken_later : Machine
 woken_later =
-    set (set (set (set (set (set (set (with_update_ticks (set fresh_machine tAt 3)) 5 1) 6 16777215) 8 5) 10 898) 18 4095) 21 578) 32 450
+    set (set (set (set (set (set (set (with_update_ticks (set fresh_machine t_at 3)) 5 1) 6 16777215) 8 5) 10 898) 18 4095) 21 578) 32 450
 
 -- Generator 1 before generator 2, and after it.
 abbrev pub woken_first : Order

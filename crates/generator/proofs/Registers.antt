@@ -10,7 +10,7 @@ use Rattle.base_words.specs.Words.{sum, sum_into, exact_sum}
 use Rattle.layout_modes.specs.Modes.{oscillator_on, envelope_on, free, wait, running_c}
 use Rattle.generator_envelope.specs.Envelope.{overflows, decayed}
 use Rattle.generator.specs.declared.Generator.{Generator}
-use Rattle.generator.specs.Generator.{loaded, Ranged, run_mode, gj_after, gk_after, gq_after, gmode_after, pOf, after, triggers}
+use Rattle.generator.specs.Generator.{loaded, Ranged, run_mode, gj_after, gk_after, gq_after, gmode_after, p_of, after, triggers}
 
 pub ranged : (m : List ℕ) → Ranged (loaded m)
 unfolding loaded
@@ -29,8 +29,8 @@ ranged m =
       gmode-low = omega arith;
     }
 
-pub p-low : (g : Generator) (f : ℕ) → pOf g f < 2 ^ 20
-unfolding pOf
+pub p-low : (g : Generator) (f : ℕ) → p_of g f < 2 ^ 20
+unfolding p_of
 p-low g f = low-lt 20 _
 
 pub decayed-low : (b : Bool) (gq gp : ℕ) → gq < 2 ^ 24 → decayed b gq gp < 2 ^ 24

@@ -12,7 +12,7 @@ use Rattle.generator_sine.specs.Sine.{first_three, polynomial, angle, entry, ind
 use Rattle.generator_oscillator.specs.Oscillator.{sawtooth, square, pulse, sine_wave, sine_at, multiple, ratio, sum_of_cosines, wave_of}
 use Rattle.generator_envelope.specs.Envelope.{rounded, enveloped}
 use Rattle.generator.specs.declared.Generator.{Generator}
-use Rattle.generator.specs.Generator.{oscillator_mode, jOf, k_of, left_range, wOf, vOf, pOf}
+use Rattle.generator.specs.Generator.{oscillator_mode, j_of, k_of, left_range, w_of, v_of, p_of}
 
 -- P is not 0 where V is 64.
 Heard : ℤ → Type 0
@@ -35,6 +35,6 @@ heard mode = by (eqb mode 0b1000) refl
         (of-cond Heard (eqb mode 0b0100) (lit< tt)
         (lit< tt))))
 
-pub heard-in-every-mode : (g : Generator) (f : ℕ) → jOf g f ≡ 524288 → g.gk ≡ 128 → g.gn ≡ 1 → g.gm ≡ 0 → left_range g f ≡ true → vOf g ≡ 64 → 0 < pOf g f
-unfolding Heard wave_at pOf wOf k_of
+pub heard-in-every-mode : (g : Generator) (f : ℕ) → j_of g f ≡ 524288 → g.gk ≡ 128 → g.gn ≡ 1 → g.gm ≡ 0 → left_range g f ≡ true → v_of g ≡ 64 → 0 < p_of g f
+unfolding Heard wave_at p_of w_of k_of
 heard-in-every-mode g f is-j is-k is-n is_m left is-v = rw (is-v, left, is-j, is-k, is-n, is_m) (heard (oscillator_mode g))

@@ -18,44 +18,44 @@ use Rattle.generator_envelope.specs.Envelope.{overflows, decayed, enveloped}
 use Rattle.base_lists.specs.Lists.{is_one_of}
 use Rattle.generator.specs.declared.Generator.{Generator}
 use Rattle.generator.specs.declared.Sounded.{Sounded}
-use Rattle.generator.specs.Generator.{updated, Ranged, run_mode, oscillator_mode, jOf, k_of, left_range, wOf, vOf, pOf, gj_after, gk_after, gq_after, gmode_after, triggers, after, sounded_of}
-use Rattle.generator.specs.AsCoded.{phase_of, oscillated, kBy, left_by, output_by, advanced_by, ended_of}
+use Rattle.generator.specs.Generator.{updated, Ranged, run_mode, oscillator_mode, j_of, k_of, left_range, w_of, v_of, p_of, gj_after, gk_after, gq_after, gmode_after, triggers, after, sounded_of}
+use Rattle.generator.specs.AsCoded.{phase_of, oscillated, k_by, left_by, output_by, advanced_by, ended_of}
 
 -- J, of the exact sum of step 1.
-pub phase-low : (g : Generator) (f : ℕ) → low_bits 20 (phase_of g f) ≡ jOf g f
-unfolding phase_of jOf sum
+pub phase-low : (g : Generator) (f : ℕ) → low_bits 20 (phase_of g f) ≡ j_of g f
+unfolding phase_of j_of sum
 phase-low g f = refl
 
-pub low-is-j : (g : Generator) (f : ℕ) {z : ℤ} {j : ℕ} → z ≡ phase_of g f → j ≡ low_bits 20 z → j ≡ jOf g f
+pub low-is-j : (g : Generator) (f : ℕ) {z : ℤ} {j : ℕ} → z ≡ phase_of g f → j ≡ low_bits 20 z → j ≡ j_of g f
 low-is-j g f h l = l ∙ ap (low_bits 20) h ∙ phase-low g f
 
 -- P, of the exact sum of step 1, J and the oscillator's switch.
-pub output-is : (g : Generator) (f : ℕ) → output_by (oscillator_on (run_mode g)) g (phase_of g f) (jOf g f) ≡ pOf g f
-unfolding output_by kBy left_by pOf wOf k_of left_range phase_of leaves
+pub output-is : (g : Generator) (f : ℕ) → output_by (oscillator_on (run_mode g)) g (phase_of g f) (j_of g f) ≡ p_of g f
+unfolding output_by k_by left_by p_of w_of k_of left_range phase_of leaves
 output-is g f = refl
 
 -- P by the oscillator mode, of V.
-module _ (on : Bool) (g : Generator) (z : ℤ) (j v : ℕ) {p : ℕ} (is-v : v ≡ vOf g) where
+module _ (on : Bool) (g : Generator) (z : ℤ) (j v : ℕ) {p : ℕ} (is-v : v ≡ v_of g) where
   pub output-of-j : p ≡ low_bits 20 (enveloped (sine_wave (j / 2 ^ 7) g.gm) v) → oscillator_mode g ≡ 8 → p ≡ output_by on g z j
-  unfolding output_by kBy wave_of
+  unfolding output_by k_by wave_of
   output-of-j h e = rw (e, h, is-v)
 
   pub output-of-gk : p ≡ low_bits 20 (enveloped (sine_wave (g.gk / 2 ^ 7) g.gm) v) → oscillator_mode g ≡ 0 → p ≡ output_by on g z j
-  unfolding output_by kBy wave_of
+  unfolding output_by k_by wave_of
   output-of-gk h e = rw (e, h, is-v)
 
   pub output-shaped : {w : SignMagnitude} → p ≡ low_bits 20 (enveloped (value_of w) v)
       → Wave (wave_of (oscillator_mode g) (g.gk / 2 ^ 7) g.gn g.gm (left_by on g z j)) w → oscillator_mode g < 4 → p ≡ output_by on g z j
-  unfolding output_by kBy
+  unfolding output_by k_by
   output-shaped h k l = rw (ne_eqb (oscillator_mode g) 8 (λ e. omega arith), ← k.is, ← is-v) h
 
   pub output-cosines : p ≡ low_bits 20 (enveloped (sum_of_cosines (g.gk / 2 ^ 7) g.gn g.gm) v) → oscillator_mode g ≡ 4 → p ≡ output_by on g z j
-  unfolding output_by kBy wave_of
+  unfolding output_by k_by wave_of
   output-cosines h e = rw (e, h, is-v)
 
   -- A mode that isn't built.
   pub output-rest : p ≡ low_bits 20 (enveloped (sine_wave (g.gk / 2 ^ 7) g.gm) v) → ¬ (oscillator_mode g ≡ 8) → ¬ (oscillator_mode g ≡ 4) → 4 ≤ oscillator_mode g → p ≡ output_by on g z j
-  unfolding output_by kBy wave_of
+  unfolding output_by k_by wave_of
   output-rest h n c l = simp (ne_eqb (oscillator_mode g) 8 n, ne_eqb (oscillator_mode g) 1 (λ e. omega arith), ne_eqb (oscillator_mode g) 2 (λ e. omega arith), ne_eqb (oscillator_mode g) 3 (λ e. omega arith), ne_eqb (oscillator_mode g) 4 c) (rw (← is-v) h)
 
 -- GP added into GQ.
@@ -93,13 +93,13 @@ advanced-in r on same g j p = rw (same, oscillator-tells r, free-tells r, decays
 module _ (g : Generator) (f : ℕ) (on : Switches) (same : on ≡ switches_of (run_mode g)) (sounds : envelope_on (run_mode g) ≡ true)
     (z : ℤ) (j p : ℕ) (x : Sounded) (is-z : z ≡ phase_of g f) (is-low : j ≡ low_bits 20 z) (is-p : p ≡ output_by (eqb on.oscillator 1) g z j)
     (is_x : x ≡ advanced_by on g j p) where
-  is-j : j ≡ jOf g f
+  is-j : j ≡ j_of g f
   is-j = low-is-j g f is-z is-low
 
-  p-same : p ≡ pOf g f
+  p-same : p ≡ p_of g f
   p-same = rw (is-p, is-z, is-j, same, oscillator-tells (run_mode g)) (output-is g f)
 
-  x-same : x ≡ record { unit = updated g (gj_after g) (gk_after g f) (gq_after g) g.gmode; p = pOf g f; triggers = triggers g }
+  x-same : x ≡ record { unit = updated g (gj_after g) (gk_after g f) (gq_after g) g.gmode; p = p_of g f; triggers = triggers g }
   unfolding gj_after gk_after gq_after triggers
   x-same = is_x ∙ advanced-in (run_mode g) on same g j p ∙ rw (is-j, p-same, sounds)
 
@@ -132,7 +132,7 @@ still-ranged o g j r = (rw (oscillated-gq o g j) r.gq-low, rw (oscillated-gp o g
 -- The turn of a generator that waits.
 pub turn-waits : (g : Generator) (f : ℕ) (triggered_below : Bool) → run_mode g ≡ wait →
     after g f triggered_below
-    ≡ updated g (sum_into 28 20 g.gj g.go) (sum 20 g.gk (jOf g f)) g.gq (cond triggered_below (with_run_mode running_c g.gmode) g.gmode)
+    ≡ updated g (sum_into 28 20 g.gj g.go) (sum 20 g.gk (j_of g f)) g.gq (cond triggered_below (with_run_mode running_c g.gmode) g.gmode)
 unfolding after gj_after gk_after gq_after gmode_after oscillator_on envelope_on is_one_of
 turn-waits g f triggered_below h = rw h
 

@@ -9,7 +9,7 @@ use Rattle.generator_oscillator.specs.Oscillator.{wave_of}
 use Rattle.generator_envelope.specs.Envelope.{overflows, decayed, enveloped}
 use Rattle.generator.specs.declared.Generator.{Generator}
 use Rattle.generator.specs.declared.Sounded.{Sounded}
-use Rattle.generator.specs.Generator.{updated, run_mode, oscillator_mode, vOf}
+use Rattle.generator.specs.Generator.{updated, run_mode, oscillator_mode, v_of}
 
 -- Step 1: the high 20 bits of GJ plus F, before J is made of it.
 unfoldable pub phase_of : Generator → ℕ → ℤ
@@ -21,8 +21,8 @@ oscillated on g j =
     cond on (updated g (sum_into 28 20 g.gj g.go) (sum 20 g.gk j) g.gq g.gmode) g
 
 -- Step 3.
-unfoldable pub kBy : Generator → ℕ → ℕ
-kBy g j = cond (eqb (oscillator_mode g) 8) j g.gk / 2 ^ 7
+unfoldable pub k_by : Generator → ℕ → ℕ
+k_by g j = cond (eqb (oscillator_mode g) 8) j g.gk / 2 ^ 7
 
 -- Whether a sum of step 1, exactly z, or of step 4 left its range.
 unfoldable pub left_by : Bool → Generator → ℤ → ℕ → Bool
@@ -30,7 +30,7 @@ left_by on g z j = leb (2 ^ 19) (mag z) || (on && leaves 20 g.gk j)
 
 -- Steps 6 to 9.
 unfoldable pub output_by : Bool → Generator → ℤ → ℕ → ℕ
-output_by on g z j = low_bits 20 (enveloped (wave_of (oscillator_mode g) (kBy g j) g.gn g.gm (left_by on g z j)) (vOf g))
+output_by on g z j = low_bits 20 (enveloped (wave_of (oscillator_mode g) (k_by g j) g.gn g.gm (left_by on g z j)) (v_of g))
 
 -- Steps 2, 4 and 7 by a run mode's switches, its envelope being on: the registers with GMODE as it was, P, and whether a free envelope overflows.
 unfoldable pub advanced_by : Switches → Generator → ℕ → ℕ → Sounded

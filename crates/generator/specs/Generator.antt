@@ -73,8 +73,8 @@ abbrev pub oscillator_mode : Generator → ℕ
 oscillator_mode g = g.gmode % 2 ^ 4
 
 -- Step 1. J: the high 20 bits of GJ plus F.
-unfoldable pub jOf : Generator → ℕ → ℕ
-jOf g f = sum 20 (g.gj / 2 ^ 8) f
+unfoldable pub j_of : Generator → ℕ → ℕ
+j_of g f = sum 20 (g.gj / 2 ^ 8) f
 
 -- Step 2. GJ afterwards: oscillator on, GO is added into it.
 unfoldable pub gj_after : Generator → ℕ
@@ -82,31 +82,31 @@ gj_after g = cond (oscillator_on (run_mode g)) (sum_into 28 20 g.gj g.go) g.gj
 
 -- Step 3. E: J in the oscillator mode 1000, else GK. K: the high 13 bits of E.
 unfoldable pub k_of : Generator → ℕ → ℕ
-k_of g f = cond (eqb (oscillator_mode g) 0b1000) (jOf g f) g.gk / 2 ^ 7
+k_of g f = cond (eqb (oscillator_mode g) 0b1000) (j_of g f) g.gk / 2 ^ 7
 
 -- Step 4. GK afterwards: oscillator on, J is added into it.
 unfoldable pub gk_after : Generator → ℕ → ℕ
-gk_after g f = cond (oscillator_on (run_mode g)) (sum 20 g.gk (jOf g f)) g.gk
+gk_after g f = cond (oscillator_on (run_mode g)) (sum 20 g.gk (j_of g f)) g.gk
 
 -- Whether the signed sum of step 1, or of step 4 where it is done, left its range.
 unfoldable pub left_range : Generator → ℕ → Bool
-left_range g f = leaves 20 (g.gj / 2 ^ 8) f || (oscillator_on (run_mode g) && leaves 20 g.gk (jOf g f))
+left_range g f = leaves 20 (g.gj / 2 ^ 8) f || (oscillator_on (run_mode g) && leaves 20 g.gk (j_of g f))
 
 -- Step 6. W.
-unfoldable pub wOf : Generator → ℕ → ℤ
-wOf g f = wave_of (oscillator_mode g) (k_of g f) g.gn g.gm (left_range g f)
+unfoldable pub w_of : Generator → ℕ → ℤ
+w_of g f = wave_of (oscillator_mode g) (k_of g f) g.gn g.gm (left_range g f)
 
 -- Step 7. GQ afterwards: envelope on, GP is added into it.
 unfoldable pub gq_after : Generator → ℕ
 gq_after g = cond (envelope_on (run_mode g)) (decayed (free (run_mode g)) g.gq g.gp) g.gq
 
 -- Step 8. V.
-unfoldable pub vOf : Generator → ℕ
-vOf g = level (envelope_mode g) g.gl g.gq
+unfoldable pub v_of : Generator → ℕ
+v_of g = level (envelope_mode g) g.gl g.gq
 
 -- Step 9. P, as a word of 20 bits.
-unfoldable pub pOf : Generator → ℕ → ℕ
-pOf g f = low_bits 20 (enveloped (wOf g f) (vOf g))
+unfoldable pub p_of : Generator → ℕ → ℕ
+p_of g f = low_bits 20 (enveloped (w_of g f) (v_of g))
 
 -- A free overflow is a trigger.
 unfoldable pub triggers : Generator → Bool
@@ -125,4 +125,4 @@ after g f triggered_below = updated g (gj_after g) (gk_after g f) (gq_after g) (
 
 -- What a generator whose envelope is on brings. It is not in 1001, so what it is told makes no difference.
 unfoldable pub sounded_of : Generator → ℕ → Sounded
-sounded_of g f = record { unit = after g f false; p = pOf g f; triggers = triggers g }
+sounded_of g f = record { unit = after g f false; p = p_of g f; triggers = triggers g }

@@ -11,10 +11,10 @@ use Rattle.base_words.specs.Words.{value_of}
 use Rattle.base_words.proofs.Residues.{either-low, low-lt}
 use Rattle.generator_exponential.specs.Exponential.{table_size, exponent_of}
 use Rattle.generator_exponential.proofs.Entries.{exponential-low}
-use Rattle.generator_envelope.specs.Envelope.{qOf, level, rounded, enveloped}
+use Rattle.generator_envelope.specs.Envelope.{q_of, level, rounded, enveloped}
 
-pub q-low : (mode gq : ℕ) → gq < 2 ^ 24 → qOf mode gq < 2 ^ 12
-unfolding qOf
+pub q-low : (mode gq : ℕ) → gq < 2 ^ 24 → q_of mode gq < 2 ^ 12
+unfolding q_of
 q-low mode gq h = either-low (leb 2 mode) (exponential-low table_size (exponent_of gq)) (omega arith)
 
 pub level-low : (mode gl gq : ℕ) → level mode gl gq < 2 ^ 12

@@ -4,7 +4,7 @@
 ghost use Rattle.std.specs.Prelude.{◌<◌, ◌^◌, ◌≡◌, eqb};
 ghost use Rattle.base_words.specs.Words.{low_bits, value_of};
 ghost use Rattle.generator_exponential.specs.Exponential.{table_size, entries};
-ghost use Rattle.generator_envelope.specs.Envelope.{overflows, decayed, qOf, level_by, level, enveloped};
+ghost use Rattle.generator_envelope.specs.Envelope.{overflows, decayed, q_of, level_by, level, enveloped};
 
 use base_words::SignMagnitude;
 use generator_exponential::Entries;
@@ -35,7 +35,7 @@ pub fn decayed(free: u8, gq: u32, gp: u32) -> u32
 pub fn q(table: &Entries, mode: u32, gq: u32) -> u32
     requires table_value { table.now ≡ entries table_size }
     requires gq_bound { gq < 2 ^ 24 }
-    ensures { result ≡ qOf mode gq }
+    ensures { result ≡ q_of mode gq }
 {
     if 2 <= mode {
         return generator_exponential::exponential(table, gq);

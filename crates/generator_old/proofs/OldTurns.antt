@@ -15,38 +15,38 @@ use Rattle.layout_modes.proofs.Exclusions.{quiet, off-not-on}
 use Rattle.base_lists.specs.Lists.{is_one_of}
 use Rattle.generator.specs.declared.Generator.{Generator}
 use Rattle.generator.specs.declared.Sounded.{Sounded}
-use Rattle.generator.specs.Generator.{updated, Ranged, jOf, gj_after, gk_after, gq_after, triggers}
+use Rattle.generator.specs.Generator.{updated, Ranged, j_of, gj_after, gk_after, gq_after, triggers}
 use Rattle.generator.specs.AsCoded.{phase_of, left_by, advanced_by}
 use Rattle.generator.proofs.Turns.{low-is-j, advanced-in}
 use Rattle.layout_old_modes.specs.OldModes.{old_run, old_oscillator}
-use Rattle.generator_old.specs.OldGenerator.{switched_mode, switched, eOf, old_k, old_w, old_p, with_old_run, old_gmode_after, old_after, old_sounded}
-use Rattle.generator_old.specs.AsCoded.{eBy, old_output_by, old_ended_of}
+use Rattle.generator_old.specs.OldGenerator.{switched_mode, switched, e_of, old_k, old_w, old_p, with_old_run, old_gmode_after, old_after, old_sounded}
+use Rattle.generator_old.specs.AsCoded.{e_by, old_output_by, old_ended_of}
 use Rattle.layout_old_modes.proofs.RunModes.{waits_in}
 use Rattle.generator_old.proofs.Switched.{gj-switched, gk-switched, left-switched, gq-switched, triggers-switched}
 
 -- E is a word of 20 bits.
-pub e-by-low : (g : Generator) (j : ℕ) → Ranged g → j < 2 ^ 20 → eBy g j < 2 ^ 20
-unfolding eBy
+pub e-by-low : (g : Generator) (j : ℕ) → Ranged g → j < 2 ^ 20 → e_by g j < 2 ^ 20
+unfolding e_by
 e-by-low g j r h = either-low (eqb (old_oscillator g.gmode) 0b101) h r.gk-low
 
-pub e-low : (g : Generator) (f : ℕ) → Ranged g → eOf g f < 2 ^ 20
-unfolding eOf jOf
+pub e-low : (g : Generator) (f : ℕ) → Ranged g → e_of g f < 2 ^ 20
+unfolding e_of j_of
 e-low g f r = either-low (eqb (old_oscillator g.gmode) 0b101) (sum_low 20 _ f) r.gk-low
 
-pub e-is : (g : Generator) (f : ℕ) {z : ℤ} {j e : ℕ} → z ≡ phase_of g f → j ≡ low_bits 20 z → e ≡ eBy g j → e ≡ eOf g f
-unfolding eBy eOf
+pub e-is : (g : Generator) (f : ℕ) {z : ℤ} {j e : ℕ} → z ≡ phase_of g f → j ≡ low_bits 20 z → e ≡ e_by g j → e ≡ e_of g f
+unfolding e_by e_of
 e-is g f h l k = k ∙ rw (low-is-j g f h l)
 
 -- P, of the exact sum of step 1, J and the oscillator's switch.
-pub old-output-is : (g : Generator) (f : ℕ) → old_output_by (oscillator_on (switched_mode g)) g (phase_of g f) (jOf g f) ≡ old_p g f
-unfolding old_output_by eBy left_by old_p old_w old_k eOf phase_of leaves
+pub old-output-is : (g : Generator) (f : ℕ) → old_output_by (oscillator_on (switched_mode g)) g (phase_of g f) (j_of g f) ≡ old_p g f
+unfolding old_output_by e_by left_by old_p old_w old_k e_of phase_of leaves
 old-output-is g f = rw (left-switched g f)
 
 -- The turn of a generator whose envelope is on by the code's values: the exact sum z of step 1, J, P, and x after steps 2, 4 and 7.
 module _ (g : Generator) (f : ℕ) (on : Switches) (same : on ≡ switches_of (switched_mode g)) (sounds : envelope_on (switched_mode g) ≡ true)
     (z : ℤ) (j p : ℕ) (x : Sounded) (is-z : z ≡ phase_of g f) (is-low : j ≡ low_bits 20 z) (is-p : p ≡ old_output_by (eqb on.oscillator 1) g z j)
     (is_x : x ≡ advanced_by on g j p) where
-  is-j : j ≡ jOf g f
+  is-j : j ≡ j_of g f
   is-j = low-is-j g f is-z is-low
 
   p-same : p ≡ old_p g f
@@ -73,7 +73,7 @@ module _ (g : Generator) (f : ℕ) (on : Switches) (same : on ≡ switches_of (s
 -- The turn of a generator that waits.
 pub old-turn-waits : (g : Generator) (f : ℕ) (triggered_below : Bool) → switched_mode g ≡ wait →
     old_after g f triggered_below
-    ≡ updated g (sum_into 28 20 g.gj g.go) (sum 20 g.gk (jOf g f)) g.gq (cond triggered_below (with_old_run 0b101 g.gmode) g.gmode)
+    ≡ updated g (sum_into 28 20 g.gj g.go) (sum 20 g.gk (j_of g f)) g.gq (cond triggered_below (with_old_run 0b101 g.gmode) g.gmode)
 unfolding old_after old_gmode_after oscillator_on envelope_on is_one_of
 old-turn-waits g f triggered_below h = rw (gj-switched g, gk-switched g f, gq-switched g, h, is-100)
   where

@@ -13,9 +13,9 @@ use Rattle.generator_oscillator.specs.Oscillator.{square, pulse, sine_wave}
 use Rattle.generator_old_waves.specs.OldWaves.{cosine, old_wave}
 use Rattle.generator_envelope.specs.Envelope.{rounded, enveloped}
 use Rattle.generator.specs.declared.Generator.{Generator}
-use Rattle.generator.specs.Generator.{jOf, left_range}
+use Rattle.generator.specs.Generator.{j_of, left_range}
 use Rattle.layout_old_modes.specs.OldModes.{old_oscillator}
-use Rattle.generator_old.specs.OldGenerator.{switched, eOf, old_k, old_w, old_v, old_p}
+use Rattle.generator_old.specs.OldGenerator.{switched, e_of, old_k, old_w, old_v, old_p}
 
 -- P is not 0 where V is 64.
 Heard : ℤ → Type 0
@@ -37,6 +37,6 @@ heard mode = by (eqb mode 0b101) refl
         (of-cond Heard (eqb mode 0b011) (lit< tt)
         (lit< tt)))
 
-pub old-heard : (g : Generator) (f : ℕ) → jOf g f ≡ 524288 → g.gk ≡ 256 → g.gm ≡ 0 → left_range (switched g) f ≡ true → old_v g ≡ 64 → 0 < old_p g f
-unfolding Heard wave_at old_p old_w old_k eOf
+pub old-heard : (g : Generator) (f : ℕ) → j_of g f ≡ 524288 → g.gk ≡ 256 → g.gm ≡ 0 → left_range (switched g) f ≡ true → old_v g ≡ 64 → 0 < old_p g f
+unfolding Heard wave_at old_p old_w old_k e_of
 old-heard g f is-j is-k is_m left is-v = rw (is-v, left, is-j, is-k, is_m) (heard (old_oscillator g.gmode))

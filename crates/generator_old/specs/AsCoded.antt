@@ -11,12 +11,12 @@ use Rattle.layout_old_modes.specs.OldModes.{old_run, old_oscillator}
 use Rattle.generator_old.specs.OldGenerator.{old_v, with_old_run}
 
 -- Step 3: E.
-unfoldable pub eBy : Generator → ℕ → ℕ
-eBy g j = cond (eqb (old_oscillator g.gmode) 0b101) j g.gk
+unfoldable pub e_by : Generator → ℕ → ℕ
+e_by g j = cond (eqb (old_oscillator g.gmode) 0b101) j g.gk
 
 -- Steps 6 to 9.
 unfoldable pub old_output_by : Bool → Generator → ℤ → ℕ → ℕ
-old_output_by on g z j = low_bits 20 (enveloped (old_wave (old_oscillator g.gmode) (eBy g j / 2 ^ 8) g.gm (left_by on g z j)) (old_v g))
+old_output_by on g z j = low_bits 20 (enveloped (old_wave (old_oscillator g.gmode) (e_by g j / 2 ^ 8) g.gm (left_by on g z j)) (old_v g))
 
 -- 101 goes to 100.
 unfoldable pub old_ended_of : Generator → Generator

@@ -4,11 +4,11 @@ use Rattle.std.specs.Prelude.{ℕ, ◌+◌, ◌*◌, ◌/◌, ◌%◌, ◌^◌, 
 use Rattle.base_words.specs.Words.{low_bits}
 use Rattle.generator_exponential.specs.Exponential.{older_size, exponential}
 use Rattle.layout_old_modes.specs.OldModes.{old_run, old_envelope, old_oscillator, old_run_mode}
-use Rattle.generator_envelope.specs.Envelope.{hOf, level_by, enveloped}
+use Rattle.generator_envelope.specs.Envelope.{h_of, level_by, enveloped}
 use Rattle.generator_old_waves.specs.OldWaves.{old_wave}
 use Rattle.generator.specs.declared.Generator.{Generator}
 use Rattle.generator.specs.declared.Sounded.{Sounded}
-use Rattle.generator.specs.Generator.{updated, jOf, gj_after, gk_after, left_range, gq_after, triggers}
+use Rattle.generator.specs.Generator.{updated, j_of, gj_after, gk_after, left_range, gq_after, triggers}
 
 -- Its run mode in the 1978 coding.
 abbrev pub switched_mode : Generator → ℕ
@@ -19,11 +19,11 @@ unfoldable pub switched : Generator → Generator
 switched g = updated g g.gj g.gk g.gq (switched_mode g * 2 ^ 6)
 
 -- Step 3. E: J in the oscillator mode 101, else GK. It is what 111 sends (step 5). K: the high 12 bits of E.
-unfoldable pub eOf : Generator → ℕ → ℕ
-eOf g f = cond (eqb (old_oscillator g.gmode) 0b101) (jOf g f) g.gk
+unfoldable pub e_of : Generator → ℕ → ℕ
+e_of g f = cond (eqb (old_oscillator g.gmode) 0b101) (j_of g f) g.gk
 
 unfoldable pub old_k : Generator → ℕ → ℕ
-old_k g f = eOf g f / 2 ^ 8
+old_k g f = e_of g f / 2 ^ 8
 
 -- Step 6. W.
 unfoldable pub old_w : Generator → ℕ → ℤ
@@ -31,7 +31,7 @@ old_w g f = old_wave (old_oscillator g.gmode) (old_k g f) g.gm (left_range (swit
 
 -- Step 8. Q: H in the envelope modes 00 and 01, in 10 and 11 the exponential of H, document 01's of 256 entries.
 unfoldable pub old_q : ℕ → ℕ → ℕ
-old_q mode gq = cond (leb 2 mode) (exponential older_size (hOf gq)) (hOf gq)
+old_q mode gq = cond (leb 2 mode) (exponential older_size (h_of gq)) (h_of gq)
 
 -- V: GL + Q in 00 and 10, GL - Q in 01 and 11.
 unfoldable pub old_level : ℕ → ℕ → ℕ → ℕ

@@ -11,8 +11,8 @@ ghost use Rattle.generator_old_waves.specs.OldWaves.{old_wave};
 ghost use Rattle.generator.specs.Generator.{updated, Ranged};
 ghost use Rattle.generator.specs.AsCoded.{left_by};
 ghost use Rattle.layout_old_modes.specs.OldModes.{old_oscillator};
-ghost use Rattle.generator_old.specs.OldGenerator.{switched_mode, eOf, old_level, with_old_run, old_after, old_sounded};
-ghost use Rattle.generator_old.specs.AsCoded.{eBy, old_output_by, old_ended_of};
+ghost use Rattle.generator_old.specs.OldGenerator.{switched_mode, e_of, old_level, with_old_run, old_after, old_sounded};
+ghost use Rattle.generator_old.specs.AsCoded.{e_by, old_output_by, old_ended_of};
 
 use base_words::SignMagnitude;
 use generator::{Generator, Sounded};
@@ -27,7 +27,7 @@ const RUNNING_C: u32 = 0b101;
 
 // Step 3: E, of J.
 fn angle_by(unit: Generator, j: u32) -> u32
-    ensures { result ≡ eBy unit j }
+    ensures { result ≡ e_by unit j }
 {
     if unit.gmode % 8 == 0b101 {
         return j;
@@ -39,7 +39,7 @@ fn angle_by(unit: Generator, j: u32) -> u32
 pub fn angle(unit: Generator, f: u32) -> u32
     requires ranged { Ranged unit }
     requires f_bound { f < 2 ^ 20 }
-    ensures { result ≡ eOf unit f }
+    ensures { result ≡ e_of unit f }
 {
     let j = base_words::low20(unit.phase(f));
     angle_by(unit, j)
@@ -49,7 +49,7 @@ pub fn angle(unit: Generator, f: u32) -> u32
 fn wave(unit: Generator, sine: &Quarter, on: u8, exact: u32, j: u32) -> SignMagnitude
     requires ranged { Ranged unit }
     requires sine_value { (sine.now ≡ quarter) × (j < 2 ^ 20) }
-    ensures { Wave (old_wave (old_oscillator unit.gmode) (eBy unit j / 2 ^ 8) unit.gm (left_by (eqb on 1) unit (signed 32 exact) j)) result }
+    ensures { Wave (old_wave (old_oscillator unit.gmode) (e_by unit j / 2 ^ 8) unit.gm (left_by (eqb on 1) unit (signed 32 exact) j)) result }
 {
     let k = angle_by(unit, j) / 256;
     let mode = unit.gmode % 8;

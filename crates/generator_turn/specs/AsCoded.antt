@@ -4,7 +4,7 @@ use Rattle.std.specs.Prelude.{ℕ, ◌%◌, ◌^◌, Bool}
 use Rattle.generator.specs.declared.Generator.{Generator}
 use Rattle.generator.specs.declared.Sounded.{Sounded}
 use Rattle.generator.specs.Generator.{run_mode, after, sounded_of}
-use Rattle.generator_old.specs.OldGenerator.{switched_mode, eOf, old_after, old_sounded}
+use Rattle.generator_old.specs.OldGenerator.{switched_mode, e_of, old_after, old_sounded}
 use Rattle.layout_texts.specs.declared.Text.{Text}
 use Rattle.layout_texts.specs.declared.Text.TheVariants.{Of1978, Old}
 
@@ -26,7 +26,7 @@ sounded_by Old = old_sounded
 -- Step 5. What it sends, by F: F itself; in the older text its own angle.
 abbrev pub sends_of : Text → Generator → ℕ → ℕ
 sends_of Of1978 u f = f
-sends_of Old u f = eOf u f
+sends_of Old u f = e_of u f
 
 -- The DAC to which it sends: the low 4 bits of GO; in the older text those of GN.
 abbrev pub dac_of : Text → Generator → ℕ

@@ -13,7 +13,7 @@ use lib.Seq.{get_or-set_same, get_or-set_other, get_or-drop, ext_get_or}
 use Rattle.base_lists.specs.Lists.{tabulate}
 use Rattle.base_lists.proofs.Tables.{tabulate-length, tabulate-at}
 use Rattle.base_fills.proofs.Filled.{filled-length}
-use Rattle.layout.specs.Layout.{machine_length, generator_at, tAt, nAt, update_ticks_at}
+use Rattle.layout.specs.Layout.{machine_length, generator_at, t_at, n_at, update_ticks_at}
 use Rattle.layout.specs.Machine.{Machine, ticks_of, update_ticks}
 use Rattle.join_model.specs.Join.{uses_word, uses_dac, among, brought_over, first_word, joined_word, joined}
 use Rattle.join_model.proofs.JoinedWords.{among-before, low-stays, high-stays}
@@ -129,23 +129,23 @@ module _ (a b : Machine) (whole : length a ≡ machine_length) (sum : ticks_of a
   before-word i = used-word b used (copied a b) (copied-length a b whole sum used) u marks i
 
   stored-word : (i : ℕ) → i < machine_length
-      → get_or (stored a b used) i 0 ≡ cond (eqb i tAt) t (cond (eqb i update_ticks_at) (update_ticks t (get_or a nAt 0)) (get_or before i 0))
+      → get_or (stored a b used) i 0 ≡ cond (eqb i t_at) t (cond (eqb i update_ticks_at) (update_ticks t (get_or a n_at 0)) (get_or before i 0))
   unfolding stored
-  stored-word i h = by-t (eqb i tAt) refl
+  stored-word i h = by-t (eqb i t_at) refl
     where
       count : ℕ
-      count = update_ticks t (get_or a nAt 0)
+      count = update_ticks t (get_or a n_at 0)
 
-      by-ticks : eqb i tAt ≡ false → (x : Bool) → eqb i update_ticks_at ≡ x → get_or (set (set before tAt t) update_ticks_at count) i 0 ≡ cond x count (get_or before i 0)
+      by-ticks : eqb i t_at ≡ false → (x : Bool) → eqb i update_ticks_at ≡ x → get_or (set (set before t_at t) update_ticks_at count) i 0 ≡ cond x count (get_or before i 0)
       by-ticks e true f =
-          rw (eqb-true i update_ticks_at f) (get_or-set_same (set before tAt t) update_ticks_at count 0 (omega (arith, length-set before tAt t, before-length)))
+          rw (eqb-true i update_ticks_at f) (get_or-set_same (set before t_at t) update_ticks_at count 0 (omega (arith, length-set before t_at t, before-length)))
       by-ticks e false f =
-          get_or-set_other (set before tAt t) update_ticks_at i count 0 (eqb-false i update_ticks_at f) ∙ get_or-set_other before tAt i t 0 (eqb-false i tAt e)
+          get_or-set_other (set before t_at t) update_ticks_at i count 0 (eqb-false i update_ticks_at f) ∙ get_or-set_other before t_at i t 0 (eqb-false i t_at e)
 
-      by-t : (x : Bool) → eqb i tAt ≡ x → get_or (set (set before tAt t) update_ticks_at count) i 0 ≡ cond x t (cond (eqb i update_ticks_at) count (get_or before i 0))
+      by-t : (x : Bool) → eqb i t_at ≡ x → get_or (set (set before t_at t) update_ticks_at count) i 0 ≡ cond x t (cond (eqb i update_ticks_at) count (get_or before i 0))
       by-t true e =
-          rw (eqb-true i tAt e)
-          (get_or-set_other (set before tAt t) update_ticks_at tAt count 0 (λ q. omega arith) ∙ get_or-set_same before tAt t 0 (omega (arith, before-length)))
+          rw (eqb-true i t_at e)
+          (get_or-set_other (set before t_at t) update_ticks_at t_at count 0 (λ q. omega arith) ∙ get_or-set_same before t_at t 0 (omega (arith, before-length)))
       by-t false e = by-ticks e (eqb i update_ticks_at) refl
 
   -- At each place it is the joined machine's word.
@@ -157,15 +157,15 @@ module _ (a b : Machine) (whole : length a ≡ machine_length) (sum : ticks_of a
       at = generator_at (ticks_of a)
 
       count : ℕ
-      count = update_ticks t (get_or a nAt 0)
+      count = update_ticks t (get_or a n_at 0)
 
       own : ℕ
-      own = cond (eqb i tAt) t (cond (eqb i update_ticks_at) count (get_or before i 0))
+      own = cond (eqb i t_at) t (cond (eqb i update_ticks_at) count (get_or before i 0))
 
       by-brought : among at (generator_at (ticks_of b)) i ≡ false → (x : Bool) → brought_over b i ≡ x → own ≡ cond x (get_or b i 0) (first_word a b i)
       by-brought e true f =
           let apart : (k : ℕ) → 4112 ≤ k → i ≡ k → ⊥ = λ k l q. true≢false (sym f ∙ ap (brought_over b) q ∙ high-stays a b sum k l) in
-          rw (ne_eqb i tAt (apart tAt (lit≤ tt)), ne_eqb i update_ticks_at (apart update_ticks_at (lit≤ tt)), before-word i, f)
+          rw (ne_eqb i t_at (apart t_at (lit≤ tt)), ne_eqb i update_ticks_at (apart update_ticks_at (lit≤ tt)), before-word i, f)
       by-brought e false f = rw (before-word i, f, copied-word a b whole sum used i, e)
 
       by-generators : (x : Bool) → among at (generator_at (ticks_of b)) i ≡ x
@@ -175,7 +175,7 @@ module _ (a b : Machine) (whole : length a ≡ machine_length) (sum : ticks_of a
           let low = k.0 in
           let high = k.1 in
           rw (
-            ne_eqb i tAt (λ q. omega arith),
+            ne_eqb i t_at (λ q. omega arith),
             ne_eqb i update_ticks_at (λ q. omega arith),
             before-word i,
             low-stays a b sum i (omega arith),
@@ -186,7 +186,7 @@ module _ (a b : Machine) (whole : length a ≡ machine_length) (sum : ticks_of a
 
   length-stored : length (stored a b used) ≡ machine_length
   unfolding stored
-  length-stored = length-set (set before tAt t) update_ticks_at (update_ticks t (get_or a nAt 0)) ∙ length-set before tAt t ∙ before-length
+  length-stored = length-set (set before t_at t) update_ticks_at (update_ticks t (get_or a n_at 0)) ∙ length-set before t_at t ∙ before-length
 
   pub stored-joined : stored a b used ≡ joined a b
   unfolding joined

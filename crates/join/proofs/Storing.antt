@@ -14,7 +14,7 @@ use Rattle.base_fills.specs.Fills.{filled}
 use Rattle.base_fills.proofs.Filled.{filled-length, filled-other, filled_at, filled_next}
 use Rattle.join_model.specs.Join.{among}
 use Rattle.join_model.proofs.JoinedWords.{among_in}
-use Rattle.layout.specs.Layout.{tAt, nAt, update_ticks_at}
+use Rattle.layout.specs.Layout.{t_at, n_at, update_ticks_at}
 use Rattle.layout.specs.Machine.{Machine, ticks_of, update_ticks}
 use Rattle.join.specs.AsCoded.{chosen, copied, brought_used, stored}
 
@@ -75,9 +75,9 @@ pub used-by : (b : Machine) (used : List Bool) (m : Machine) {this last dacs : M
 unfolding brought_used
 used-by b used m e f g = rw (g, f, e, part-from b 3840, part-from b 3904, part-from b 4096)
 
-pub stored-by : (a b : Machine) (used : List Bool) {count first other : ℕ} {copy brought done : Machine} → count ≡ update_ticks (ticks_of a + ticks_of b) (get_or a nAt 0)
+pub stored-by : (a b : Machine) (used : List Bool) {count first other : ℕ} {copy brought done : Machine} → count ≡ update_ticks (ticks_of a + ticks_of b) (get_or a n_at 0)
     → first ≡ ticks_of a → other ≡ ticks_of b → copy ≡ filled (11 * first + 0) 1 (11 * other) (λ k. get_or b k 0) a → brought ≡ brought_used b used copy
-    → done ≡ set (set brought tAt (ticks_of a + ticks_of b)) update_ticks_at count → done ≡ stored a b used
+    → done ≡ set (set brought t_at (ticks_of a + ticks_of b)) update_ticks_at count → done ≡ stored a b used
 unfolding copied stored
 stored-by a b used {count} {first} {other} counts is-first is-other copies brings puts =
     let place : 11 * first + 0 ≡ 11 * ticks_of a = omega arith in

@@ -2,7 +2,7 @@
 -- Assumes nothing.
 use Rattle.std.specs.Prelude.{ℕ, ◌+◌, Bool, false, cond, List, get_or, set, drop}
 use Rattle.base_fills.specs.Fills.{filled}
-use Rattle.layout.specs.Layout.{generator_at, quadrant_at, quadrant_words, dac_at, dacs, tAt, nAt, update_ticks_at}
+use Rattle.layout.specs.Layout.{generator_at, quadrant_at, quadrant_words, dac_at, dacs, t_at, n_at, update_ticks_at}
 use Rattle.layout.specs.Machine.{Machine, ticks_of, update_ticks}
 use Rattle.pass_sums.specs.Sums.{generator_this, generator_last}
 use Rattle.join_questions.specs.AsCoded.{dacs_used_at}
@@ -27,4 +27,4 @@ brought_used b used m =
 -- All stores in sequence.
 unfoldable pub stored : Machine → Machine → List Bool → Machine
 stored a b used =
-    set (set (brought_used b used (copied a b)) tAt (ticks_of a + ticks_of b)) update_ticks_at (update_ticks (ticks_of a + ticks_of b) (get_or a nAt 0))
+    set (set (brought_used b used (copied a b)) t_at (ticks_of a + ticks_of b)) update_ticks_at (update_ticks (ticks_of a + ticks_of b) (get_or a n_at 0))

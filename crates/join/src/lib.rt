@@ -3,7 +3,7 @@
 
 ghost use Rattle.std.specs.Prelude.{◌≡◌, cond, ◌+◌, ◌≤◌, length, get_or, set};
 ghost use Rattle.base_fills.specs.Fills.{filled};
-ghost use Rattle.layout.specs.Layout.{generators, tAt, update_ticks_at};
+ghost use Rattle.layout.specs.Layout.{generators, t_at, update_ticks_at};
 ghost use Rattle.layout.specs.Machine.{Reaches, ticks_of};
 ghost use Rattle.join_model.specs.Join.{join_of};
 ghost use Rattle.join_questions.specs.AsCoded.{marks_length};
@@ -70,7 +70,7 @@ fn bring_used(m: &mut [u32], second: &[u32], used: &Uses)
 // T and the update ticks.
 fn put_ticks(m: &mut [u32], t: u32, count: u32)
     requires { Reaches m.old }
-    ensures { m.new ≡ set (set m.old tAt t) update_ticks_at count }
+    ensures { m.new ≡ set (set m.old t_at t) update_ticks_at count }
 {
     m[layout::T_AT] = t;
     m[layout::UPDATE_TICKS_AT] = count;

@@ -130,7 +130,7 @@ module _ (a b : Machine) (p : Pair a b) where
                   by-bell (λ h. Other b (ticks_of a) h → run_mode_at Of1978 j h ≡ write_dac → dac_number_at Of1978 j h ≢ d)
                   (λ g i m q e. dacs-apart d k (uses-feeder a g i d (sym (mode-first g i) ∙ q) (sym (dac-first g i) ∙ e)) u) (λ g i m q e. m g i refl) h l n;
               seam = λ h.
-                  let some = (valid-controls Of1978 b p.good-b.is-valid).tLow in
+                  let some = (valid-controls Of1978 b p.good-b.is-valid).t_low in
                   let z : ticks_of a ≡ ticks_of a + 0 = omega arith in
                   let same : run_mode_at Of1978 j (ticks_of a) ≡ run_mode_at Of1978 b 0 = ap (run_mode_at Of1978 j) z ∙ mode-second 0 (omega (arith, some)) in
                   (λ e. p.seam.0 (sym same ∙ e), λ e. p.seam.1 (sym same ∙ e));

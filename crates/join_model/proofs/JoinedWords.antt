@@ -10,7 +10,7 @@ use lib.Dec.{eqb, leb, ltb, lit<, lit≤}
 use lib.ListN.{length, get_or}
 use Rattle.base_lists.proofs.Below.{and_first, and_second}
 use Rattle.base_lists.proofs.Tables.{tabulate-at, tabulate-length}
-use Rattle.layout.specs.Layout.{machine_length, generator_at, modifier_at, quadrant_at, dac_at, tAt, nAt, update_ticks_at, MMODE}
+use Rattle.layout.specs.Layout.{machine_length, generator_at, modifier_at, quadrant_at, dac_at, t_at, n_at, update_ticks_at, MMODE}
 use Rattle.layout.specs.Machine.{Machine, ticks_of, update_ticks_of, function_at}
 use Rattle.layout_texts.specs.declared.Text.TheVariants.{Of1978}
 use Rattle.machine.specs.Questions.{regions, test_at}
@@ -43,7 +43,7 @@ shift-test u v k x hu hv hk =
     ap (λ (i : ℕ). test_at (regions Of1978) i x) eu ∙ unit-test (regions Of1978) 0 u k x hu hk ∙ sym (unit-test (regions Of1978) 0 v k x hv hk) ∙ sym (ap (λ (i : ℕ). test_at (regions Of1978) i x) ev)
 
 -- T passes its test from 1 to 256.
-ticks-test : (n : ℕ) → 1 ≤ n → n ≤ 256 → test_at (regions Of1978) tAt n ≡ true
+ticks-test : (n : ℕ) → 1 ≤ n → n ≤ 256 → test_at (regions Of1978) t_at n ≡ true
 unfolding regions test_at
 ticks-test n low high = rw (le-leb 1 n low, le-leb n 256 high)
 
@@ -71,12 +71,12 @@ module _ (a b : Machine) (sum : ticks_of a + ticks_of b ≤ 256) where
   outside-word i h e = at_place i h ∙ rw e
 
   -- The first's word, where it is neither T nor the update ticks.
-  first-own : (i : ℕ) → i ≢ tAt → i ≢ update_ticks_at → first_word a b i ≡ get_or a i 0
+  first-own : (i : ℕ) → i ≢ t_at → i ≢ update_ticks_at → first_word a b i ≡ get_or a i 0
   unfolding first_word
-  first-own i t u = rw (ne_eqb i tAt t, ne_eqb i update_ticks_at u)
+  first-own i t u = rw (ne_eqb i t_at t, ne_eqb i update_ticks_at u)
 
   -- What isn't brought over and is neither T nor the update ticks is the first's.
-  first-word : (i : ℕ) → i < machine_length → among (generator_at (ticks_of a)) (generator_at (ticks_of b)) i ≡ false → brought_over b i ≡ false → i ≢ tAt → i ≢ update_ticks_at
+  first-word : (i : ℕ) → i < machine_length → among (generator_at (ticks_of a)) (generator_at (ticks_of b)) i ≡ false → brought_over b i ≡ false → i ≢ t_at → i ≢ update_ticks_at
       → get_or (joined a b) i 0 ≡ get_or a i 0
   first-word i h e f t u = outside-word i h e ∙ rw (f, first-own i t u)
 
@@ -94,10 +94,10 @@ module _ (a b : Machine) (sum : ticks_of a + ticks_of b ≤ 256) where
 
   pub ticks-joined : ticks_of (joined a b) ≡ ticks_of a + ticks_of b
   unfolding first_word
-  ticks-joined = outside-word tAt (lit< tt) (past-generators tAt (lit≤ tt)) ∙ rw (high-stays tAt (lit≤ tt))
+  ticks-joined = outside-word t_at (lit< tt) (past-generators t_at (lit≤ tt)) ∙ rw (high-stays t_at (lit≤ tt))
 
-  n-joined : get_or (joined a b) nAt 0 ≡ get_or a nAt 0
-  n-joined = first-word nAt (lit< tt) (past-generators nAt (lit≤ tt)) (high-stays nAt (lit≤ tt)) (eqb-false nAt tAt refl) (eqb-false nAt update_ticks_at refl)
+  n-joined : get_or (joined a b) n_at 0 ≡ get_or a n_at 0
+  n-joined = first-word n_at (lit< tt) (past-generators n_at (lit≤ tt)) (high-stays n_at (lit≤ tt)) (eqb-false n_at t_at refl) (eqb-false n_at update_ticks_at refl)
 
   count-joined : get_or (joined a b) update_ticks_at 0 ≡ update_ticks_of (joined a b)
   unfolding first_word
@@ -156,9 +156,9 @@ module _ (a b : Machine) (sum : ticks_of a + ticks_of b ≤ 256) where
   -- It is a good machine.
   module _ (ga : Good Of1978 a) (gb : Good Of1978 b) where
     word-passes : (i : ℕ) → i < update_ticks_at → test_at (regions Of1978) i (get_or (joined a b) i 0) ≡ true
-    word-passes i h = go (among (generator_at (ticks_of a)) (generator_at (ticks_of b)) i) refl (brought_over b i) refl (eqb i tAt) refl
+    word-passes i h = go (among (generator_at (ticks_of a)) (generator_at (ticks_of b)) i) refl (brought_over b i) refl (eqb i t_at) refl
       where
-        go : (x : Bool) → among (generator_at (ticks_of a)) (generator_at (ticks_of b)) i ≡ x → (y : Bool) → brought_over b i ≡ y → (z : Bool) → eqb i tAt ≡ z
+        go : (x : Bool) → among (generator_at (ticks_of a)) (generator_at (ticks_of b)) i ≡ x → (y : Bool) → brought_over b i ≡ y → (z : Bool) → eqb i t_at ≡ z
             → test_at (regions Of1978) i (get_or (joined a b) i 0) ≡ true
         go true ex y ey z ez =
             let low = leb-true (generator_at (ticks_of a)) i (and_first (leb (generator_at (ticks_of a)) i) (ltb i (generator_at (ticks_of a) + generator_at (ticks_of b))) ex) in
@@ -176,9 +176,9 @@ module _ (a b : Machine) (sum : ticks_of a + ticks_of b ≤ 256) where
             ∙ valid-at Of1978 b gb.is-valid r (omega arith)
         go false ex true ey z ez = rw (outside-word i (omega arith) ex, ey) (valid-at Of1978 b gb.is-valid i h)
         go false ex false ey true ez =
-            rw (eqb-true i tAt ez) (ap (test_at (regions Of1978) tAt) ticks-joined ∙ ticks-test (ticks_of a + ticks_of b) (omega (arith, (valid-controls Of1978 a ga.is-valid).tLow)) sum)
+            rw (eqb-true i t_at ez) (ap (test_at (regions Of1978) t_at) ticks-joined ∙ ticks-test (ticks_of a + ticks_of b) (omega (arith, (valid-controls Of1978 a ga.is-valid).t_low)) sum)
         go false ex false ey false ez =
-            rw (first-word i (omega arith) ex ey (eqb-false i tAt ez) (λ e. omega arith)) (valid-at Of1978 a ga.is-valid i h)
+            rw (first-word i (omega arith) ex ey (eqb-false i t_at ez) (λ e. omega arith)) (valid-at Of1978 a ga.is-valid i h)
 
     pub joined-good : Good Of1978 (joined a b)
     joined-good = record { whole = joined_length; is-valid = valid-from Of1978 (joined a b) word-passes count-joined }

@@ -3,7 +3,7 @@
 use Rattle.std.specs.Prelude.{ℕ, ◌+◌, ◌-◌, Bool, cond, not, ◌&&◌, ◌||◌, [], ◌∷◌, eqb, leb, ltb, get_or}
 use Rattle.base_lists.specs.Lists.{tabulate, all_below}
 use Rattle.layout_modes.specs.Modes.{wait, running_c, read_data, write_data, write_dac}
-use Rattle.layout.specs.Layout.{machine_length, generator_at, quadrant_at, dac_at, tAt, nAt, update_ticks_at, dacs, quadrant_words, generators}
+use Rattle.layout.specs.Layout.{machine_length, generator_at, quadrant_at, dac_at, t_at, n_at, update_ticks_at, dacs, quadrant_words, generators}
 use Rattle.layout.specs.Machine.{Machine, ticks_of, update_ticks, gsum_at, gfm_at, function_at}
 use Rattle.layout_texts.specs.Texts.{run_mode_at, dac_number_at}
 use Rattle.layout_texts.specs.declared.Text.TheVariants.{Of1978}
@@ -43,8 +43,8 @@ brought_over b i =
 -- The first machine's word at place i, where T is the sum and the update ticks are those of this T and the first's N.
 unfoldable pub first_word : Machine → Machine → ℕ → ℕ
 first_word a b i =
-    cond (eqb i tAt) (ticks_of a + ticks_of b)
-    (cond (eqb i update_ticks_at) (update_ticks (ticks_of a + ticks_of b) (get_or a nAt 0))
+    cond (eqb i t_at) (ticks_of a + ticks_of b)
+    (cond (eqb i update_ticks_at) (update_ticks (ticks_of a + ticks_of b) (get_or a n_at 0))
     (get_or a i 0))
 
 -- Word i of the joined machine: the second's generators below its T follow the first's T, its sum words and DACs in use are brought over,

@@ -39,7 +39,7 @@ module _ (m : Machine) (good : Good Of1978 m) (memory : Memory) where
   next = one_pass m memory
 
   few : ticks_of m ≤ 256
-  few = (valid-controls Of1978 m good.is-valid).tHigh
+  few = (valid-controls Of1978 m good.is-valid).t_high
 
   kept : SettingsKept Of1978 m next
   kept = pass-settings Of1978 m (number_call m memory)
@@ -184,7 +184,7 @@ module _ (a j : Machine) (at : ℕ) (bell : Bell a j at) (ma mj : Memory) (good-
             (sym (go-kept j bell.joined mj h (omega (arith, few-j, tj))) ∙ e);
         seam = λ b.
             let c = s.seam b in
-            let some = (valid-controls Of1978 a bell.alone.is-valid).tLow in
+            let some = (valid-controls Of1978 a bell.alone.is-valid).t_low in
             let same = ap (λ (x : ℕ). x / 2 ^ 6) (((kept j bell.joined mj).generator at (omega (arith, s.room, few-j, some))).gmode c.0 c.1) in
             (λ e. c.0 (sym same ∙ e), λ e. c.1 (sym same ∙ e));
       }

@@ -52,7 +52,7 @@ none_below p (suc n) f = let e : ◌≡◌ {A = ℕ} (cond (p n) 1 0) 0 = rw (f 
 
 module _ (m : Machine) (good : Good Of1978 m) (own : SelfContained m) (memory : Memory) (memory-good : memory_good memory ≡ true) where
   few : ticks_of m ≤ 256
-  few = (valid-controls Of1978 m good.is-valid).tHigh
+  few = (valid-controls Of1978 m good.is-valid).t_high
 
   abbrev call : Call
   call = number_call m memory

@@ -112,13 +112,13 @@ never-told m order = refl
 
 module _ (a j : Machine) (at : ℕ) (ga : Good Of1978 a) (gj : Good Of1978 j) (own : SelfContained a) (s : Stands a j at) (p : Plays a a 0 j at) where
   few-a : ticks_of a ≤ 256
-  few-a = (valid-controls Of1978 a ga.is-valid).tHigh
+  few-a = (valid-controls Of1978 a ga.is-valid).t_high
 
   few-j : ticks_of j ≤ 256
-  few-j = (valid-controls Of1978 j gj.is-valid).tHigh
+  few-j = (valid-controls Of1978 j gj.is-valid).t_high
 
   some-a : 1 ≤ ticks_of a
-  some-a = (valid-controls Of1978 a ga.is-valid).tLow
+  some-a = (valid-controls Of1978 a ga.is-valid).t_low
 
   -- The words of a generator of the bell.
   pub generator-same : (g k : ℕ) → g < ticks_of a → k < 11 → get_or j (generator_at (at + g) + k) 0 ≡ get_or a (generator_at g + k) 0

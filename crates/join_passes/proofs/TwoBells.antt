@@ -54,7 +54,7 @@ alike p q =
 module _ (a j n : Machine) (at lo hi : ℕ) (bell : Bell a j at) (good : Good Of1978 n) (c : Changed lo hi j n) (few : hi ≤ 256)
     (apart : (g k : ℕ) → g < ticks_of a → k < 11 → get_or n (generator_at (at + g) + k) 0 ≡ get_or j (generator_at (at + g) + k) 0) where
   few-j : ticks_of j ≤ 256
-  few-j = (valid-controls Of1978 j bell.joined.is-valid).tHigh
+  few-j = (valid-controls Of1978 j bell.joined.is-valid).t_high
 
   ticks : ticks_of n ≡ ticks_of j
   ticks = sym c.settings.ticks
@@ -94,7 +94,7 @@ module _ (a j n : Machine) (at lo hi : ℕ) (bell : Bell a j at) (good : Good Of
                   let was = sym (mode h b) ∙ q in
                   s.feeders h d (omega (arith, ticks)) m k u was (c.settings.sending h b was ∙ e);
               seam = λ h.
-                  let some = (valid-controls Of1978 a bell.alone.is-valid).tLow in
+                  let some = (valid-controls Of1978 a bell.alone.is-valid).t_low in
                   let same = mode at (omega (arith, s.room, few-j, some)) in
                   (λ e. (s.seam h).0 (sym same ∙ e), λ e. (s.seam h).1 (sym same ∙ e));
             };
@@ -151,7 +151,7 @@ two-bells =
       join-second = λ a b e memory own good good-own n. plays a b e b (ticks_of a) (second a b e) memory good own good-own n;
       join_apart = λ a b e memory other good good-other k n m good-m.
           let p = pair-from a b e in
-          let few = (valid-controls Of1978 a p.good-a.is-valid).tHigh in (
+          let few = (valid-controls Of1978 a p.good-a.is-valid).t_high in (
             λ c. apart_from a b e b (ticks_of a) (second a b e) memory good 0 (ticks_of a) few k n m good-m other good-other c (λ g r h l. c.above _ (omega arith)),
             λ c. apart_from a b e a 0 (first a b e) memory good (ticks_of a) (ticks_of a + ticks_of b) p.sum k n m good-m other good-other c
                 (λ g r h l. c.below _ (omega (arith, ticks-after k a memory))),

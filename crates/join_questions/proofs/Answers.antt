@@ -31,7 +31,7 @@ is-usable m e =
     let passed = machine-passes Of1978 m e in
     record {
       reaches = reaches m passed.0;
-      ticks = (valid-controls Of1978 m passed.1).tHigh;
+      ticks = (valid-controls Of1978 m passed.1).t_high;
       gsums = λ g h. (valid-generator Of1978 m passed.1 g h).gsum;
       gfms = λ g h. (valid-generator Of1978 m passed.1 g h).gfm;
     }

@@ -2,7 +2,7 @@
 -- Assumes nothing.
 use Rattle.std.proofs.Common.{◌≡◌, ℕ, ◌+◌, ◌≤◌, ◌≢◌, length, get_or, set, sym, refl, ◌∙◌, arith, length-set, get_or-set_other, get_or-set_same}
 use borrow.Author.Tests.{eqb-false}
-use Rattle.layout.specs.Layout.{tAt, nAt, update_ticks_at}
+use Rattle.layout.specs.Layout.{t_at, n_at, update_ticks_at}
 use Rattle.layout.specs.Machine.{Machine, Reaches, ticks_of, update_ticks, update_ticks_of, with_update_ticks}
 
 -- T, the eight and the update ticks are N; where N has no more than T and the eight there are none.
@@ -14,11 +14,11 @@ ticks-none t n h = omega arith
 
 -- The count where T or N is set.
 module _ (m : Machine) (r : Reaches m) (v : ℕ) where
-  pub ticks-by-t : update_ticks_of (set m tAt v) ≡ update_ticks v (get_or m nAt 0)
-  ticks-by-t = rw (get_or-set_same m tAt v 0 (omega (arith, r.all)), get_or-set_other m tAt nAt v 0 (eqb-false nAt tAt refl))
+  pub ticks-by-t : update_ticks_of (set m t_at v) ≡ update_ticks v (get_or m n_at 0)
+  ticks-by-t = rw (get_or-set_same m t_at v 0 (omega (arith, r.all)), get_or-set_other m t_at n_at v 0 (eqb-false n_at t_at refl))
 
-  pub ticks-by-n : update_ticks_of (set m nAt v) ≡ update_ticks (ticks_of m) v
-  ticks-by-n = rw (get_or-set_same m nAt v 0 (omega (arith, r.all)), get_or-set_other m nAt tAt v 0 (eqb-false tAt nAt refl))
+  pub ticks-by-n : update_ticks_of (set m n_at v) ≡ update_ticks (ticks_of m) v
+  ticks-by-n = rw (get_or-set_same m n_at v 0 (omega (arith, r.all)), get_or-set_other m n_at t_at v 0 (eqb-false t_at n_at refl))
 
 -- A machine with its count: its length, its other words, and the count itself.
 module _ (m : Machine) where
@@ -31,7 +31,7 @@ module _ (m : Machine) where
   counted-other i n = get_or-set_other m update_ticks_at i (update_ticks_of m) 0 n
 
   counted_same : update_ticks_of (with_update_ticks m) ≡ update_ticks_of m
-  counted_same = rw (counted-other tAt (eqb-false tAt update_ticks_at refl), counted-other nAt (eqb-false nAt update_ticks_at refl))
+  counted_same = rw (counted-other t_at (eqb-false t_at update_ticks_at refl), counted-other n_at (eqb-false n_at update_ticks_at refl))
 
   pub counted-own : Reaches m → get_or (with_update_ticks m) update_ticks_at 0 ≡ update_ticks_of (with_update_ticks m)
   unfolding with_update_ticks

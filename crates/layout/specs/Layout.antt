@@ -102,12 +102,12 @@ abbrev pub dx_at : ℕ
 dx_at = 4112
 
 -- T, the processing ticks.
-abbrev pub tAt : ℕ
-tAt = 4113
+abbrev pub t_at : ℕ
+t_at = 4113
 
 -- N, all ticks of a pass.
-abbrev pub nAt : ℕ
-nAt = 4114
+abbrev pub n_at : ℕ
+n_at = 4114
 
 -- The pass counter.
 abbrev pub counter_at : ℕ

@@ -1,7 +1,7 @@
 -- A machine is a run of words; what stands at its places, by name.
 -- Assumes nothing.
 use Rattle.std.specs.Prelude.{ℕ, ◌+◌, ◌-◌, ◌/◌, ◌%◌, ◌^◌, ◌≤◌, List, length, slice_index, slice_set}
-use Rattle.layout.specs.Layout.{machine_length, generator_at, modifier_at, tAt, nAt, counter_at, update_ticks_at, GSUM, GFM, GMODE, MRM, MMODE}
+use Rattle.layout.specs.Layout.{machine_length, generator_at, modifier_at, t_at, n_at, counter_at, update_ticks_at, GSUM, GFM, GMODE, MRM, MMODE}
 use Rattle.layout.specs.Widths.{linger_bits}
 
 -- The words of a machine; an order of the generators, by number; read items; places for written items; commands.
@@ -34,7 +34,7 @@ pub record Reaches (m : Machine) : Type 0 where
 
 -- T.
 abbrev pub ticks_of : Machine → ℕ
-ticks_of m = slice_index m tAt
+ticks_of m = slice_index m t_at
 
 -- The update ticks of T and N: N-T-8, or 0 if that is negative. A difference of these numbers stops at 0 and never wraps.
 abbrev pub update_ticks : ℕ → ℕ → ℕ
@@ -42,7 +42,7 @@ update_ticks t n = n - t - 8
 
 -- Those of a machine's own T and N, whatever stands in the word for them.
 abbrev pub update_ticks_of : Machine → ℕ
-update_ticks_of m = update_ticks (ticks_of m) (slice_index m nAt)
+update_ticks_of m = update_ticks (ticks_of m) (slice_index m n_at)
 
 -- A machine with that count in its word.
 unfoldable pub with_update_ticks : Machine → Machine

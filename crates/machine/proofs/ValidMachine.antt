@@ -12,7 +12,7 @@ use lib.ListN.{length, get_or, set, length-set}
 use lib.Seq.{get_or-set_same, get_or-set_other, set_out}
 use Rattle.base_lists.proofs.Below.{and_first, and_second, below_at, below-from}
 use Rattle.layout_codes.specs.BuiltCodes.{built_mode}
-use Rattle.layout.specs.Layout.{machine_length, generator_at, modifier_at, quadrant_at, dac_at, dx_at, tAt, nAt, counter_at, lingering_at, linger_pass_at, overrun_at, delay_at, update_ticks_at}
+use Rattle.layout.specs.Layout.{machine_length, generator_at, modifier_at, quadrant_at, dac_at, dx_at, t_at, n_at, counter_at, lingering_at, linger_pass_at, overrun_at, delay_at, update_ticks_at}
 use Rattle.layout.specs.Widths.{counter_bits}
 use Rattle.machine.specs.Questions.{bits, between, good_gmode, good_mmode, test, delay_mode, regions, test_at, word_passes, valid}
 use Rattle.machine.proofs.Words.{address_below, gmode-low, mmode-low}
@@ -53,13 +53,13 @@ word_set text m e i v l p k n = at (eqb k i) refl where
 -- The place of a word that is tested by itself and that no other word's test looks at: before the update ticks, and neither T nor N.
 pub record Single (i : ℕ) : Type 0 where
   pub inside : i < update_ticks_at
-  pub not_t : i ≢ tAt
-  pub not-n : i ≢ nAt
+  pub not_t : i ≢ t_at
+  pub not-n : i ≢ n_at
 
-pub single-below : {i : ℕ} → i < tAt → Single i
+pub single-below : {i : ℕ} → i < t_at → Single i
 single-below h = record { inside = omega arith; not_t = λ e. omega arith; not-n = λ e. omega arith }
 
-pub single-above : {i : ℕ} → nAt < i → i < update_ticks_at → Single i
+pub single-above : {i : ℕ} → n_at < i → i < update_ticks_at → Single i
 single-above h l = record { inside = l; not_t = λ e. omega arith; not-n = λ e. omega arith }
 
 -- Such a word keeps a machine valid where it passes its test.
@@ -72,8 +72,8 @@ valid-set text m e i v s p = inside (ltb i (length m)) refl where
   ticks =
       rw (
         get_or-set_other m i update_ticks_at v 0 before,
-        get_or-set_other m i tAt v 0 (λ q. s.not_t (sym q)),
-        get_or-set_other m i nAt v 0 (λ q. s.not-n (sym q)),
+        get_or-set_other m i t_at v 0 (λ q. s.not_t (sym q)),
+        get_or-set_other m i n_at v 0 (λ q. s.not-n (sym q)),
       )
       (valid-ticks text m e)
 
@@ -173,10 +173,10 @@ valid-dac text m e d h = ltb-true _ _ (valid-unit text m e 3 d 0 (dac_at d) h (l
 -- DX, T, N, the counter, lingering, the Linger pass and overrun.
 pub record ValidControls (m : List ℕ) : Type 0 where
   pub dx : get_or m dx_at 0 < 2 ^ 20
-  pub tLow : 1 ≤ get_or m tAt 0
-  pub tHigh : get_or m tAt 0 ≤ 256
-  pub nLow : 2 ≤ get_or m nAt 0
-  pub nHigh : get_or m nAt 0 ≤ 1025
+  pub t_low : 1 ≤ get_or m t_at 0
+  pub t_high : get_or m t_at 0 ≤ 256
+  pub n_low : 2 ≤ get_or m n_at 0
+  pub n_high : get_or m n_at 0 ≤ 1025
   pub counter : get_or m counter_at 0 < 2 ^ counter_bits
   pub lingering : get_or m lingering_at 0 ≤ 1
   pub linger_pass : get_or m linger_pass_at 0 < 2 ^ 20
@@ -188,14 +188,14 @@ from-between a b x e = (leb-true a x (and_first (leb a x) (leb x b) e), leb-true
 pub valid-controls : (text : Text) (m : List ℕ) → valid text m ≡ true → ValidControls m
 unfolding regions test_at
 valid-controls text m e =
-    let t = from-between 1 256 (get_or m tAt 0) (valid-at text m e tAt (lit< tt)) in
-    let n = from-between 2 1025 (get_or m nAt 0) (valid-at text m e nAt (lit< tt)) in
+    let t = from-between 1 256 (get_or m t_at 0) (valid-at text m e t_at (lit< tt)) in
+    let n = from-between 2 1025 (get_or m n_at 0) (valid-at text m e n_at (lit< tt)) in
     record {
       dx = ltb-true _ _ (valid-at text m e dx_at (lit< tt));
-      tLow = t.0;
-      tHigh = t.1;
-      nLow = n.0;
-      nHigh = n.1;
+      t_low = t.0;
+      t_high = t.1;
+      n_low = n.0;
+      n_high = n.1;
       counter = ltb-true _ _ (valid-at text m e counter_at (lit< tt));
       lingering = (from-between 0 1 (get_or m lingering_at 0) (valid-at text m e lingering_at (lit< tt))).1;
       linger_pass = ltb-true _ _ (valid-at text m e linger_pass_at (lit< tt));

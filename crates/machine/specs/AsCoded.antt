@@ -4,7 +4,7 @@ use Rattle.std.specs.Prelude.{ℕ, ◌+◌, ◌/◌, ◌%◌, ◌^◌, Bool, ◌
 use Rattle.base_lists.specs.Lists.{tabulate}
 use Rattle.layout_old_modes.specs.OldModes.{old_built_modes}
 use Rattle.layout_codes.specs.BuiltCodes.{built_function, old_built_function, built_mode}
-use Rattle.layout.specs.Layout.{generator_words, GMODE, modifier_at, modifier_words, MIN, MRM, MMODE, dx_at, tAt, nAt, counter_at, lingering_at, linger_pass_at, overrun_at, delay_at, delay_words, delay_p, update_ticks_at}
+use Rattle.layout.specs.Layout.{generator_words, GMODE, modifier_at, modifier_words, MIN, MRM, MMODE, dx_at, t_at, n_at, counter_at, lingering_at, linger_pass_at, overrun_at, delay_at, delay_words, delay_p, update_ticks_at}
 use Rattle.layout.specs.Machine.{update_ticks_of}
 use Rattle.layout.specs.Widths.{word_bits, counter_bits, linger_bits}
 use Rattle.layout_texts.specs.declared.Text.{Text}
@@ -57,7 +57,7 @@ modifiers_within text m =
 -- DX, T, N, the counter, lingering, the Linger pass and overrun are within their ranges.
 abbrev pub controls_within : List ℕ → Bool
 controls_within m =
-    bits word_bits (get_or m dx_at 0) && between 1 256 (get_or m tAt 0) && between 2 1025 (get_or m nAt 0) && bits counter_bits (get_or m counter_at 0)
+    bits word_bits (get_or m dx_at 0) && between 1 256 (get_or m t_at 0) && between 2 1025 (get_or m n_at 0) && bits counter_bits (get_or m counter_at 0)
     && leb (get_or m lingering_at 0) 1 && bits linger_bits (get_or m linger_pass_at 0) && leb (get_or m overrun_at 0) 1
 
 -- The words of all delay units, in rows of four units.

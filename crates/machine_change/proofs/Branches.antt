@@ -8,7 +8,7 @@ use borrow.Author.Tests.{eq-eqb, ne_eqb, ltb-true, lt-ltb, le-ltb, leb-true}
 use lib.Dec.{leb, ltb}
 use lib.ListN.{get_or, set}
 use Rattle.base_lists.proofs.Below.{and_first, and_second}
-use Rattle.layout.specs.Layout.{generator_at, tAt, nAt, update_ticks_at, GO, GSUM, GFM, GMODE}
+use Rattle.layout.specs.Layout.{generator_at, t_at, n_at, update_ticks_at, GO, GSUM, GFM, GMODE}
 use Rattle.layout.specs.Machine.{Machine, Reaches, ticks_of, update_ticks, with_update_ticks}
 use Rattle.layout.proofs.UpdateTicks.{ticks-by-t}
 use Rattle.layout_modes.specs.Modes.{built_run, built_oscillator}
@@ -129,6 +129,6 @@ module _ (m : Machine) (kind g v : ℕ) where
       )
 
 -- T and its update ticks.
-pub ticks-set : (m : Machine) (t : ℕ) → Reaches m → {n : ℕ} → n ≡ update_ticks t (get_or m nAt 0) → set (set m tAt t) update_ticks_at n ≡ with_ticks m t
+pub ticks-set : (m : Machine) (t : ℕ) → Reaches m → {n : ℕ} → n ≡ update_ticks t (get_or m n_at 0) → set (set m t_at t) update_ticks_at n ≡ with_ticks m t
 unfolding with_update_ticks
-ticks-set m t r e = ap (set (set m tAt t) update_ticks_at) (e ∙ sym (ticks-by-t m r t))
+ticks-set m t r e = ap (set (set m t_at t) update_ticks_at) (e ∙ sym (ticks-by-t m r t))

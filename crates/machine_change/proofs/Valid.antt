@@ -11,7 +11,7 @@ use lib.Dec.{eqb, leb, ltb, lit<}
 use lib.ListN.{length, get_or, set, length-set}
 use lib.Seq.{get_or-set_same, get_or-set_other}
 use Rattle.base_lists.proofs.Below.{both_ways, and_first, and_second, and_both}
-use Rattle.layout.specs.Layout.{machine_length, generator_at, tAt, update_ticks_at, GO, GSUM, GFM, GMODE}
+use Rattle.layout.specs.Layout.{machine_length, generator_at, t_at, update_ticks_at, GO, GSUM, GFM, GMODE}
 use Rattle.layout.specs.Machine.{Machine, ticks_of}
 use Rattle.layout.proofs.UpdateTicks.{counted-length, counted-other}
 use Rattle.layout_texts.specs.declared.Text.TheVariants.{Of1978}
@@ -39,7 +39,7 @@ module _ (g : ℕ) (l : g < 256) (x : ℕ) where
   unfolding regions
   go-test = rw (zero-add (11 * g + 0)) at (unit-test (regions Of1978) 0 g 0 x l (lit< tt))
 
-ticks-test : (x : ℕ) → test_at (regions Of1978) tAt x ≡ between 1 256 x
+ticks-test : (x : ℕ) → test_at (regions Of1978) t_at x ≡ between 1 256 x
 unfolding regions test_at
 ticks-test x = refl
 
@@ -53,9 +53,9 @@ module _ (m : Machine) (whole : length m ≡ machine_length) (good : valid Of197
 
   ticks-decide : (t : ℕ) → valid Of1978 (with_ticks m t) ≡ between 1 256 t
   ticks-decide t =
-      both_ways (valid Of1978 (with_ticks m t)) (test_at (regions Of1978) tAt t)
-      (λ e. rw (counted-other (set m tAt t) tAt (eqb-false tAt update_ticks_at refl), get_or-set_same m tAt t 0 (omega arith)) at (valid-at Of1978 (with_ticks m t) e tAt (lit< tt)))
-      (λ e. valid-with-ticks Of1978 m good (reaches m whole) tAt t (lit< tt) e)
+      both_ways (valid Of1978 (with_ticks m t)) (test_at (regions Of1978) t_at t)
+      (λ e. rw (counted-other (set m t_at t) t_at (eqb-false t_at update_ticks_at refl), get_or-set_same m t_at t 0 (omega arith)) at (valid-at Of1978 (with_ticks m t) e t_at (lit< tt)))
+      (λ e. valid-with-ticks Of1978 m good (reaches m whole) t_at t (lit< tt) e)
       ∙ ticks-test t
 
   register-decides : (i v : ℕ) → i < 2816 → valid Of1978 (set m i v) ≡ test_at (regions Of1978) i v
@@ -72,7 +72,7 @@ module _ (m : Machine) (whole : length m ≡ machine_length) (good : valid Of197
 
   fewer-decides : between 1 256 (ticks_of m - 1) ≡ ltb 1 (ticks_of m)
   fewer-decides =
-      let high = (valid-controls Of1978 m good).tHigh in
+      let high = (valid-controls Of1978 m good).t_high in
       both_ways (between 1 256 (ticks_of m - 1)) (ltb 1 (ticks_of m))
       (λ e. lt-ltb 1 (ticks_of m) (omega (arith, leb-true 1 (ticks_of m - 1) (and_first (leb 1 (ticks_of m - 1)) (leb (ticks_of m - 1) 256) e))))
       (λ e.
@@ -171,17 +171,17 @@ module _ (m : Machine) (kind g v : ℕ) where
           (cond y (set m (generator_at g + GSUM) v)
           (cond z (set m (generator_at g + GFM) v)
           (set m (generator_at g + GO) (get_or m (generator_at g + GO) 0 / 16 * 16 + v))))))) ≡ length m
-      go true b x y z = counted-length (set m tAt (ticks_of m + 1)) ∙ length-set m tAt (ticks_of m + 1)
-      go false true x y z = counted-length (set m tAt (ticks_of m - 1)) ∙ length-set m tAt (ticks_of m - 1)
+      go true b x y z = counted-length (set m t_at (ticks_of m + 1)) ∙ length-set m t_at (ticks_of m + 1)
+      go false true x y z = counted-length (set m t_at (ticks_of m - 1)) ∙ length-set m t_at (ticks_of m - 1)
       go false false true y z = length-set m (generator_at g + GMODE) v
       go false false false true z = length-set m (generator_at g + GSUM) v
       go false false false false true = length-set m (generator_at g + GFM) v
       go false false false false false = length-set m (generator_at g + GO) (get_or m (generator_at g + GO) 0 / 16 * 16 + v)
 
-  ticks-elsewhere : (t i : ℕ) → (eqb i tAt || eqb i update_ticks_at) ≡ false → get_or (with_ticks m t) i 0 ≡ get_or m i 0
+  ticks-elsewhere : (t i : ℕ) → (eqb i t_at || eqb i update_ticks_at) ≡ false → get_or (with_ticks m t) i 0 ≡ get_or m i 0
   ticks-elsewhere t i e =
-      let none = neither (eqb i tAt) (eqb i update_ticks_at) e in
-      counted-other (set m tAt t) i (eqb-false i update_ticks_at none.1) ∙ get_or-set_other m tAt i t 0 (eqb-false i tAt none.0)
+      let none = neither (eqb i t_at) (eqb i update_ticks_at) e in
+      counted-other (set m t_at t) i (eqb-false i update_ticks_at none.1) ∙ get_or-set_other m t_at i t 0 (eqb-false i t_at none.0)
     where
       neither : (a b : Bool) → (a || b) ≡ false → (a ≡ false) × (b ≡ false)
       neither false false q = (refl, refl)
@@ -194,7 +194,7 @@ module _ (m : Machine) (kind g v : ℕ) where
     where
       go : (a : Bool) → eqb kind 4 ≡ a → (b : Bool) → eqb kind 5 ≡ b → (x : Bool) → eqb kind 0 ≡ x → (y : Bool) → eqb kind 1 ≡ y → (z : Bool) → eqb kind 2 ≡ z → (w : Bool) → eqb kind 3 ≡ w
           → cond x (eqb i (generator_at g + GMODE))
-          (cond y (eqb i (generator_at g + GSUM)) (cond z (eqb i (generator_at g + GFM)) (cond w (eqb i (generator_at g + GO)) (eqb i tAt || eqb i update_ticks_at)))) ≡ false
+          (cond y (eqb i (generator_at g + GSUM)) (cond z (eqb i (generator_at g + GFM)) (cond w (eqb i (generator_at g + GO)) (eqb i t_at || eqb i update_ticks_at)))) ≡ false
           → get_or
           (cond a (with_ticks m (ticks_of m + 1))
           (cond b (with_ticks m (ticks_of m - 1))

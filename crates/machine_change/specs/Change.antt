@@ -1,7 +1,7 @@
 -- A change of one partial (document 02, Q-13): of a generator's GMODE, GSUM, GFM or DAC number, or of T by one.
 -- Assumes nothing.
 use Rattle.std.specs.Prelude.{ℕ, ◌+◌, ◌-◌, ◌*◌, ◌/◌, Bool, true, cond, ◌&&◌, ◌||◌, [], ◌∷◌, eqb, leb, ltb, get_or, set}
-use Rattle.layout.specs.Layout.{generators, dacs, generator_at, tAt, update_ticks_at, GO, GSUM, GFM, GMODE}
+use Rattle.layout.specs.Layout.{generators, dacs, generator_at, t_at, update_ticks_at, GO, GSUM, GFM, GMODE}
 use Rattle.layout.specs.Machine.{Machine, ticks_of, with_update_ticks}
 use Rattle.layout_texts.specs.declared.Text.TheVariants.{Of1978}
 use Rattle.base_questions.specs.Questions.{asked}
@@ -49,7 +49,7 @@ register_changed m c =
 
 -- With another T, and the update ticks of it.
 abbrev pub with_ticks : Machine → ℕ → Machine
-with_ticks m t = with_update_ticks (set m tAt t)
+with_ticks m t = with_update_ticks (set m t_at t)
 
 -- The changed machine.
 unfoldable pub changed_by : Machine → Change → Machine
@@ -75,4 +75,4 @@ is_of c i =
     (cond (eqb c.kind gsum_change) (eqb i (at + GSUM))
     (cond (eqb c.kind gfm_change) (eqb i (at + GFM))
     (cond (eqb c.kind dac_change) (eqb i (at + GO))
-    (eqb i tAt || eqb i update_ticks_at))))
+    (eqb i t_at || eqb i update_ticks_at))))

@@ -9,7 +9,7 @@ use lib.Dec.{lit<}
 use native.Mathlib.Omega.{arith}
 use lib.ListN.{get_or, set, length-set}
 use Rattle.base_lists.specs.Lists.{zeros, count_below, is_one_of}
-use Rattle.layout.specs.Layout.{modifier_at, quadrant_at, delay_at, delay_p, tAt, MMODE}
+use Rattle.layout.specs.Layout.{modifier_at, quadrant_at, delay_at, delay_p, t_at, MMODE}
 use Rattle.layout.specs.Machine.{Machine, Memory, ticks_of, with_update_ticks}
 use Rattle.layout.proofs.UpdateTicks.{counted-length}
 use Rattle.layout_texts.specs.declared.Text.TheVariants.{Of1978}
@@ -46,7 +46,7 @@ use Rattle.pass_delay_laws.proofs.NothingBetween.{alone-runs, alone-writes}
 good : (p : ℕ) → test_at (regions Of1978) (delay_at 0 + delay_p) p ≡ true → Good Of1978 (echo p)
 unfolding echo regions test_at built_function built_functions is_one_of
 good p e =
-    let m = with_update_ticks (set fresh_machine tAt 10) in
+    let m = with_update_ticks (set fresh_machine t_at 10) in
     let m1 = set m (modifier_at 0 + MMODE) (0b00111 * 2 ^ 4) in
     let m2 = set m1 (quadrant_at generator_last) 12345 in
     record {
@@ -54,14 +54,14 @@ good p e =
           length-set m2 (delay_at 0 + delay_p) p
           ∙ length-set m1 (quadrant_at generator_last) 12345
           ∙ length-set m (modifier_at 0 + MMODE) (0b00111 * 2 ^ 4)
-          ∙ counted-length (set fresh_machine tAt 10)
-          ∙ length-set fresh_machine tAt 10
+          ∙ counted-length (set fresh_machine t_at 10)
+          ∙ length-set fresh_machine t_at 10
           ∙ fresh-length;
       is-valid =
           valid-set Of1978 m2
           (valid-set Of1978 m1
           (valid-set Of1978 m
-          (valid-with-ticks Of1978 fresh_machine (fresh-valid Of1978) (reaches fresh_machine fresh-length) tAt 10 (lit< tt) refl)
+          (valid-with-ticks Of1978 fresh_machine (fresh-valid Of1978) (reaches fresh_machine fresh-length) t_at 10 (lit< tt) refl)
           (modifier_at 0 + MMODE) (0b00111 * 2 ^ 4) (single-below (lit< tt)) refl)
           (quadrant_at generator_last) 12345 (single-below (lit< tt)) refl)
           (delay_at 0 + delay_p) p (single-above (lit< tt) (lit< tt)) e;

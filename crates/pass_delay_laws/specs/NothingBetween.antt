@@ -1,7 +1,7 @@
 -- Passes with nothing between them, each on the machine and the delay memory that the one before left; and a machine whose delay unit runs in all of them.
 -- Assumes nothing.
 use Rattle.std.specs.Prelude.{ℕ, ◌+◌, ◌*◌, ◌^◌, set}
-use Rattle.layout.specs.Layout.{modifier_at, quadrant_at, delay_at, delay_p, tAt, MMODE}
+use Rattle.layout.specs.Layout.{modifier_at, quadrant_at, delay_at, delay_p, t_at, MMODE}
 use Rattle.layout.specs.Machine.{Machine, Memory, ticks_of, with_update_ticks}
 use Rattle.layout_texts.specs.declared.Text.TheVariants.{Of1978}
 use Rattle.machine.specs.Questions.{fresh_machine}
@@ -20,4 +20,4 @@ call_in m memory i = call_of (by_number (ticks_of m)) (passes_by_number Of1978 i
 -- T 10. Modifier 0 invokes delay unit 0, in mode p with X, Y and Z 0; its A is word 0 of generator-last, 12,345 in pass 0. All else is as in a fresh machine.
 unfoldable pub echo : ℕ → Machine
 echo p =
-    set (set (set (with_update_ticks (set fresh_machine tAt 10)) (modifier_at 0 + MMODE) (0b00111 * 2 ^ 4)) (quadrant_at generator_last) 12345) (delay_at 0 + delay_p) p
+    set (set (set (with_update_ticks (set fresh_machine t_at 10)) (modifier_at 0 + MMODE) (0b00111 * 2 ^ 4)) (quadrant_at generator_last) 12345) (delay_at 0 + delay_p) p

@@ -30,7 +30,7 @@ use Rattle.delay.proofs.Low.{WordsLow, loaded-ranged, turn-ranged}
 use Rattle.delay_questions.specs.Questions.{delay_of}
 use Rattle.pass_model.specs.Modifiers.{early_view, late_view, turn_seen, modifier_of, Held, delayed, modify, modified, modified_by}
 use Rattle.pass_model.specs.Pass.{counted, completed}
-use Rattle.pass_model.proofs.Delays.{words-by, yOf, z_of}
+use Rattle.pass_model.proofs.Delays.{words-by, y_of, z_of}
 use Rattle.pass_model.proofs.Modifiers.{Elsewhere, turn-seen-low, words-length, memory-length, memory-low, words-kept, words-between, units-within, this-length, this-low}
 use Rattle.pass_laws.proofs.ValidPuts.{valid-modifier-put, valid-delay-put, valid-counted, valid-closed}
 
@@ -109,7 +109,7 @@ module _ (text : Text) (t : ℕ) (h : Held) (s : Sums) where
     completed-word i a o c = completed-by i o c ∙ words-kept text t h s (t / 2) i a
 
     -- Y of a delay unit stays at most Z.
-    pub completed-within : t ≤ 256 → (u : ℕ) → u < 32 → delay_at 32 ≤ length h.words → yOf h.words u ≤ z_of h.words u → yOf (completed text t h s).words u ≤ z_of h.words u
+    pub completed-within : t ≤ 256 → (u : ℕ) → u < 32 → delay_at 32 ≤ length h.words → y_of h.words u ≤ z_of h.words u → y_of (completed text t h s).words u ≤ z_of h.words u
     completed-within b u l r e =
         rw (completed-by (delay_at u + delay_y) (outside-after (delay_at u + delay_y) 3840 256 (omega arith)) (λ q. omega arith))
         (units-within text t h s (t / 2) u (omega arith) l r e)

@@ -10,7 +10,7 @@ use lib.ListN.{length, get_or, set, drop}
 use lib.Seq.{get_or-drop, get_or-set_other}
 use Rattle.base_lists.specs.Lists.{all_below}
 use Rattle.base_lists.proofs.Below.{below-same}
-use Rattle.layout.specs.Layout.{modifier_at, tAt, MRM, MMODE, delay_at, delay_words, delay_x, delay_y, delay_z, delay_p}
+use Rattle.layout.specs.Layout.{modifier_at, t_at, MRM, MMODE, delay_at, delay_words, delay_x, delay_y, delay_z, delay_p}
 use Rattle.layout.specs.Machine.{Machine, ticks_of}
 use Rattle.layout_texts.specs.declared.Text.{Text}
 use Rattle.layout_texts.specs.declared.Text.TheVariants.{Of1978, Old}
@@ -24,7 +24,7 @@ use Rattle.delay_questions.proofs.Kept.{SameModifiers, fits_kept, named-once-sam
 use Rattle.delay_questions.proofs.Memory.{good_length, good-words, good-from}
 use Rattle.pass_model.specs.Generators.{generators_of, begun}
 use Rattle.pass_model.specs.Pass.{unit_questions, Call, Outcome, ran, pass_of}
-use Rattle.pass_model.proofs.Delays.{yOf, z_of, y-is, z-is}
+use Rattle.pass_model.proofs.Delays.{y_of, z_of, y-is, z-is}
 use Rattle.pass_laws.proofs.Frames.{steps-length, steps-beyond, steps-quadrants}
 use Rattle.pass_laws.proofs.TextTurns.{sixteen}
 use Rattle.pass_laws.proofs.Passing.{Admitted, generators_done, held_then, begun-words, begun-sums, admitted, pass-by, refused-machine, refused-memory, ran-machine, ran-memory}
@@ -56,7 +56,7 @@ p-same m n u e = rw (get_or-drop (delay_at u) n delay_p 0, get_or-drop (delay_at
 
 module _ (text : Text) (m : Machine) (call : Call) where
   -- Y of a delay unit stays at most Z.
-  ran-within : Admitted text m call.order → (u : ℕ) → u < 32 → yOf m u ≤ z_of m u → yOf (ran text m call).machine u ≤ z_of m u
+  ran-within : Admitted text m call.order → (u : ℕ) → u < 32 → y_of m u ≤ z_of m u → y_of (ran text m call).machine u ≤ z_of m u
   ran-within p u l e =
       let start = begun m (sums_of m) call.places in
       let h = held_then text m call in
@@ -71,8 +71,8 @@ module _ (text : Text) (m : Machine) (call : Call) where
       rw (ran-machine text m call)
       (omega (arith, same, completed-within text (ticks_of m) h (generators_done text m call).sums k p.ticks u l (omega (arith, long, p.good.whole)) (rw (y, z) e)))
 
-  within : (u : ℕ) → u < 32 → yOf m u ≤ z_of m u → yOf (pass_of text m call).machine u ≤ z_of m u
-  within u l e = pass-by text m call (λ (r : Outcome). yOf r.machine u ≤ z_of m u) (rw (refused-machine text m call) e) (λ n. ran-within (admitted text m call n) u l e)
+  within : (u : ℕ) → u < 32 → y_of m u ≤ z_of m u → y_of (pass_of text m call).machine u ≤ z_of m u
+  within u l e = pass-by text m call (λ (r : Outcome). y_of r.machine u ≤ z_of m u) (rw (refused-machine text m call) e) (λ n. ran-within (admitted text m call n) u l e)
 
   -- A line that fits still fits after a pass.
   unit-fits : (u : ℕ) → u < 32 → fits (delay_of m u) ≡ true → fits (delay_of (pass_of text m call).machine u) ≡ true
@@ -124,7 +124,7 @@ unit-same m n u same =
     at j h = get_or-drop (delay_at u) n j 0 ∙ same j h ∙ sym (get_or-drop (delay_at u) m j 0)
 
 -- A word between the modifiers and the delay units that is not T has no say in what a text asks of the delay units.
-pub units-set : (text : Text) (m : Machine) (i v : ℕ) → ticks_of m ≤ 256 → 3840 ≤ i → i < delay_at 0 → tAt ≢ i
+pub units-set : (text : Text) (m : Machine) (i v : ℕ) → ticks_of m ≤ 256 → 3840 ≤ i → i < delay_at 0 → t_at ≢ i
     → asked (unit_questions text (set m i v)) ≡ asked (unit_questions text m)
 unfolding asked lines_good
 units-set Of1978 m i v few l h n = rw (lines, named-once-same m (set m i v) same)
@@ -133,11 +133,11 @@ units-set Of1978 m i v few l h n = rw (lines, named-once-same m (set m i v) same
     other j e = get_or-set_other m i j v 0 e
 
     same : SameModifiers m (set m i v)
-    same = record { ticks = other tAt n; mrm = λ k a. other (modifier_at k + MRM) (λ e. omega arith); mmode = λ k a. other (modifier_at k + MMODE) (λ e. omega arith) }
+    same = record { ticks = other t_at n; mrm = λ k a. other (modifier_at k + MRM) (λ e. omega arith); mmode = λ k a. other (modifier_at k + MMODE) (λ e. omega arith) }
 
     unit : (u : ℕ) → delay_of (set m i v) u ≡ delay_of m u
     unit u = unit-same m (set m i v) u (λ j a. other (delay_at u + j) (λ e. omega arith))
 
     lines : all_below (good_line (set m i v)) (ticks_of (set m i v) / 2) ≡ all_below (good_line m) (ticks_of m / 2)
-    lines = rw (other tAt n) (below-same (good_line (set m i v)) (good_line m) (ticks_of m / 2) (λ k a. good-line-same m (set m i v) same k a (rw (unit (named_by m k))) (rw (unit (named_by m k)))))
+    lines = rw (other t_at n) (below-same (good_line (set m i v)) (good_line m) (ticks_of m / 2) (λ k a. good-line-same m (set m i v) same k a (rw (unit (named_by m k))) (rw (unit (named_by m k)))))
 units-set Old m i v few l h n = refl

@@ -8,7 +8,7 @@ use lib.Dec.{eqb}
 use lib.ListN.{set}
 use lib.Seq.{get_or-set_other}
 use Rattle.base_lists.proofs.Counts.{count-below-same}
-use Rattle.layout.specs.Layout.{generator_at, tAt, GN, GMODE}
+use Rattle.layout.specs.Layout.{generator_at, t_at, GN, GMODE}
 use Rattle.layout.specs.Machine.{Machine, ticks_of}
 use Rattle.layout_texts.specs.Texts.{run_mode_at}
 use Rattle.layout_texts.specs.declared.Text.{Text}
@@ -31,8 +31,8 @@ pass-modes text m call mode few n c =
     same-modes text m (pass_of text m call).machine mode kept.t (λ g h. (kept.generator g (omega arith)).gmode_other mode n c)
 
 -- After a word that is not T and no generator's is set.
-pub set-modes : (text : Text) (m : Machine) (i v mode : ℕ) → ticks_of m ≤ 256 → 2816 ≤ i → i ≢ tAt → in_mode text (set m i v) mode ≡ in_mode text m mode
+pub set-modes : (text : Text) (m : Machine) (i v mode : ℕ) → ticks_of m ≤ 256 → 2816 ≤ i → i ≢ t_at → in_mode text (set m i v) mode ≡ in_mode text m mode
 set-modes text m i v mode few h n =
-    same-modes text m (set m i v) mode (get_or-set_other m i tAt v 0 (λ e. n (sym e)))
+    same-modes text m (set m i v) mode (get_or-set_other m i t_at v 0 (λ e. n (sym e)))
     (λ g l. ap (λ (x : ℕ). eqb x mode)
     (same-run text m (set m i v) g (get_or-set_other m i (generator_at g + GMODE) v 0 (λ e. omega arith)) (get_or-set_other m i (generator_at g + GN) v 0 (λ e. omega arith))))

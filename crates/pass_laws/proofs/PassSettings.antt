@@ -9,7 +9,7 @@ use native.Mathlib.Nat.{add-zero}
 use borrow.Author.Tests.{eqb-true, eqb-false, ltb-true}
 use lib.Dec.{eqb, ltb, lit<, lit≤}
 use lib.ListN.{length, get_or}
-use Rattle.layout.specs.Layout.{generator_at, modifier_at, dx_at, tAt, nAt, update_ticks_at, counter_at, lingering_at, linger_pass_at, overrun_at, delay_at, delay_x, delay_y, delay_z, delay_p, GN, GMODE}
+use Rattle.layout.specs.Layout.{generator_at, modifier_at, dx_at, t_at, n_at, update_ticks_at, counter_at, lingering_at, linger_pass_at, overrun_at, delay_at, delay_x, delay_y, delay_z, delay_p, GN, GMODE}
 use Rattle.machine.specs.Questions.{valid}
 use Rattle.machine.proofs.ValidMachine.{reaches}
 use Rattle.layout.specs.Machine.{Machine, Order, Items, ticks_of}
@@ -172,8 +172,8 @@ module _ (text : Text) (m : Machine) (call : Call) (p : Admitted text m call.ord
               p = unit-word u delay_p h (lit< tt) (eqb-false delay_p delay_y refl);
             };
         dx = control-word dx_at (lit≤ tt) (lit< tt) (eqb-false dx_at counter_at refl);
-        t = control-word tAt (lit≤ tt) (lit< tt) (eqb-false tAt counter_at refl);
-        n = control-word nAt (lit≤ tt) (lit< tt) (eqb-false nAt counter_at refl);
+        t = control-word t_at (lit≤ tt) (lit< tt) (eqb-false t_at counter_at refl);
+        n = control-word n_at (lit≤ tt) (lit< tt) (eqb-false n_at counter_at refl);
         update_ticks = beyond-word update_ticks_at (lit≤ tt) (off-past update_ticks_at (lit≤ tt)) (eqb-false update_ticks_at counter_at refl);
         lingering = control-word lingering_at (lit≤ tt) (lit< tt) (eqb-false lingering_at counter_at refl);
         linger_pass = control-word linger_pass_at (lit≤ tt) (lit< tt) (eqb-false linger_pass_at counter_at refl);

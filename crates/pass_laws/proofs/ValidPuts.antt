@@ -11,7 +11,7 @@ use lib.Dec.{ltb, lit<, lit≤}
 use lib.ListN.{length, get_or, set}
 use lib.Pow.{pow_pos}
 use lib.Seq.{get_or-drop}
-use Rattle.layout.specs.Layout.{generator_at, modifier_at, quadrant_at, dac_at, tAt, nAt, counter_at, update_ticks_at, delay_at, delay_y, delay_first, delay_second, delay_third, GJ, GK, GQ, GMODE, M1, L0, L1}
+use Rattle.layout.specs.Layout.{generator_at, modifier_at, quadrant_at, dac_at, t_at, n_at, counter_at, update_ticks_at, delay_at, delay_y, delay_first, delay_second, delay_third, GJ, GK, GQ, GMODE, M1, L0, L1}
 use Rattle.machine.specs.Questions.{good_gmode, regions, test_at, valid}
 use Rattle.machine.proofs.Regions.{region, start, unit-test}
 use Rattle.machine.proofs.ValidMachine.{Single, single-below, single-above, valid-at, valid-ticks, valid-from, valid-set, valid-generator}
@@ -105,8 +105,8 @@ valid-closed text m s e r k low₀ low₂ =
     ticks =
         rw (
           closed-outside m s k update_ticks_at (outside-after update_ticks_at 3840 256 (lit≤ tt)),
-          closed-outside m s k tAt (outside-after tAt 3840 256 (lit≤ tt)),
-          closed-outside m s k nAt (outside-after nAt 3840 256 (lit≤ tt)),
+          closed-outside m s k t_at (outside-after t_at 3840 256 (lit≤ tt)),
+          closed-outside m s k n_at (outside-after n_at 3840 256 (lit≤ tt)),
         )
         (valid-ticks text m e)
 

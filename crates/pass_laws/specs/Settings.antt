@@ -1,7 +1,7 @@
 -- What a pass leaves of a machine as it was (document 01, "A pass, and two orders of it").
 -- Assumes nothing.
 use Rattle.std.specs.Prelude.{◌≢◌, ◌≡◌, ℕ, ◌+◌, ◌<◌, eqb, get_or}
-use Rattle.layout.specs.Layout.{generator_at, modifier_at, dx_at, tAt, nAt, lingering_at, linger_pass_at, overrun_at, update_ticks_at, delay_at, delay_x, delay_z, delay_p, GN, GM, GP, GL, GSUM, GFM, GMODE, MIN, MRM, MSUM, MMODE}
+use Rattle.layout.specs.Layout.{generator_at, modifier_at, dx_at, t_at, n_at, lingering_at, linger_pass_at, overrun_at, update_ticks_at, delay_at, delay_x, delay_z, delay_p, GN, GM, GP, GL, GSUM, GFM, GMODE, MIN, MRM, MSUM, MMODE}
 use Rattle.layout.specs.Machine.{Machine}
 use Rattle.layout_texts.specs.Texts.{run_mode_at, other_modes_at}
 use Rattle.layout_texts.specs.declared.Text.{Text}
@@ -40,8 +40,8 @@ pub record SettingsKept (text : Text) (m r : Machine) : Type 0 where
   pub modifier : (k : ℕ) → k < 128 → ModifierKept m r k
   pub delay : (u : ℕ) → u < 32 → DelayKept m r u
   pub dx : get_or r dx_at 0 ≡ get_or m dx_at 0
-  pub t : get_or r tAt 0 ≡ get_or m tAt 0
-  pub n : get_or r nAt 0 ≡ get_or m nAt 0
+  pub t : get_or r t_at 0 ≡ get_or m t_at 0
+  pub n : get_or r n_at 0 ≡ get_or m n_at 0
   pub update_ticks : get_or r update_ticks_at 0 ≡ get_or m update_ticks_at 0
   pub lingering : get_or r lingering_at 0 ≡ get_or m lingering_at 0
   pub linger_pass : get_or r linger_pass_at 0 ≡ get_or m linger_pass_at 0

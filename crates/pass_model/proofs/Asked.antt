@@ -32,7 +32,7 @@ module _ (text : Text) (m order : List ℕ) (whole : asked (question1 m ∷ ques
   is_whole = (machine-passes text m whole).0
 
   pub few-ticks : ticks_of m ≤ 256
-  few-ticks = (valid-controls text m is-valid).tHigh
+  few-ticks = (valid-controls text m is-valid).t_high
 
   -- The entries of an order that passes its questions are numbers of generators.
   pub entries_below : asked (question5 (ticks_of m) order ∷ question6 (ticks_of m) order ∷ []) ≡ 0 → (i : ℕ) → i < length order → get_or order i 0 < 256

@@ -64,13 +64,13 @@ module _ (m : Machine) (at : ℕ) (d : Delay) where
       ∙ get_or-set_same m (at + delay_y) d.y 0 h
 
 -- Y and Z of a unit in a machine's words, at their widths.
-abbrev pub yOf : Machine → ℕ → ℕ
-yOf m u = get_or m (delay_at u + delay_y) 0 % 2 ^ 16
+abbrev pub y_of : Machine → ℕ → ℕ
+y_of m u = get_or m (delay_at u + delay_y) 0 % 2 ^ 16
 
 abbrev pub z_of : Machine → ℕ → ℕ
 z_of m u = get_or m (delay_at u + delay_z) 0 % 2 ^ 16
 
-pub y-is : (m : Machine) (u : ℕ) → (delay_of m u).y ≡ yOf m u
+pub y-is : (m : Machine) (u : ℕ) → (delay_of m u).y ≡ y_of m u
 unfolding loaded
 y-is m u = rw (get_or-drop (delay_at u) m delay_y 0)
 
@@ -117,17 +117,17 @@ module _ (text : Text) (t : ℕ) (h : Held) (u : Modifier) (w : ℕ) where
   delayed-memory-low b low = memory-by WordsLow low (memory-low unit h.memory w low b)
 
   -- Y of a unit stays at most Z.
-  pub delayed-within : (v : ℕ) → v < 32 → delay_at v + delay_y < length h.words → yOf h.words v ≤ z_of h.words v
-      → yOf (delayed text t h u w).words v ≤ z_of h.words v
-  delayed-within v l inside e = words-by (λ m. yOf m v ≤ z_of h.words v) e (own (eqb v (unit_of u)) refl)
+  pub delayed-within : (v : ℕ) → v < 32 → delay_at v + delay_y < length h.words → y_of h.words v ≤ z_of h.words v
+      → y_of (delayed text t h u w).words v ≤ z_of h.words v
+  delayed-within v l inside e = words-by (λ m. y_of m v ≤ z_of h.words v) e (own (eqb v (unit_of u)) refl)
     where
       after : Delay
       after = (delay_turn_of unit h.memory w).unit
 
-      own : (b : Bool) → eqb v (unit_of u) ≡ b → yOf put v ≤ z_of h.words v
+      own : (b : Bool) → eqb v (unit_of u) ≡ b → y_of put v ≤ z_of h.words v
       own true q =
           let p : v ≡ unit_of u = eqb-true v (unit_of u) q in
-          let e' : yOf h.words (unit_of u) ≤ z_of h.words (unit_of u) = rw p at e in
+          let e' : y_of h.words (unit_of u) ≤ z_of h.words (unit_of u) = rw p at e in
           let within : after.y ≤ unit.z = y-within unit h.memory w (omega (arith, y-is h.words (unit_of u), z-is h.words (unit_of u), e')) in
           let y : get_or put (delay_at v + delay_y) 0 ≡ after.y = rw p (stored-y h.words (delay_at (unit_of u)) after (omega (arith, p, inside))) in
           let z : unit.z ≡ z_of h.words v = rw p (z-is h.words (unit_of u)) in

@@ -22,7 +22,7 @@ use Rattle.pass_sums.proofs.Blocks.{Outside, get_d-outside}
 use Rattle.pass_model.specs.Modifiers.{with_writes, early_view, late_view, modifier_turn, turn_seen, modifier_of, Held, delayed, modify, modified, modified_by}
 use Rattle.pass_model.proofs.Registers.{registers, four, put_is}
 use Rattle.pass_model.proofs.Views.{writes-snoc, writes-length, write_low, seen_low, beside-low}
-use Rattle.pass_model.proofs.Delays.{OffUnits, off-below, off-setting, yOf, z_of, delayed-length, delayed-kept, delayed-memory-length, delayed-memory-low, delayed-within}
+use Rattle.pass_model.proofs.Delays.{OffUnits, off-below, off-setting, y_of, z_of, delayed-length, delayed-kept, delayed-memory-length, delayed-memory-low, delayed-within}
 
 -- What a turn gives is within its widths; and of a modifier of a machine, whatever stands in it.
 modifier-turn-low : (text : Text) (u : Modifier) (a b : ℕ) → Ranged u → a < 2 ^ 20 → b < 2 ^ 20 → Low (modifier_turn text u a b)
@@ -123,7 +123,7 @@ module _ (text : Text) (t : ℕ) (h : Held) (s : Sums) where
   unit-setting n u j b l c d = words-kept n (delay_at u + j) (record { not_at = λ k i a e f. omega arith; units = off-setting u j l c d })
 
   -- Y of a delay unit stays at most Z.
-  pub units-within : (n u : ℕ) → n ≤ 128 → u < 32 → delay_at 32 ≤ length h.words → yOf h.words u ≤ z_of h.words u → yOf (words_at text t h s n) u ≤ z_of h.words u
+  pub units-within : (n u : ℕ) → n ≤ 128 → u < 32 → delay_at 32 ≤ length h.words → y_of h.words u ≤ z_of h.words u → y_of (words_at text t h s n) u ≤ z_of h.words u
   units-within zero u b l r e = rw (words_at, none-taken text t h s) e
   units-within (suc n) u b l r e =
       let a = taken text t h s n in

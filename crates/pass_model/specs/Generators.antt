@@ -5,8 +5,8 @@ use Rattle.base_lists.specs.Lists.{zeros}
 use Rattle.base_words.specs.Words.{sum}
 use Rattle.layout_modes.specs.Modes.{adds, replaces, write_data, write_dac}
 use Rattle.generator.specs.declared.Generator.{Generator}
-use Rattle.generator.specs.Generator.{loaded, stored, run_mode, pOf, triggers, after}
-use Rattle.generator_old.specs.OldGenerator.{switched_mode, switched, eOf, old_p, old_after}
+use Rattle.generator.specs.Generator.{loaded, stored, run_mode, p_of, triggers, after}
+use Rattle.generator_old.specs.OldGenerator.{switched_mode, switched, e_of, old_p, old_after}
 use Rattle.layout.specs.Layout.{generator_at, dac_at}
 use Rattle.layout.specs.Machine.{Machine, Order, Items, Places, Sums}
 use Rattle.layout_texts.specs.declared.Text.{Text}
@@ -47,7 +47,7 @@ turn1978 words sums g triggered_below =
     record {
       unit = after u f triggered_below;
       triggers = triggers u;
-      p = pOf u f;
+      p = p_of u f;
       adds = adds (run_mode u);
       replaces = replaces (run_mode u);
       word = u.gsum;
@@ -69,7 +69,7 @@ turn_old words sums g triggered_below =
       adds = adds (switched_mode u);
       replaces = replaces (switched_mode u);
       word = u.gsum;
-      sends = eOf u f;
+      sends = e_of u f;
       feeds = eqb (switched_mode u) write_dac;
       dac = u.gn % 2 ^ 4;
       writes = eqb (switched_mode u) write_data;

@@ -10,7 +10,7 @@ use borrow.Author.Tests.{eqb-true, eqb-false, ne_eqb}
 use lib.Dec.{eqb}
 use lib.ListN.{length, get_or, set}
 use lib.Seq.{get_or-set_other}
-use Rattle.layout.specs.Layout.{lingering_at, tAt, generator_at, GSUM, GFM, GMODE, GN}
+use Rattle.layout.specs.Layout.{lingering_at, t_at, generator_at, GSUM, GFM, GMODE, GN}
 use Rattle.layout.specs.Machine.{Machine, Order, Memory, ticks_of}
 use Rattle.layout_texts.specs.declared.Text.{Text}
 use Rattle.layout_texts.specs.declared.Text.TheVariants.{Of1978, Old}
@@ -53,7 +53,7 @@ module _ (m : Machine) where
   ended-settings : (text : Text) → SameSettings text m ended
   ended-settings text =
       record {
-        ticks = sym (get_or-set_other m lingering_at tAt 0 0 (eqb-false tAt lingering_at refl));
+        ticks = sym (get_or-set_other m lingering_at t_at 0 0 (eqb-false t_at lingering_at refl));
         modes = λ g h. kept (generator_at g + GMODE) (omega arith);
         words = λ g h. kept (generator_at g + GSUM) (omega arith);
         inputs = λ g h. kept (generator_at g + GFM) (omega arith);

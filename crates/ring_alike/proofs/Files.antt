@@ -7,7 +7,7 @@ use Prim.Native.Nat.{ℕ, ◌<◌}
 use borrow.Author.Tests.{eq-eqb}
 use lib.Dec.{eqb}
 use lib.ListN.{length, get_or}
-use Rattle.layout.specs.Layout.{nAt}
+use Rattle.layout.specs.Layout.{n_at}
 use Rattle.layout.specs.Machine.{ticks_of}
 use Rattle.base_questions.specs.Questions.{asked}
 use Rattle.machine.specs.Questions.{question1, question2}
@@ -51,7 +51,7 @@ module _ (by₁ by₂ : By) (f₁ f₂ file : List ℕ) (q₁ : order_refusal by
       let m = (file_of file).machine in
       let first = asked (question1 m ∷ question2 (text_of (file_of file).title) m ∷ []) in
       rw (eq-eqb (order_refusal by₁ f₁) 0 q₁, eq-eqb (order_refusal by₂ f₂) 0 q₂)
-      (ap (λ (h : Heard). cond (eqb (file_refusal file) 0) (cond (eqb first 0) (sound_written (get_or m nAt 0) h) (silent (refusal_line first))) (silent (refusal_line (file_refusal file)))) e)
+      (ap (λ (h : Heard). cond (eqb (file_refusal file) 0) (cond (eqb first 0) (sound_written (get_or m n_at 0) h) (silent (refusal_line first))) (silent (refusal_line (file_refusal file)))) e)
 
 rung-alike : (by₁ by₂ : By) (f₁ f₂ file : List ℕ) → let text = text_of (file_of file).title in
     let m = (file_of file).machine in

@@ -5,7 +5,7 @@ use mathlib.Core.Bool.{Bool}
 use Prim.Native.Nat.{ℕ, zero, suc, ◌+◌, ◌≤◌, ◌<◌}
 use native.Mathlib.Omega.{arith}
 use lib.Dec.{eqb, ltb, lit<}
-use Rattle.layout.specs.Layout.{generator_at, nAt, tAt, dx_at, counter_at, GMODE, MMODE, update_ticks_at}
+use Rattle.layout.specs.Layout.{generator_at, n_at, t_at, dx_at, counter_at, GMODE, MMODE, update_ticks_at}
 use Rattle.layout.specs.Machine.{Machine, with_update_ticks}
 use Rattle.layout_texts.specs.Texts.{run_mode_at}
 use Rattle.layout_texts.specs.declared.Text.TheVariants.{Of1978}
@@ -122,7 +122,7 @@ cleared-counter s k = put s counter_at k
 
 update-ticks-same : {m n : Machine} → SameButHigh m n → SameButHigh (with_update_ticks m) (with_update_ticks n)
 unfolding with_update_ticks
-update-ticks-same s = rw (below s tAt (lit< tt), below s nAt (lit< tt)) (put s update_ticks_at _)
+update-ticks-same s = rw (below s t_at (lit< tt), below s n_at (lit< tt)) (put s update_ticks_at _)
 
 module _ {m n : Machine} (s : SameButHigh m n) (c : ℕ) where
   timed-same : SameButHigh (timed m c) (timed n c)

@@ -67,7 +67,7 @@ completed-from text {t} {u} e {h} {k} same {s} {r} f few inside = rw (e, f) (com
 
 module _ (text : Text) (m n : Machine) (same : SameButHigh m n) (first : Good text m) (second : Good text n) (call : Call) where
   few : ticks_of m ≤ 256
-  few = (valid-controls text m first.is-valid).tHigh
+  few = (valid-controls text m first.is-valid).t_high
 
   refusal-same : pass_refusal text m call ≡ pass_refusal text n call
   unfolding pass_refusal asked

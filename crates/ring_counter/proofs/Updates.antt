@@ -6,7 +6,7 @@ use mathlib.Core.List.{[], ◌∷◌}
 use Prim.Native.Nat.{ℕ, zero, suc}
 use lib.Dec.{eqb, lit<}
 use lib.ListN.{set}
-use Rattle.layout.specs.Layout.{lingering_at, linger_pass_at, tAt, nAt}
+use Rattle.layout.specs.Layout.{lingering_at, linger_pass_at, t_at, n_at}
 use Rattle.layout.specs.Machine.{Machine, Commands}
 use Rattle.layout_texts.specs.declared.Text.TheVariants.{Of1978}
 use Rattle.command_built.specs.Built.{command_refusal}
@@ -48,5 +48,5 @@ taken-alike (suc k) m n s (c ∷ cs) =
 pub updated-alike : (m n : Machine) → SameButHigh m n → Good Of1978 m → Good Of1978 n → (cs : Commands) → UpdatedAlike (update_of m cs) (update_of n cs)
 unfolding update_of
 updated-alike m n s first second cs =
-    rw (good-passes Of1978 m first, good-passes Of1978 n second, still-same s, below s tAt (lit< tt), below s nAt (lit< tt))
+    rw (good-passes Of1978 m first, good-passes Of1978 n second, still-same s, below s t_at (lit< tt), below s n_at (lit< tt))
     (either-alike (still_lingering n) (outcome-alike s 0 cs) (taken-alike _ (set m lingering_at 0) (set n lingering_at 0) (put s lingering_at 0) cs))

@@ -11,7 +11,7 @@ use lib.Dec.{lit<, lit≤}
 use lib.ListN.{length, get_or, set, drop, length-set}
 use lib.Seq.{get_or-drop, get_or-set_same, get_or-set_other, ext_get_or, sets}
 use Rattle.base_words.proofs.Residues.{wrapped}
-use Rattle.layout.specs.Layout.{quadrant_at, counter_at, modifier_at, delay_at, generator_at, tAt}
+use Rattle.layout.specs.Layout.{quadrant_at, counter_at, modifier_at, delay_at, generator_at, t_at}
 use Rattle.layout.specs.Machine.{Machine, low_counter, ticks_of}
 use Rattle.layout.specs.Widths.{counter_bits, linger_bits}
 use Rattle.layout_texts.specs.declared.Text.{Text}
@@ -88,7 +88,7 @@ module _ {m n : Machine} (s : SameButHigh m n) where
   past i h = s.others i (λ e. omega arith)
 
   pub same-ticks : ticks_of m ≡ ticks_of n
-  same-ticks = below tAt (lit< tt)
+  same-ticks = below t_at (lit< tt)
 
   pub generator : (g : ℕ) → g < 256 → generator_of m g ≡ generator_of n g
   generator g h = same-generator m n g (λ j l. below (generator_at g + j) (omega arith))

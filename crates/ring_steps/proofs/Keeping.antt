@@ -10,7 +10,7 @@ use borrow.Author.Tests.{eqb-true, eqb-false}
 use lib.Dec.{eqb, lit≤, lit<}
 use lib.ListN.{length}
 use lib.Seq.{get_or-set_other}
-use Rattle.layout.specs.Layout.{tAt, lingering_at}
+use Rattle.layout.specs.Layout.{t_at, lingering_at}
 use Rattle.layout.specs.Machine.{Machine, Memory, Commands, ticks_of}
 use Rattle.layout_texts.specs.declared.Text.{Text}
 use Rattle.base_questions.specs.Questions.{asked}
@@ -70,7 +70,7 @@ module _ (text : Text) (by : Ordering) (m : Machine) (memory : Memory) (n : (pas
   ticks-last = (pass-settings text m (bench_call by m memory)).t
 
   few-last : ticks_of last ≤ 256
-  few-last = (valid-controls text last good-last.is-valid).tHigh
+  few-last = (valid-controls text last good-last.is-valid).t_high
 
   -- It has no generator that reads or writes data below T.
   same-mode : (mode : ℕ) → eqb mode wait ≡ false → eqb mode running_c ≡ false → in_mode text m mode ≤ 0 → in_mode text last mode ≤ 0
@@ -93,16 +93,16 @@ module _ (text : Text) (by : Ordering) (m : Machine) (memory : Memory) (n : (pas
 
     then-ticks : taken_after text last cs ≡ 0 → ticks_of then ≡ ticks_of m
     then-ticks e =
-        none_after text (λ l. ticks_of l ≡ ticks_of m) last cs e ticks-last (get_or-set_other last lingering_at tAt 0 0 (eqb-false tAt lingering_at refl) ∙ ticks-last)
+        none_after text (λ l. ticks_of l ≡ ticks_of m) last cs e ticks-last (get_or-set_other last lingering_at t_at 0 0 (eqb-false t_at lingering_at refl) ∙ ticks-last)
 
     then-mode : (mode : ℕ) → taken_after text last cs ≡ 0 → in_mode text last mode ≤ 0 → in_mode text then mode ≤ 0
     then-mode mode e h =
         none_after text (λ l. in_mode text l mode ≤ 0) last cs e h
-        (omega (arith, set-modes text last lingering_at 0 mode few-last (lit≤ tt) (eqb-false lingering_at tAt refl)))
+        (omega (arith, set-modes text last lingering_at 0 mode few-last (lit≤ tt) (eqb-false lingering_at t_at refl)))
 
     then-units : taken_after text last cs ≡ 0 → asked (unit_questions text then) ≡ 0
     then-units e =
-        none_after text (λ l. asked (unit_questions text l) ≡ 0) last cs e units-last (rw (units-set text last lingering_at 0 few-last (lit≤ tt) (lit< tt) (eqb-false tAt lingering_at refl)) units-last)
+        none_after text (λ l. asked (unit_questions text l) ≡ 0) last cs e units-last (rw (units-set text last lingering_at 0 few-last (lit≤ tt) (lit< tt) (eqb-false t_at lingering_at refl)) units-last)
 
     -- Its order is as before, since T is.
     then-ordered : taken_after text last cs ≡ 0 → order_asked by then ≡ 0

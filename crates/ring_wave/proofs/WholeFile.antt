@@ -11,7 +11,7 @@ use lib.Dec.{eqb}
 use lib.ListN.{length, get_or, take}
 use lib.Seq.{sets}
 use Rattle.base_lists.proofs.Choices.{of-cond}
-use Rattle.layout.specs.Layout.{nAt, generators}
+use Rattle.layout.specs.Layout.{n_at, generators}
 use Rattle.layout.specs.Machine.{Machine, Memory, Commands, ticks_of}
 use Rattle.layout_texts.specs.declared.Text.{Text}
 use Rattle.base_questions.specs.Questions.{asked}
@@ -66,7 +66,7 @@ module _ (text : Text) (by : Ordering) (passes : ℕ) (m : Machine) (memory : Me
   unfolding sounded_from
   from_first h = rw (ne_eqb first 0 h)
 
-  from-heard : first ≡ 0 → all ≡ sound_written (get_or m nAt 0) (heard text by passes m memory commands)
+  from-heard : first ≡ 0 → all ≡ sound_written (get_or m n_at 0) (heard text by passes m memory commands)
   unfolding sounded_from
   from-heard z = rw (eq-eqb first 0 z)
 
@@ -77,11 +77,11 @@ module _ (text : Text) (by : Ordering) (passes : ℕ) (m : Machine) (memory : Me
       rw (from_first (λ z. h (e ∙ z))) (refl, (refl, (put.0 ∙ ap length q, line-part n line long put ∙ q)))
 
   pub writes-sound : {number size : ℕ} (line out : List ℕ) {error : ℕ} {line' : List ℕ} → length line ≡ line_bytes → first ≡ 0
-      → let h = heard text by passes m memory commands in (number ≡ h.number) × ((size ≡ length (wave_file (get_or m nAt 0) h)) × (take size out ≡ wave_file (get_or m nAt 0) h))
+      → let h = heard text by passes m memory commands in (number ≡ h.number) × ((size ≡ length (wave_file (get_or m n_at 0) h)) × (take size out ≡ wave_file (get_or m n_at 0) h))
       → (error ≡ length (refusals_line number 0)) × (line' ≡ sets line 0 (refusals_line number 0)) → Writes size out error line'
   writes-sound {number} line out long z (en, (es, et)) put =
       let h = heard text by passes m memory commands in
-      let q : refusals_line number 0 ≡ (sound_written (get_or m nAt 0) h).error = ap (λ (i : ℕ). refusals_line i 0) en ∙ number-line (get_or m nAt 0) h in
+      let q : refusals_line number 0 ≡ (sound_written (get_or m n_at 0) h).error = ap (λ (i : ℕ). refusals_line i 0) en ∙ number-line (get_or m n_at 0) h in
       rw (from-heard z) (es, (et, (put.0 ∙ ap length q, line-part number line long put ∙ q)))
 
 -- A ringing begins with few passes.

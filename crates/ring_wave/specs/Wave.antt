@@ -1,7 +1,7 @@
 -- What program wav writes for every file: a RIFF/WAVE file of what is heard, or a refusal.
 -- Assumes nothing.
 use Rattle.std.specs.Prelude.{ℕ, ◌+◌, ◌*◌, cond, List, [], ◌∷◌, ◌++◌, eqb, length, get_or}
-use Rattle.layout.specs.Layout.{nAt}
+use Rattle.layout.specs.Layout.{n_at}
 use Rattle.layout.specs.Machine.{Machine, Memory, Commands}
 use Rattle.layout_texts.specs.declared.Text.{Text}
 use Rattle.base_questions.specs.Questions.{asked}
@@ -39,7 +39,7 @@ sound_written n h = record { output = wave_file n h; error = cond (eqb h.number 
 unfoldable pub sounded_from : Text → Ordering → ℕ → Machine → Memory → Commands → Written
 sounded_from text by passes m memory commands =
     let first = asked (question1 m ∷ question2 text m ∷ []) in
-    cond (eqb first 0) (sound_written (get_or m nAt 0) (heard text by passes m memory commands)) (silent (refusal_line first))
+    cond (eqb first 0) (sound_written (get_or m n_at 0) (heard text by passes m memory commands)) (silent (refusal_line first))
 
 -- The program's whole output for every file, by number, by pitch or by an order file: the bench file's questions first, then that of the order file, then the sound.
 unfoldable pub wave_output_of : By → List ℕ → List ℕ → Written

@@ -3,7 +3,7 @@
 
 ghost use Rattle.std.specs.Prelude.{◌≡◌, [], ◌∷◌, ◌-◌, ◌≤◌, length, get_or, take};
 ghost use Rattle.std.proofs.lemmas.List.Edits.{sets};
-ghost use Rattle.layout.specs.Layout.{nAt, machine_length};
+ghost use Rattle.layout.specs.Layout.{n_at, machine_length};
 ghost use Rattle.base_questions.specs.Questions.{asked};
 ghost use Rattle.machine.specs.Questions.{question1, question2};
 ghost use Rattle.file_wave.specs.WaveFormat.{header_bytes};
@@ -82,8 +82,8 @@ fn sound(
     requires m_value { asked (question1 m.old ∷ question2 text m.old ∷ []) ≡ 0 }
     requires passes_le_most_passes { passes ≤ most_passes }
     ensures number_value { result.number ≡ (heard text (ordering_of given order.now) passes m.old memory.old commands.now).number }
-    ensures length_value { result.length ≡ length (wave_file (get_or m.old nAt 0) (heard text (ordering_of given order.now) passes m.old memory.old commands.now)) }
-    ensures out_after { take result.length out.new ≡ wave_file (get_or m.old nAt 0) (heard text (ordering_of given order.now) passes m.old memory.old commands.now) }
+    ensures length_value { result.length ≡ length (wave_file (get_or m.old n_at 0) (heard text (ordering_of given order.now) passes m.old memory.old commands.now)) }
+    ensures out_after { take result.length out.new ≡ wave_file (get_or m.old n_at 0) (heard text (ordering_of given order.now) passes m.old memory.old commands.now) }
 {
     let n = m[layout::N_AT];
     let rate = file_wave::rate(n);

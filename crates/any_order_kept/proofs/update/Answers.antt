@@ -11,7 +11,7 @@ use Rattle.any_order_kept.proofs.Calls.{after-by, concerned-any, countable-as}
 use Rattle.any_order_kept.proofs.update.Goals as goal
 
 pub concerned-g-requires : goal.concerned-g-requires
-concerned-g-requires c = record { reaches = reaches c.args.m.now c.requires.m_len.0; bound = (valid-controls Of1978 c.args.m.now c.requires.m_len.1).tLow }
+concerned-g-requires c = record { reaches = reaches c.args.m.now c.requires.m_len.0; bound = (valid-controls Of1978 c.args.m.now c.requires.m_len.1).t_low }
 
 pub shift_counted-requires : goal.shift_counted-requires
 shift_counted-requires c =

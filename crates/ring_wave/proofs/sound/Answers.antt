@@ -5,7 +5,7 @@ use mathlib.Core.List.{[]}
 use Prim.Native.Nat.{◌-◌}
 use native.Mathlib.Omega.{arith}
 use lib.ListN.{length, get_or}
-use Rattle.layout.specs.Layout.{nAt}
+use Rattle.layout.specs.Layout.{n_at}
 use Rattle.machine.proofs.ValidMachine.{valid-controls}
 use Rattle.pass_model.proofs.Asked.{is-valid, is_whole}
 use Rattle.file_wave.specs.WaveFormat.{header_bytes}
@@ -24,19 +24,19 @@ bounds-m-4114 c = omega (arith, is_whole c.args.text c.args.m.now [] c.requires.
 pub rate-rate-requires : goal.rate-rate-requires
 rate-rate-requires c =
     let s = valid-controls c.args.text c.args.m.now (is-valid c.args.text c.args.m.now [] c.requires.m_value) in
-    (omega (arith, s.nLow), s.nHigh)
+    (omega (arith, s.n_low), s.n_high)
 
 pub put_header-requires : goal.put_header-requires
 put_header-requires c =
     let a = c.args in
     let s = valid-controls a.text a.m.now (is-valid a.text a.m.now [] c.requires.m_value) in
-    (search rules, (rw c.rate-rate.ensures (rate-below (get_or a.m.now nAt 0) (omega (arith, s.nLow))), omega (arith, c.requires.passes_le_most_passes)))
+    (search rules, (rw c.rate-rate.ensures (rate-below (get_or a.m.now n_at 0) (omega (arith, s.n_low))), omega (arith, c.requires.passes_le_most_passes)))
 
 pub returns-then-end-ne0 : goal.returns-then-end-ne0
 returns-then-end-ne0 c =
     let a = c.args in
     let long : length a.out.now ≡ wave_room = search rules in
-    let same = headed-long a.out.now _ _ c.put_header.ensures ∙ long in let both = made-refused a.text (ordering_of a.given a.order.now) (get_or a.m.now nAt 0) a.passes a.m.now a.memory.now a.commands.now c.requires.passes_le_most_passes _ (omega (arith, same)) [] c.gather_frames-end.ensures.refused_value c.if-end-ne0.true in record { number_value = both.0; length_value = both.1.0; out_after = both.1.1 }
+    let same = headed-long a.out.now _ _ c.put_header.ensures ∙ long in let both = made-refused a.text (ordering_of a.given a.order.now) (get_or a.m.now n_at 0) a.passes a.m.now a.memory.now a.commands.now c.requires.passes_le_most_passes _ (omega (arith, same)) [] c.gather_frames-end.ensures.refused_value c.if-end-ne0.true in record { number_value = both.0; length_value = both.1.0; out_after = both.1.1 }
 
 pub overflow_add-result : goal.overflow_add-result
 overflow_add-result c =
@@ -50,4 +50,4 @@ pub returns : goal.returns
 returns c =
     let a = c.args in
     let long : length a.out.now ≡ wave_room = search rules in
-    let same = headed-long a.out.now _ _ c.put_header.ensures ∙ long in let both = made-whole a.text (ordering_of a.given a.order.now) (get_or a.m.now nAt 0) a.passes a.m.now a.memory.now a.commands.now c.requires.passes_le_most_passes _ (omega (arith, same)) a.out.now long (rw c.rate-rate.ensures at c.put_header.ensures) c.gather_frames-end.ensures.length_value c.gather_frames-end.ensures.out_after c.gather_frames-end.ensures.refused_value c.if-end-ne0.false in record { number_value = both.0; length_value = both.1.0; out_after = both.1.1 }
+    let same = headed-long a.out.now _ _ c.put_header.ensures ∙ long in let both = made-whole a.text (ordering_of a.given a.order.now) (get_or a.m.now n_at 0) a.passes a.m.now a.memory.now a.commands.now c.requires.passes_le_most_passes _ (omega (arith, same)) a.out.now long (rw c.rate-rate.ensures at c.put_header.ensures) c.gather_frames-end.ensures.length_value c.gather_frames-end.ensures.out_after c.gather_frames-end.ensures.refused_value c.if-end-ne0.false in record { number_value = both.0; length_value = both.1.0; out_after = both.1.1 }
