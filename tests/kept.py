@@ -21,7 +21,7 @@ PROVED = CRATES / "claims" / "proofs" / "Proved.antt"
 PRELUDE = "Rattle.std.specs.Prelude"
 LIBRARY = dict.fromkeys((
     "◌≡◌", "◌↔◌", "◌≢◌", "◌⊎◌", "Bool", "true", "false", "cond", "not", "◌&&◌", "◌||◌", "◌==◌",
-    "List", "[]", "◌∷◌", "◌++◌", "map", "replicate", "length", "get_or", "set", "take", "drop", "slice_index", "slice_set",
+    "Option", "Some", "None", "Result", "Ok", "Err", "List", "[]", "◌∷◌", "◌++◌", "map", "replicate", "length", "get_or", "set", "take", "drop", "slice_index", "slice_set",
     "ℕ", "zero", "suc", "◌+◌", "◌-◌", "◌*◌", "◌/◌", "◌%◌", "◌^◌", "◌<◌", "◌≤◌", "min", "max", "eqb", "ltb", "leb", "nat_lt", "nat_le",
     "ℤ", "pos", "negsuc", "◌+ℤ◌", "◌-ℤ◌", "◌*ℤ◌", "neg_ℤ", "nat_abs",
 ), PRELUDE) | {

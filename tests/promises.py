@@ -21,6 +21,7 @@ REACHABLE = {
     ("any_order", "any_order"): "any_order_of",
     ("any_order_kept", "keep"): "keep_of",
     ("any_order_kept", "change"): "change_of",
+    ("any_order_kept", "change_by_numbers"): "change_of",
     ("parts", "parts"): "parts_of",
     ("any_order_kept", "keep"): "keep_of",
     ("any_order_kept", "change"): "change_of",
@@ -54,28 +55,31 @@ REACHABLE = {
 }
 
 # Calls that read and write: what a program reads or writes has no contract in the language.
-STREAMS = {("ring_streams", "read_arguments"), ("ring_streams", "read_bench"), ("ring_streams", "complain"), ("trial_octets", "read_full")}
+STREAMS = {("ring_streams", "run"), ("trial_octets", "read_full")}
+
+# Makers of a value whose type says what is promised of it: a ghost field of its own or of its fields' types, which is proved where it is made.
+BY_TYPE = {("generator_sine", "new"): "Quarter", ("generator_exponential", "new"): "Entries", ("layout_modes", "new"): "Rows", ("generator", "new"): "Tables"}
 
 # The named forms: what it is, the crate, and a pattern that its source has.
 FORMS = (
-    ("a constant quarter sine of 2,048 entries", "generator_sine", r"pub type Quarter = \[u16; 2048\];[^;]*const SINE: Quarter ="),
-    ("wrapping add, then a remainder", "base_words", r"std::num::wrapping_add_u32\(a, b\) % 1048576"),
+    ("a constant quarter sine of 2,048 entries", "generator_sine", r"const SINE: \[u16; 2048\] = "),
+    ("wrapping add, then a remainder by the width's power of two", "base_words", r"a\.wrapping_add\(b\) % \(1 << W\)"),
     ("the part of the machine from 11g", "pass_generators", r"Generator::load\(&m\[at\.\.\]\)"),
-    ("a tail of the caller's commands", "command_update", r"-> &'a \[u32\]"),
-    ("a tail at the count taken", "command_update", r"&commands\[taken\.\.\]"),
+    ("a tail of the caller's commands", "command_update", r"pub struct Updated<'a> \{\s*pub rest: &'a \[u32\],"),
+    ("a tail at the count taken", "command_update", r"rest: &commands\[taken\.count\.\.\]"),
     ("sum memory as four arrays of 64", "pass_sums", r"= \[u32; layout::QUADRANT_WORDS\];\s*pub type Sums = \[Quadrant; layout::QUADRANTS\];"),
-    ("sum memory by value in a pass", "pass", r"let mut s = pass_sums::load\("),
+    ("sum memory by value in a pass", "pass", r"let sums = pass_sums::load\(m\);"),
     ("pass for C", "karvelorn", r'pub extern "C" fn karvelorn_pass\('),
     ("update for C", "karvelorn", r'pub extern "C" fn karvelorn_update\('),
     ("compare for C", "karvelorn", r'pub extern "C" fn karvelorn_compare\('),
-    ("16 rows of switches", "layout_modes", r"pub type Rows = \[\[u8; 4\]; 16\];[^;]*const SWITCHES: Rows ="),
+    ("16 rows of switches", "layout_modes", r"const SWITCHES: \[\[u8; 4\]; 16\] = "),
     ("sweep takes self and gives it back", "generator", r"pub fn sweep\(mut self\) -> Generator"),
     ("turn takes self and gives it back", "generator", r"pub fn turn\(mut self, [^)]*\) -> Generator"),
     ("the place in the quarter by arithmetic on its number", "generator_sine", r"let backwards = \(k / 2048 % 2\) as usize;\s*j \^ \(2047 \* backwards\)\n\}"),
     ("the sine's sign by arithmetic on the quarter's number", "generator_sine", r"\{\n\s*k / 2048 / 2\n\}"),
     ("an entry's number by a function that calls itself once, for the entry before", "chain_numbers",
-     r"pub fn find\(entries: &\[u32\], names: &\[u32\], i: usize, numbers: &mut Numbers\) -> u32\n(?:    .*\n)*\{\n    if i == 0 \{[^}]*\}\n"
-     r"    let previous = i - 1;\n    let before = find\(entries, names, previous, numbers\);\n(?:(?!.*\bfind\()    .*\n)*\}"),
+     r"pub fn find\(chain: &Chain, i: usize, numbers: &mut Numbers\) -> u32\n(?:    .*\n)*\{\n    if i == 0 \{[^}]*\}\n"
+     r"    let previous = i - 1;\n    let before = find\(chain, previous, numbers\);\n(?:(?!.*\bfind\()    .*\n)*\}"),
     ("decay takes self and gives it back", "generator", r"pub fn decay\(mut self, [^)]*\) -> Generator"),
 )
 
@@ -141,6 +145,15 @@ def claims():
             + fields(CRATES / "equal_orders" / "specs" / "WorkedExamples.antt", "WorkedExamples"))
 
 
+def promising(crate, kind):
+    """Whether a type has a ghost field that is an equation, or only fields of such types."""
+    found = re.search(rf"^pub struct {kind} \{{\n(.*?)^\}}", library_of(crate), re.M | re.S)
+    body = found.group(1) if found else ""
+    named = dict((k, c) for (c, _), k in BY_TYPE.items())
+    kinds = re.findall(r"^    pub \w+: (\w+),$", body, re.M)
+    return bool(re.search(r"^    (?:pub )?ghost \w+: \{ .*≡.* \},$", body, re.M)) or bool(kinds) and all(k in named and promising(named[k], k) for k in kinds)
+
+
 def faults():
     """What is wrong, a line each."""
     yield from (f"{crate}::{name} can be reached and is not in the list" for crate, name in sorted(reached() - set(REACHABLE)))
@@ -154,7 +167,10 @@ def faults():
             yield f"{crate}::{name} has no equation with {definition}"
     for folder in sorted(CRATES.iterdir()):
         for name, head in contracts_of(folder.name):
-            if (folder.name, name) not in STREAMS and not any(sign in clause for clause in ensured(head) for sign in EQUATIONS):
+            if kind := BY_TYPE.get((folder.name, name)):
+                if f"-> {kind}" not in head or not promising(folder.name, kind):
+                    yield f"{folder.name}::{name}: the type {kind} promises nothing"
+            elif (folder.name, name) not in STREAMS and not any(sign in clause for clause in ensured(head) for sign in EQUATIONS):
                 yield f"{folder.name}::{name} has no equation"
     for what, crate, pattern in FORMS:
         if not re.search(pattern, library_of(crate)):

@@ -1,21 +1,16 @@
 // Whether every order of a machine's generators leaves the same.
 #![tactic(auto)]
 
-ghost use Rattle.std.specs.Prelude.{◌≡◌};
+ghost use Rattle.std.specs.Prelude.{◌≡◌, false};
+ghost use Rattle.base_questions.specs.Refusals.{refused, answer_or};
 ghost use Rattle.compare_agreement.specs.Agreement.{settings_of};
 ghost use Rattle.any_order_model.specs.OrderFree.{counts_in, order_free};
 ghost use Rattle.any_order_counts.specs.AsCoded.{Countable};
 ghost use Rattle.any_order.specs.AnyOrder.{any_order_of};
 ghost use Rattle.layout_texts.specs.declared.Text.TheVariants.{Of1978};
 
+use base_questions::Refusal;
 use layout_texts::Text;
-
-// What the call answers: the number of the refusing question or 0, and whether every order leaves the same.
-#[derive(Clone, Copy)]
-pub struct AnyOrder {
-    pub number: u32,
-    pub alike: bool,
-}
 
 // Whether the rule holds.
 fn holds(m: &[u32]) -> bool
@@ -28,16 +23,9 @@ fn holds(m: &[u32]) -> bool
 }
 
 // Whether every order of a machine's generators leaves the same. A refused call says no.
-pub fn any_order(m: &[u32]) -> AnyOrder
-    ensures { record { number = result.number; alike = result.alike } ≡ any_order_of m.now }
+pub fn any_order(m: &[u32]) -> Result<bool, Refusal>
+    ensures { record { number = refused result; alike = answer_or false result } ≡ any_order_of m.now }
 {
-    let number = machine::refusal(Text::Of1978, m);
-    if number != 0 {
-        return AnyOrder {
-            number,
-            alike: false,
-        };
-    }
-    let alike = holds(m);
-    AnyOrder { number: 0, alike }
+    machine::refusal(Text::Of1978, m)?;
+    Ok(holds(m))
 }

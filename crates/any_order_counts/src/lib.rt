@@ -63,10 +63,8 @@ fn shift_roles(m: &[u32], kept: &mut Kept, from: usize, end: usize, up: bool)
     requires end_le_generators { end ≤ generators }
     ensures { kept.new ≡ roles_moved up m.now kept.old from (end - from) }
 {
-    let mut g = from;
-    while g < end {
+    for g in from..end {
         shift_role(m, kept, g, up);
-        g += 1;
     }
 }
 

@@ -71,6 +71,10 @@ module _ (m : Machine) (c : Change) where
       good-machine : valid Of1978 m ≡ true
       good-machine = (machine-passes Of1978 m (sym is ∙ z)).1
 
+      -- Numbers that are no change's.
+      pub no-change : is_change c ≡ false → 2 ≡ change_refusal m c
+      no-change e = sym (whole-asked whole-machine ∙ rw (good-machine, e))
+
       let-is : let_through m c ≡ (is_change c && valid Of1978 (changed_by m c))
       let-is = let-through-is m whole-machine good-machine c.kind c.generator c.value
 

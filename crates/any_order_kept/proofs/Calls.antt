@@ -1,6 +1,6 @@
 -- What the calls answer, by the branches that the code takes.
 -- Assumes nothing.
-use mathlib.Core.Path.{◌≡◌, refl, sym, ◌∙◌}
+use mathlib.Core.Path.{◌≡◌, sym, ◌∙◌}
 use mathlib.Core.Logic.{◌≢◌}
 use mathlib.Core.Bool.{true, false}
 use mathlib.Core.List.{[], ◌∷◌}
@@ -48,10 +48,6 @@ pub after-by : (m n : Machine) (g : ℕ) (k : Kept) {h : ℕ} {out back left : K
     → left ≡ kept_after m n g k
 unfolding kept_after
 after-by m n g k h-is out-is back_is left_is = rw (left_is, back_is, out-is, h-is)
-
-pub concerned-any : (m : Machine) (kind g v w : ℕ) → concerned m (record { kind = kind; generator = g; value = v }) ≡ concerned m (record { kind = kind; generator = g; value = w })
-unfolding concerned
-concerned-any m kind g v w = refl
 
 pub countable-as : {x n : Machine} → x ≡ n → Countable n → Countable x
 countable-as e c = rw e c

@@ -1,4 +1,5 @@
 pub mod Changed
 pub mod Asked
 pub mod Calls
+pub mod Numbers
 pub mod Laws

@@ -46,10 +46,7 @@ pub type Kept = [u32; KEPT];
 fn step(up: bool) -> u32
     ensures { result ≡ step_of up }
 {
-    if up {
-        return 1;
-    }
-    4294967295
+    if up { 1 } else { 4294967295 }
 }
 
 // The word at place i is raised or lowered by 1. What it then is.
@@ -58,7 +55,7 @@ pub fn shift(kept: &mut Kept, i: usize, up: bool) -> u32
     ensures kept_after { kept.new ≡ moved up kept.old i }
     ensures value { result ≡ stepped up (slice_index kept.old i) }
 {
-    let n = std::num::wrapping_add_u32(kept[i], step(up));
+    let n = kept[i].wrapping_add(step(up));
     kept[i] = n;
     n
 }
@@ -96,7 +93,7 @@ fn shift_on_word(kept: &mut Kept, i: usize, other: usize, up: bool)
     shift_if(kept, SHARED_AT, up, n == up as u32);
 }
 
-// One 0111 of word w more or fewer, with the sums.
+// One 0111 of word w more or fewer, with the sums. This and the next name the two places of `shift_on_word`, which serves both: a kind handed in for them is no plainer.
 pub fn shift_reader(kept: &mut Kept, w: usize, up: bool)
     requires { w < quadrant_words }
     ensures { kept.new ≡ kind_moved up kept.old (readers_at w) }

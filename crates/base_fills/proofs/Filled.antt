@@ -11,7 +11,7 @@ use native.Mathlib.Numerals.{add-one}
 use borrow.Author.Tests.{eqb-true, eqb-false}
 use lib.Dec.{eqb, lit<}
 use lib.ListN.{length, get_or, set, length-set}
-use lib.Seq.{get_or-set_same, get_or-set_other, ext_get_or}
+use lib.Seq.{get_or-set_same, get_or-set_other}
 use Rattle.base_fills.specs.Fills.{filled}
 
 -- The places are different, and the last is the highest.
@@ -68,9 +68,3 @@ pub filled-whole : (f : ℕ → ℕ) (run : List ℕ) (i : ℕ) → i < length r
 filled-whole f run i h =
     let place : 0 + 1 * i ≡ i = omega arith in
     rw place at (filled_at 0 1 (length run) f run i (lit< tt) h (omega arith))
-
--- A copy: every word of a run is that of another of its length.
-pub filled_copy : (m run : List ℕ) → length run ≡ length m → filled 0 1 (length m) (λ i. get_or m i 0) run ≡ m
-filled_copy m run e =
-    ext_get_or 0 (filled 0 1 (length m) (λ i. get_or m i 0) run) m (filled-length 0 1 (length m) (λ i. get_or m i 0) run ∙ e)
-    (λ i h. rw e at (filled-whole (λ i. get_or m i 0) run i (rw (filled-length 0 1 (length m) (λ i. get_or m i 0) run) at h)))

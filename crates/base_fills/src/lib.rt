@@ -4,29 +4,15 @@
 ghost use Rattle.std.specs.Prelude.{◌≡◌, ◌+◌, ◌*◌, ◌<◌, ◌^◌, length};
 ghost use Rattle.base_fills.specs.Fills.{filled};
 
-// Copies a run into another of its length.
-pub fn copy(from: &[u32], run: &mut [u32])
-    requires { length run.old ≡ length from.now }
-    ensures { run.new ≡ from.now }
-{
-    let mut i: usize = 0;
-    while i < from.len() {
-        run[i] = from[i];
-        i += 1;
-    }
-}
-
 // Puts a count at n places, the first at a place and each a step after the one before: it starts with a number and goes on by another.
 pub fn count(run: &mut [u32], at: usize, step: usize, n: usize, first: u32, by: u32)
     requires { (at + step * n < length run.old + step) × (first + by * n < 2 ^ 32) }
     ensures { run.new ≡ filled at step n (λ k. first + by * k) run.old }
 {
     let mut word = first;
-    let mut k: usize = 0;
-    while k < n {
+    for k in 0..n {
         run[at + step * k] = word;
         word += by;
-        k += 1;
     }
 }
 

@@ -80,11 +80,11 @@ module _ (w a b : ℕ) (e : 2 ^ w ≡ 2 ^ (w - 1) + 2 ^ (w - 1)) (f : 2 ^ w < 2 
   unfolding extended
   exact-code p q h = rw (h, p, q, ← (low-add 32 (signed w a) (signed w b))) (signed_low 32 (signed w a +ℤ signed w b) refl both_small)
 
--- Whether a signed word of 32 bits leaves the range of one of 20 bits, told from what is 2^19 above it.
-pub beyond-code : (s : ℕ) {r : ℕ} → s < 2 ^ 32 → r ≡ (s + 2 ^ 19) % 2 ^ 32 → leb (2 ^ 20) r ≡ leb (2 ^ 19) (mag (signed 32 s))
+-- Whether a signed word of 32 bits leaves the range of one of w bits, a word of m numbers and halves of h, told from what is h above it.
+pub beyond-code : (m h s : ℕ) {r : ℕ} → m ≡ h + h → m ≤ 2 ^ 31 → s < 2 ^ 32 → r ≡ (s + h) % 2 ^ 32 → leb m r ≡ leb h (mag (signed 32 s))
 unfolding signed
-beyond-code s {r} h e = by (ltb s (2 ^ 31)) refl
+beyond-code m h s {r} d u k e = by (ltb s (2 ^ 31)) refl
   where
-    by : (c : Bool) → ltb s (2 ^ 31) ≡ c → leb (2 ^ 20) r ≡ leb (2 ^ 19) (mag (cond c (pos s) (negsuc (2 ^ 32 - suc s))))
-    by true k = alike _ _ (λ l. le-leb (2 ^ 19) s (omega (arith, e, ltb-true s (2 ^ 31) k, leb-true (2 ^ 20) r l))) (λ l. lt-leb (2 ^ 19) s (omega (arith, e, ltb-true s (2 ^ 31) k, leb-false (2 ^ 20) r l)))
-    by false k = alike _ _ (λ l. le-leb (2 ^ 19) (2 ^ 32 - suc s) (omega (arith, e, h, ltb-false s (2 ^ 31) k, leb-true (2 ^ 20) r l))) (λ l. lt-leb (2 ^ 19) (2 ^ 32 - suc s) (omega (arith, e, h, ltb-false s (2 ^ 31) k, leb-false (2 ^ 20) r l)))
+    by : (c : Bool) → ltb s (2 ^ 31) ≡ c → leb m r ≡ leb h (mag (cond c (pos s) (negsuc (2 ^ 32 - suc s))))
+    by true q = alike _ _ (λ l. le-leb h s (omega (arith, d, u, e, ltb-true s (2 ^ 31) q, leb-true m r l))) (λ l. lt-leb h s (omega (arith, d, u, e, ltb-true s (2 ^ 31) q, leb-false m r l)))
+    by false q = alike _ _ (λ l. le-leb h (2 ^ 32 - suc s) (omega (arith, d, u, e, k, ltb-false s (2 ^ 31) q, leb-true m r l))) (λ l. lt-leb h (2 ^ 32 - suc s) (omega (arith, d, u, e, k, ltb-false s (2 ^ 31) q, leb-false m r l)))

@@ -1,7 +1,7 @@
-// Words of 12, 20, 24, 28 and 30 bits: their sums, reduced to their low bits, and whether an exact sum leaves its range.
+// Words of a width that the const parameter gives: their sums, reduced to their low bits, and whether an exact sum leaves its range.
 #![tactic(auto)]
 
-ghost use Rattle.std.specs.Prelude.{◌≡◌, ◌^◌, ◌<◌, pos, ◌+ℤ◌, ◌-ℤ◌, nat_le};
+ghost use Rattle.std.specs.Prelude.{◌≡◌, ◌/◌, ◌%◌, ◌^◌, ◌-◌, ◌<◌, ◌==◌, pos, ◌+ℤ◌, ◌-ℤ◌, nat_le};
 ghost use Rattle.std.specs.Int.Signed.{mag};
 ghost use Rattle.base_words.specs.Words.{low_bits, signed, sum, leaves, extended, sum_into, exact_sum, outside, value_of};
 
@@ -12,117 +12,116 @@ pub struct SignMagnitude {
     pub magnitude: u32,
 }
 
-// The sum of two words of 12 bits, reduced to 12 bits.
-pub fn add12(a: u32, b: u32) -> u32
-    requires { (a < 2 ^ 12) × (b < 2 ^ 12) }
-    ensures { result ≡ low_bits 12 (pos a +ℤ pos b) }
+// The sum of two words of W bits, reduced to W bits: the same for signed words and for words without a sign.
+pub fn add<const W: u32>(a: u32, b: u32) -> u32
+    requires width { W < 32 }
+    requires words { (a < 2 ^ W) × (b < 2 ^ W) }
+    ensures as_unsigned { result ≡ low_bits W (pos a +ℤ pos b) }
+    ensures as_signed { result ≡ sum W a b }
 {
-    std::num::wrapping_add_u32(a, b) % 4096
+    a.wrapping_add(b) % (1 << W)
 }
 
-// The difference of two words of 12 bits, reduced to 12 bits.
-pub fn subtract12(a: u32, b: u32) -> u32
-    requires { (a < 2 ^ 12) × (b < 2 ^ 12) }
-    ensures { result ≡ low_bits 12 (pos a -ℤ pos b) }
+// The difference of two words of W bits, reduced to W bits.
+pub fn subtract<const W: u32>(a: u32, b: u32) -> u32
+    requires width { W < 32 }
+    requires words { (a < 2 ^ W) × (b < 2 ^ W) }
+    ensures { result ≡ low_bits W (pos a -ℤ pos b) }
 {
-    std::num::wrapping_sub_u32(a, b) % 4096
+    a.wrapping_sub(b) % (1 << W)
 }
 
-// The sum of two signed words of 20 bits, reduced to 20 bits.
-pub fn add20(a: u32, b: u32) -> u32
-    requires { (a < 2 ^ 20) × (b < 2 ^ 20) }
-    ensures { result ≡ sum 20 a b }
+// A signed word of W bits by its bias: the number 2^(W - 1) above it.
+pub fn biased<const W: u32>(b: u32) -> u32
+    requires width { (0 < W) × (W < 32) }
+    requires word { b < 2 ^ W }
+    ensures low { result < 2 ^ W }
+    ensures above { signed W b ≡ pos result -ℤ pos (2 ^ (W - 1)) }
 {
-    std::num::wrapping_add_u32(a, b) % 1048576
+    (b + (1 << (W - 1))) % (1 << W)
 }
 
-// A signed word of 20 bits by its bias: the number 524,288 above it.
-pub fn biased20(b: u32) -> u32
-    requires { b < 2 ^ 20 }
-    ensures { (result < 2 ^ 20) × (signed 20 b ≡ pos result -ℤ pos (2 ^ 19)) }
+// A signed word of W bits as one of 32 bits.
+pub fn extend<const W: u32>(b: u32) -> u32
+    requires width { (0 < W) × (W < 32) }
+    requires word { b < 2 ^ W }
+    ensures { result ≡ extended W 32 b }
 {
-    (b + 524288) % 1048576
+    biased::<W>(b).wrapping_sub(1 << (W - 1))
 }
 
-// A signed word of 20 bits as one of 32 bits.
-pub fn extend20(b: u32) -> u32
-    requires { b < 2 ^ 20 }
-    ensures { result ≡ extended 20 32 b }
+// The exact sum of two signed words of W bits, as a signed word of 32 bits.
+pub fn exact<const W: u32>(a: u32, b: u32) -> u32
+    requires width { (0 < W) × (W < 31) }
+    requires words { (a < 2 ^ W) × (b < 2 ^ W) }
+    ensures { signed 32 result ≡ signed W a +ℤ signed W b }
 {
-    std::num::wrapping_sub_u32(biased20(b), 524288)
+    extend::<W>(a).wrapping_add(extend::<W>(b))
 }
 
-// The exact sum of two signed words of 20 bits, as a signed word of 32 bits.
-pub fn exact20(a: u32, b: u32) -> u32
-    requires { (a < 2 ^ 20) × (b < 2 ^ 20) }
-    ensures { signed 32 result ≡ signed 20 a +ℤ signed 20 b }
+// The low W bits of an exact sum.
+pub fn low<const W: u32>(exact: u32) -> u32
+    requires width { W < 32 }
+    ensures is { result ≡ low_bits W (signed 32 exact) }
+    ensures low { result < 2 ^ W }
 {
-    std::num::wrapping_add_u32(extend20(a), extend20(b))
+    exact % (1 << W)
 }
 
-// The low 20 bits of an exact sum.
-pub fn low20(exact: u32) -> u32
-    ensures { (result ≡ low_bits 20 (signed 32 exact)) × (result < 2 ^ 20) }
+// Whether an exact sum leaves the range of a signed word of W bits. One below it wraps to a number far above.
+pub fn beyond<const W: u32>(exact: u32) -> bool
+    requires width { (0 < W) × (W < 32) }
+    ensures { result ≡ nat_le (2 ^ (W - 1)) (mag (signed 32 exact)) }
 {
-    exact % 1048576
+    let raised = exact.wrapping_add(1 << (W - 1));
+    1 << W <= raised
 }
 
-// Whether an exact sum leaves the range of a signed word of 20 bits. One below it wraps to a number far above.
-pub fn beyond20(exact: u32) -> bool
-    ensures { result ≡ nat_le (2 ^ 19) (mag (signed 32 exact)) }
+// Whether the signed sum of two words of W bits leaves its range.
+pub fn leaves_range<const W: u32>(a: u32, b: u32) -> bool
+    requires width { (0 < W) × (W < 31) }
+    requires words { (a < 2 ^ W) × (b < 2 ^ W) }
+    ensures { result ≡ leaves W a b }
 {
-    let raised = std::num::wrapping_add_u32(exact, 524288);
-    1048576 <= raised
+    beyond::<W>(exact::<W>(a, b))
 }
 
-// Whether the signed sum of two words of 20 bits leaves its range.
-pub fn leaves20(a: u32, b: u32) -> bool
-    requires { (a < 2 ^ 20) × (b < 2 ^ 20) }
-    ensures { result ≡ leaves 20 a b }
+// A signed word of 20 bits added into a register of U bits, reduced to U bits: the same for a signed register and for an unsigned one.
+pub fn into<const U: u32>(a: u32, b: u32) -> u32
+    requires width { U < 32 }
+    requires words { (a < 2 ^ U) × (b < 2 ^ 20) }
+    ensures as_unsigned { result ≡ low_bits U (exact_sum 20 a b) }
+    ensures as_signed { result ≡ sum_into U 20 a b }
 {
-    beyond20(exact20(a, b))
+    a.wrapping_add(extend::<20>(b)) % (1 << U)
 }
 
-// A signed word of 20 bits added into an unsigned register of 24 bits, reduced to 24 bits.
-pub fn into24(a: u32, b: u32) -> u32
-    requires { (a < 2 ^ 24) × (b < 2 ^ 20) }
-    ensures { result ≡ low_bits 24 (exact_sum 20 a b) }
+// Whether that sum, before it is reduced, is outside 0 to 2^U - 1. One below 0 wraps to a number above that range.
+pub fn outside_range<const U: u32>(a: u32, b: u32) -> bool
+    requires width { U < 31 }
+    requires words { (a < 2 ^ U) × (b < 2 ^ 20) }
+    ensures { result ≡ outside U (exact_sum 20 a b) }
 {
-    std::num::wrapping_add_u32(a, extend20(b)) % 16777216
+    let wrapped = a.wrapping_add(extend::<20>(b));
+    1 << U <= wrapped
 }
 
-// Whether that sum, before it is reduced, is outside 0 to 16,777,215. One below 0 wraps to a number above that range.
-pub fn outside24(a: u32, b: u32) -> bool
-    requires { (a < 2 ^ 24) × (b < 2 ^ 20) }
-    ensures { result ≡ outside 24 (exact_sum 20 a b) }
-{
-    let wrapped = std::num::wrapping_add_u32(a, extend20(b));
-    16777216 <= wrapped
-}
-
-// A signed word of 20 bits added into a signed register of 28 bits, reduced to 28 bits.
-pub fn into28(a: u32, b: u32) -> u32
-    requires { (a < 2 ^ 28) × (b < 2 ^ 20) }
-    ensures { result ≡ sum_into 28 20 a b }
-{
-    std::num::wrapping_add_u32(a, extend20(b)) % 268435456
-}
-
-// A signed word of 20 bits added into a signed register of 30 bits, reduced to 30 bits.
-pub fn into30(a: u32, b: u32) -> u32
-    requires { (a < 2 ^ 30) × (b < 2 ^ 20) }
-    ensures { result ≡ sum_into 30 20 a b }
-{
-    std::num::wrapping_add_u32(a, extend20(b)) % 1073741824
-}
-
-// The low 20 bits of a number that is given by its sign and its magnitude.
-pub fn word20(s: SignMagnitude) -> u32
-    ensures { result ≡ low_bits 20 (value_of s) }
+// The low W bits of a number that is given by its sign and its magnitude.
+pub fn word<const W: u32>(s: SignMagnitude) -> u32
+    requires width { W < 32 }
+    ensures { result ≡ low_bits W (value_of s) }
 {
     if s.sign == 0 {
-        s.magnitude % 1048576
+        s.magnitude % (1 << W)
     } else {
-        std::num::wrapping_sub_u32(0, s.magnitude) % 1048576
+        0u32.wrapping_sub(s.magnitude) % (1 << W)
     }
+}
+
+// Whether bit k of a mask is 1, bit 0 being the rightmost.
+pub fn bit(mask: u32, k: u32) -> bool
+    requires { k < 32 }
+    ensures { result ≡ (mask / 2 ^ k % 2 == 1) }
+{
+    (mask >> k) % 2 == 1
 }

@@ -1,4 +1,3 @@
-pub mod Loops
 pub mod Refusals
 pub mod Answers
 pub mod Claimed

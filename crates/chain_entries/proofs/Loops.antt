@@ -1,15 +1,17 @@
 -- Where names begin, and the loops over names and entries, one step at a time.
 -- Assumes nothing.
-use mathlib.Core.Path.{◌≡◌, refl, ap, ◌∙◌}
-use mathlib.Core.Bool.{Bool, ◌&&◌}
+use mathlib.Core.Path.{◌≡◌, refl, sym, ap, ◌∙◌}
+use mathlib.Core.Bool.{Bool, true, false, true≢false}
 use mathlib.Core.List.{List}
-use Prim.Native.Nat.{ℕ, zero, suc, ◌+◌, ◌-◌}
+use Prim.Native.Nat.{ℕ, zero, suc, ◌-◌, ◌<◌}
 use native.Mathlib.Omega.{arith}
-use native.Mathlib.Numerals.{add-one}
-use lib.Dec.{ltb}
-use lib.ListN.{get_or}
+use lib.ListN.{length, get_or}
+use Rattle.std.specs.Bool.{MatchBool}
+use Rattle.std.specs.List.{range_with_len, AllWithin, HoldsAt}
+use Rattle.std.proofs.lemmas.List.FromFn.{length-range_with_len, get_or-range_with_len}
 use Rattle.base_lists.specs.Lists.{all_below}
-use Rattle.chain_entries.specs.Entries.{end_of, start_of, names_below}
+use Rattle.base_lists.proofs.Below.{below_at, below-from}
+use Rattle.chain_entries.specs.Entries.{end_of, start_of}
 
 -- Where the names of an entry begin.
 pub start_first : (entries : List ℕ) (i : ℕ) → i ≡ 0 → 0 ≡ start_of entries i
@@ -21,13 +23,25 @@ unfolding start_of
 start-later entries zero n e = absurd (n refl)
 start-later entries (suc i) n e = e ∙ ap (λ (k : ℕ). end_of entries k) (omega arith)
 
--- One name more is below.
-pub below_next : (names : List ℕ) (at k i : ℕ) {b t : Bool} → b ≡ names_below names at k i → t ≡ ltb (get_or names (at + k) 0) i → (t && b) ≡ names_below names at (k + 1) i
-below_next names at k i e f = rw (add-one k, e, f)
+-- What a test of each number below n tells: whether it passes at all of them.
+pub tested : (p : ℕ → Bool) (n : ℕ) {r : Bool}
+    → MatchBool r (AllWithin (λ k. p k ≡ true) (range_with_len 0 n) 0 (length (range_with_len 0 n)))
+    ((k : ℕ) × (k < length (range_with_len 0 n)) × HoldsAt (λ k. p k ≡ false) (range_with_len 0 n) k)
+    → r ≡ all_below p n
+tested p n {r} e = go r e
+  where
+    is : (k : ℕ) → k < n → p (get_or (range_with_len 0 n) k 0) ≡ p k
+    is k h = let at : get_or (range_with_len 0 n) k 0 ≡ k = omega (arith, get_or-range_with_len 0 n k 0 h) in ap p at
 
-pub below_all : (names : List ℕ) (at k n i : ℕ) {b : Bool} → b ≡ names_below names at k i → k ≡ n → b ≡ names_below names at n i
-below_all names at k n i e f = rw (← f) e
+    fails : (k : ℕ) → k < n → p k ≡ false → (b : Bool) → all_below p n ≡ b → false ≡ b
+    fails k h z true q = absurd (true≢false (sym (below_at p n q k h) ∙ z))
+    fails k h z false q = refl
 
--- One place more passes a test.
-pub all-next : (p : ℕ → Bool) (k : ℕ) {b t : Bool} → b ≡ all_below p k → t ≡ p k → (t && b) ≡ all_below p (k + 1)
-all-next p k e f = rw (add-one k, e, f)
+    go : (b : Bool)
+        → MatchBool b (AllWithin (λ k. p k ≡ true) (range_with_len 0 n) 0 (length (range_with_len 0 n)))
+        ((k : ℕ) × (k < length (range_with_len 0 n)) × HoldsAt (λ k. p k ≡ false) (range_with_len 0 n) k)
+        → b ≡ all_below p n
+    go true h = sym (below-from p n (λ k l. sym (is k l) ∙ h k 0 (omega arith) (rw (length-range_with_len 0 n) l)))
+    go false h =
+        let l : h.0 < n = rw (length-range_with_len 0 n) at h.1 in
+        fails h.0 l (sym (is h.0 l) ∙ h.2 0) (all_below p n) refl

@@ -15,7 +15,7 @@ use Rattle.base_lists.proofs.Below.{and_first, and_second, and_both}
 use Rattle.layout.specs.Widths.{counter_bits}
 use Rattle.file_printed.specs.Text.{digits, decimal}
 use Rattle.file_numbers.specs.Numbers.{digit_value, all_digits, written_after, number_in, leading_zero, decimal_in}
-use Rattle.file_numbers.specs.declared.Number.TheVariants.{Is}
+use Rattle.std.specs.Prelude.{Some}
 
 -- A file of digits that writes n, and begins with 0 only if it is that digit alone.
 record Writes (n : ℕ) (file : List ℕ) : Type 0 where
@@ -102,11 +102,11 @@ module _ (n : ℕ) (h : n < 2 ^ counter_bits) where
   pub decimal-digits : all_digits 10 (decimal n) ≡ true
   decimal-digits = (digits-write 9 n (omega arith)).all
 
-  pub printed-below : (limit : ℕ) → n < limit → decimal_in limit (decimal n) ≡ Is n
+  pub printed-below : (limit : ℕ) → n < limit → decimal_in limit (decimal n) ≡ Some n
   unfolding decimal_in number_in
   printed-below limit l =
       let w = digits-write 9 n (omega arith) in
       rw (ne_eqb (length (digits 10 n)) 0 (λ e. omega (arith, w.some)), no-leading-zero n (digits 10 n) w, w.all, w.number, lt-ltb n limit l)
 
-  pub number-printed : decimal_in (2 ^ counter_bits) (decimal n) ≡ Is n
+  pub number-printed : decimal_in (2 ^ counter_bits) (decimal n) ≡ Some n
   number-printed = printed-below (2 ^ counter_bits) h

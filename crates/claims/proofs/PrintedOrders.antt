@@ -16,7 +16,7 @@ use Rattle.layout.specs.Machine.{Order}
 use Rattle.file_bytes.specs.Bytes.{starts_with}
 use Rattle.file_printed.specs.Text.{decimal, named, newline}
 use Rattle.file_numbers.specs.Numbers.{digit_value, all_digits}
-use Rattle.file_numbers.specs.declared.Number.TheVariants.{Is}
+use Rattle.std.specs.Prelude.{Some}
 use Rattle.file_lines.specs.Lines.{prepended, lines_of, ended}
 use Rattle.file_lines.proofs.FileLines.{ended_by}
 use Rattle.file_order.specs.OrderFile.{order_start, entry_of, entry, all_entries, is_order_file, order_of}
@@ -46,7 +46,7 @@ module _ (g : ℕ) (h : g < generators) where
   unfolding entry_line named lines_of prepended
   entry-lines rest = rw (digit-lines (decimal g) rest (decimal-digits g (omega arith)))
 
-  entry_read : entry_of (named order_start g) ≡ Is g
+  entry_read : entry_of (named order_start g) ≡ Some g
   unfolding entry_of named starts_with
   entry_read = printed-below g (omega arith) generators h
 

@@ -7,8 +7,8 @@ use Rattle.layout.specs.Machine.{Machine}
 use Rattle.layout_texts.specs.declared.Text.{Text}
 use Rattle.layout_texts.specs.declared.Text.TheVariants.{Of1978}
 use Rattle.layout.proofs.UpdateTicks.{ticks-exact, ticks-none}
-use Rattle.generator_sine.proofs.Quarter.{magnitude-positive}
-use Rattle.generator_exponential.proofs.Entries.{entry-largest}
+use Rattle.generator_sine.proofs.QuarterSine.{magnitude-positive}
+use Rattle.generator_exponential.proofs.LargestEntries.{entry-largest}
 use Rattle.generator_exponential.proofs.Sizes.{older-entry, older-exponential}
 use Rattle.generator_exponential.proofs.OlderTable.{older-table}
 use Rattle.machine.specs.Questions.{fresh_machine}

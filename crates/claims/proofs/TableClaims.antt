@@ -15,10 +15,10 @@ use Rattle.base_lists.proofs.Tables.{tabulate-length, tabulate-at}
 use Rattle.generator_sine.specs.Sine.{entry, index_of, negative, sign_of, magnitude}
 use Rattle.generator_sine.proofs.Exact.{exact-all}
 use Rattle.generator_sine.proofs.Fold.{fold-index, fold-sign}
-use Rattle.generator_sine.proofs.Quarter.{magnitude-at}
+use Rattle.generator_sine.proofs.QuarterSine.{magnitude-at}
 use Rattle.generator_exponential.specs.Exponential.{table_size, older_size, bound, within, entry as exponential_entry, entries}
 use Rattle.generator_exponential.specs.OlderTable.{older_table}
-use Rattle.generator_exponential.proofs.Entries.{right, right-entry, entry-largest}
+use Rattle.generator_exponential.proofs.LargestEntries.{right, right-entry, entry-largest}
 use Rattle.generator_exponential.proofs.OlderTable.{older-table}
 use Rattle.claims.specs.TableClaims.{PassesTest, TableClaims}
 

@@ -1,6 +1,6 @@
 -- Every claim that the demands, document 01 and the requests of document 02 make beyond the contracts of the calls. One value of this record, `claims` in proofs/Proved.antt, is the proof of all.
 -- Assumes nothing.
-use Rattle.std.specs.Prelude.{ℕ, suc, ◌+◌, ◌*◌, ◌/◌, ◌%◌, ◌^◌, ◌≤◌, ◌<◌, true, false, cond, List, [], ◌∷◌, ◌↔◌, ◌≢◌, ◌≡◌, pos, ◌*ℤ◌, length, get_or, set, replicate}
+use Rattle.std.specs.Prelude.{ℕ, suc, ◌+◌, ◌*◌, ◌/◌, ◌%◌, ◌^◌, ◌≤◌, ◌<◌, true, false, cond, List, [], ◌∷◌, ◌↔◌, ◌≢◌, ◌≡◌, pos, ◌*ℤ◌, length, get_or, set, replicate, Some}
 use Rattle.base_words.specs.Words.{signed}
 use Rattle.layout.specs.Layout.{counter_at, dx_at, lingering_at, quadrant_words, generators, machine_length, update_ticks_at, generator_at, GO, dacs}
 use Rattle.layout.specs.Machine.{Machine, Order, Items, Commands, Memory, ticks_of, update_ticks, update_ticks_of, low_counter}
@@ -63,7 +63,6 @@ use Rattle.claims.specs.PassClaims.{PassClaims}
 use Rattle.claims.specs.TimerClaims.{TimerClaims}
 use Rattle.file_printed.specs.Text.{line_bytes, decimal}
 use Rattle.file_numbers.specs.Numbers.{decimal_in}
-use Rattle.file_numbers.specs.declared.Number.TheVariants.{Is}
 use Rattle.file_bench.specs.BenchFile.{command_places, file_of, read_of}
 use Rattle.ring_pass.specs.BenchPass.{Ordering}
 use Rattle.ring_order.specs.declared.By.{By}
@@ -206,7 +205,7 @@ pub record Claims : Type 0 where
   pub timer-sets : (m : Machine) → Good Of1978 m → (c : ℕ) → tt_of c ≡ 0b01 → (get_or (timed m c) counter_at 0 ≡ data_of c) × (data_of c < 2 ^ linger_bits)
   pub timer-clears : (m : Machine) → Good Of1978 m → (c : ℕ) → tt_of c ≡ 0b11 → get_or (timed m c) counter_at 0 ≡ 0
   -- A number of 32 bits is printed whole: its digits are read as that number, without leading zeros.
-  pub counter-printed : (n : ℕ) → n < 2 ^ counter_bits → decimal_in (2 ^ counter_bits) (decimal n) ≡ Is n
+  pub counter-printed : (n : ℕ) → n < 2 ^ counter_bits → decimal_in (2 ^ counter_bits) (decimal n) ≡ Some n
   -- A refused pass leaves the machine, the places and delay memory as they were.
   pub refused-leaves : (text : Text) (m : Machine) (call : Call) → (pass_of text m call).number ≢ 0
       → ((pass_of text m call).machine ≡ m) × ((pass_of text m call).places ≡ call.places) × ((pass_of text m call).memory ≡ call.memory)

@@ -6,6 +6,11 @@ use mathlib.Core.Bool.{Bool, false}
 use mathlib.Core.List.{List}
 use Prim.Native.Nat.{ℕ, ◌<◌, ◌≤◌}
 use borrow.Author.Tests.{eq-eqb, ne_eqb, lt-ltb, le-ltb}
+use Rattle.std.specs.Prelude.{Result}
+use Rattle.std.specs.Result.{IsErrAnd}
+use Rattle.std.proofs.lemmas.Result.{err_from_is_err_and}
+use Rattle.base_questions.specs.declared.Refusal.{Refusal}
+use Rattle.base_questions.specs.Refusals.{answer_or}
 use Rattle.command_fields.specs.Fields.{code5}
 use Rattle.command_generator.specs.GeneratorLoads.{after_generator_load}
 use Rattle.command_modifier.specs.ModifierLoads.{after_modifier_load}
@@ -61,3 +66,7 @@ module _ (m : List ℕ) (c : ℕ) where
     pub passed-does : after_command m c ≡ done m c
     unfolding after_command
     passed-does = rw (eq-eqb (command_refusal c) 0 e)
+
+-- A refused call answers nothing else.
+pub refused-answer : {A : Type 0} (other : A) (r : Result A Refusal) (e : Refusal) → IsErrAnd r (λ y. y ≡ e) → answer_or other r ≡ other
+refused-answer other r e h = let p = err_from_is_err_and r h in rw p.1 refl

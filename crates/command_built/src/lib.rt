@@ -2,8 +2,10 @@
 #![tactic(auto)]
 
 ghost use Rattle.std.specs.Prelude.{◌≡◌};
+ghost use Rattle.base_questions.specs.Refusals.{refused};
 ghost use Rattle.command_built.specs.Built.{built_gmode, built_mmode, built_mrm, built, ticks_fit, command_refusal};
 
+use base_questions::Refusal;
 use command_fields::{field, flag};
 
 // GMODE disabled, or its modes built.
@@ -52,15 +54,15 @@ pub fn ticks_fit(c: u32) -> bool
     (field(c, 24, 28) != 0b00011) | flag(c, 32) | (field(c, 14, 23) <= 255)
 }
 
-// The number of the first of questions 3 and 4 that is answered no, or 0.
-pub fn refusal(c: u32) -> u32
-    ensures { result ≡ command_refusal c }
+// The first of questions 3 and 4 that is answered no, if one is.
+pub fn refusal(c: u32) -> Result<(), Refusal>
+    ensures { refused result ≡ command_refusal c }
 {
     if !built(c) {
-        return 3;
+        return Err(Refusal::BuiltCommand);
     }
     if !ticks_fit(c) {
-        return 4;
+        return Err(Refusal::TicksNumber);
     }
-    0
+    Ok(())
 }

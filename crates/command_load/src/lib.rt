@@ -8,28 +8,29 @@ ghost use Rattle.command_load.specs.Loads.{loaded_unless, cleared_if, loaded_dat
 use command_fields::{field, flag};
 
 // A word is loaded unless that is disabled.
+#[tactic(auto, unfolding(crate::specs::Loads::loaded_unless))]
 pub fn load_unless(m: &mut [u32], disabled: bool, at: usize, v: u32)
     requires { at < length m.old }
     ensures { m.new ≡ loaded_unless disabled m.old at v }
 {
-    if disabled {
-        return;
+    if !disabled {
+        m[at] = v;
     }
-    m[at] = v;
 }
 
 // A word is cleared if that is asked for.
+#[tactic(auto, unfolding(crate::specs::Loads::cleared_if))]
 pub fn clear_if(m: &mut [u32], clear: bool, at: usize)
     requires { at < length m.old }
     ensures { m.new ≡ cleared_if clear m.old at }
 {
     if clear {
         m[at] = 0;
-        return;
     }
 }
 
 // A register of 20 bits is loaded with the data.
+#[tactic(auto, unfolding(crate::specs::Loads::loaded_data))]
 pub fn load_data(m: &mut [u32], c: u32, at: usize)
     requires { at < length m.old }
     ensures { m.new ≡ loaded_data m.old c at }
@@ -50,7 +51,7 @@ pub fn load_adjusted(m: &mut [u32], c: u32, at: usize, width: u32)
         m[layout::DX_AT] = 0;
         return;
     }
-    m[at] = base_words::extend20(data) % (1 << width);
+    m[at] = base_words::extend::<20>(data) % (1 << width);
 }
 
 // Two registers are loaded, the first unless bit 4 is 1, the second unless bit 5 is.

@@ -27,10 +27,8 @@ fn release(m: &mut [u32], run: u32)
     requires { Reaches m.old }
     ensures { m.new ≡ released run m.old }
 {
-    let mut g: usize = 0;
-    while g < layout::GENERATORS {
+    for g in 0..layout::GENERATORS {
         release_one(m, run, g);
-        g += 1;
     }
 }
 

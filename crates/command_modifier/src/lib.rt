@@ -11,7 +11,7 @@ use command_fields::{field, flag};
 use command_load::{clear_if, load_adjusted, load_data, load_then_clear, load_unless};
 use layout::{L0, L1, M0, M1, MIN, MMODE, MRM, MSUM};
 
-// Where the modifier stands that a command addresses.
+// Where the modifier stands that a command addresses. A generator's place differs by more than a number: its base is 0, its number has a bit more.
 fn modifier_at(c: u32) -> usize
     ensures { (result ≡ modifier_at (modifier_number c)) × (result + MMODE < quadrant_at 0) }
 {
@@ -22,10 +22,7 @@ fn modifier_at(c: u32) -> usize
 fn chosen(first: bool, a: u32, b: u32) -> u32
     ensures { result ≡ cond first a b }
 {
-    if first {
-        return a;
-    }
-    b
+    if first { a } else { b }
 }
 
 // MMODE is loaded, its function unless M and its scales unless H.

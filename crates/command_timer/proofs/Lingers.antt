@@ -1,6 +1,6 @@
 -- A Linger's number against the pass counter, a counter of any width up to 32 bits, a number of 20; TIMER and TICKS by their fields.
 -- Assumes nothing.
-use Rattle.std.proofs.Common.{◌≡◌, ℕ, ◌+◌, ◌%◌, ◌^◌, ◌<◌, ◌≤◌, Bool, true, false, ◌≢◌, List, get_or, set, pos, ◌-ℤ◌, neg_ℤ, sym, refl, ap, ◌∙◌, lit≤, eq-eqb, ne_eqb, le-leb}
+use Rattle.std.proofs.Common.{◌≡◌, ℕ, ◌+◌, ◌-◌, ◌%◌, arith, ◌^◌, ◌<◌, ◌≤◌, Bool, true, false, ◌≢◌, List, get_or, set, pos, ◌-ℤ◌, neg_ℤ, sym, refl, ap, ◌∙◌, lit≤, eq-eqb, ne_eqb, le-leb}
 use native.Mathlib.Nat.{mod-mod}
 use borrow.Author.Tests.{lt-leb}
 use Rattle.base_words.specs.Words.{low_bits}
@@ -20,9 +20,12 @@ low-distance w n k =
     ∙ sym (low-add w (pos (n % 2 ^ w)) (neg_ℤ (pos k)))
 
 -- The difference's code: a wrapping subtraction at 32 bits, r, and a remainder.
-pub behind-code : (m : List ℕ) (n r : ℕ) → (r + n) % 2 ^ 32 ≡ get_or m counter_at 0 → r % 2 ^ 20 ≡ behind m n
+behind-code : (m : List ℕ) (n r : ℕ) → (r + n) % 2 ^ 32 ≡ get_or m counter_at 0 → r % 2 ^ 20 ≡ behind m n
 unfolding behind
 behind-code m n r e = minus-code linger_bits (get_or m counter_at 0) n r (lit≤ tt) e ∙ low-distance linger_bits (get_or m counter_at 0) n
+
+pub behind-wrapped : (m : List ℕ) (n : ℕ) → get_or m counter_at 0 < 2 ^ 32 → n < 2 ^ 32 → (get_or m counter_at 0 + (2 ^ 32 - n)) % 2 ^ 32 % 2 ^ 20 ≡ behind m n
+behind-wrapped m n h k = behind-code m n _ (omega arith)
 
 module _ (m : List ℕ) (n : ℕ) {b : ℕ} (e : b ≡ behind m n) where
   -- More than 4,096 passes behind, which is ahead: it waits.

@@ -13,7 +13,7 @@ fn linger(m: &mut [u32], n: u32) -> bool
     requires { Reaches m.old }
     ensures { (result ≡ waits_for m.old n) × (m.new ≡ lingered m.old n) }
 {
-    let behind = std::num::wrapping_sub_u32(m[layout::COUNTER_AT], n) % layout::LINGER_LIMIT;
+    let behind = m[layout::COUNTER_AT].wrapping_sub(n) % layout::LINGER_LIMIT;
     if 4096 < behind {
         m[layout::LINGERING_AT] = 1;
         m[layout::LINGER_PASS_AT] = n;
@@ -39,19 +39,18 @@ pub fn timer(m: &mut [u32], c: u32) -> bool
     ensures { (result ≡ timer_waits m.old c) × (m.new ≡ timed m.old c) }
 {
     let data = field(c, 4, 23);
-    let tt = field(c, 31, 32);
-    if tt == 0b01 {
-        set_counter(m, data);
-        return false;
+    match field(c, 31, 32) {
+        0b01 => {
+            set_counter(m, data);
+            false
+        }
+        0b10 => linger(m, data),
+        0b11 => {
+            set_counter(m, 0);
+            linger(m, data)
+        }
+        _ => false,
     }
-    if tt == 0b10 {
-        return linger(m, data);
-    }
-    if tt == 0b11 {
-        set_counter(m, 0);
-        return linger(m, data);
-    }
-    false
 }
 
 // TICKS: Q 0 sets T, Q 1 sets N, and either sets the update ticks of both.

@@ -38,38 +38,39 @@ turn n i m cs h l =
     rw (e, add-one, drop-cons cs i 0) refl
 
 -- The loop's invariant.
-pub record Going (m₀ cs : List ℕ) (most : ℕ) (m : List ℕ) (number i : ℕ) : Type 0 where
-  pub here : i ≤ length cs
+pub record Going (m₀ cs : List ℕ) (most : ℕ) (m : List ℕ) (i : ℕ) : Type 0 where
   pub within : i ≤ most
   pub size : length m ≡ length m₀
-  pub clean : number ≡ 0
   pub rest : commands_taken_by (most - i) m (drop i cs) ≡ commands_taken_by most m₀ cs
 
-pub begins : (m cs : List ℕ) (most : ℕ) → Going m cs most m 0 0
-begins m cs most = record { here = omega arith; within = omega arith; size = refl; clean = refl; rest = rw sub-zero }
+pub begins : (m cs : List ℕ) (most : ℕ) → Going m cs most m 0
+begins m cs most = record { within = omega arith; size = refl; rest = rw sub-zero }
 
-module _ {m₀ cs : List ℕ} {most : ℕ} {m : List ℕ} {number i : ℕ} (g : Going m₀ cs most m number i) where
+module _ {m₀ cs : List ℕ} {most : ℕ} {m : List ℕ} {i : ℕ} (g : Going m₀ cs most m i) where
   -- The most are taken.
-  pub ends-most : most ≤ i → outcome number m (drop i cs) ≡ commands_taken_by most m₀ cs
+  pub ends-most : i ≡ most → outcome 0 m (drop i cs) ≡ commands_taken_by most m₀ cs
   ends-most h =
       let z : most - i ≡ 0 = omega arith in
-      rw g.clean (sym (taken-all m (drop i cs)) ∙ ap (λ (k : ℕ). commands_taken_by k m (drop i cs)) (sym z) ∙ g.rest)
+      sym (taken-all m (drop i cs)) ∙ ap (λ (k : ℕ). commands_taken_by k m (drop i cs)) (sym z) ∙ g.rest
 
   -- The words end.
-  pub ends-empty : length cs ≤ i → outcome number m (drop (length cs) cs) ≡ commands_taken_by most m₀ cs
+  pub ends-empty : length cs ≤ i → outcome 0 m (drop (length cs) cs) ≡ commands_taken_by most m₀ cs
   ends-empty h =
       let z : drop i cs ≡ [] = drop_of_length-le cs h in
       let k : length cs ≤ length cs = omega arith in
       let y : drop (length cs) cs ≡ [] = drop_of_length-le cs k in
-      rw (g.clean, y) (sym (taken_none (most - i) m) ∙ ap (commands_taken_by (most - i) m) (sym z) ∙ g.rest)
+      rw y (sym (taken_none (most - i) m) ∙ ap (commands_taken_by (most - i) m) (sym z) ∙ g.rest)
 
-  module _ (b : i < most) (l : i < length cs) {n : ℕ} {w : Bool} {after : List ℕ}
+  module _ (b : i ≢ most) (l : i < length cs) {n : ℕ} {w : Bool} {after : List ℕ}
       (en : n ≡ command_refusal (get_or cs i 0)) (ew : w ≡ taken_waiting m (get_or cs i 0)) (ea : after ≡ after_command m (get_or cs i 0)) where
+    below : i < most
+    below = omega (arith, b, g.within)
+
     -- A refused command is not taken.
     pub ends-refused : n ≢ 0 → outcome n after (drop i cs) ≡ commands_taken_by most m₀ cs
     ends-refused h =
         let r : command_refusal (get_or cs i 0) ≢ 0 = λ p. h (en ∙ p) in
-        rw (en, ea, refused-leaves m (get_or cs i 0) r) (sym (turn most i m cs b l ∙ rw (ne_eqb (command_refusal (get_or cs i 0)) 0 r)) ∙ g.rest)
+        rw (en, ea, refused-leaves m (get_or cs i 0) r) (sym (turn most i m cs below l ∙ rw (ne_eqb (command_refusal (get_or cs i 0)) 0 r)) ∙ g.rest)
 
     module _ (h : n ≡ 0) where
       passed : command_refusal (get_or cs i 0) ≡ 0
@@ -79,20 +80,17 @@ module _ {m₀ cs : List ℕ} {most : ℕ} {m : List ℕ} {number i : ℕ} (g : 
       waiting = sym (passed-waits m (get_or cs i 0) passed) ∙ sym ew
 
       by-waiting : commands_taken_by most m₀ cs ≡ cond w (outcome 0 (done m (get_or cs i 0)) (drop (i + 1) cs)) (commands_taken_by (most - (i + 1)) (done m (get_or cs i 0)) (drop (i + 1) cs))
-      by-waiting = sym g.rest ∙ turn most i m cs b l ∙ rw (eq-eqb (command_refusal (get_or cs i 0)) 0 passed, waiting)
+      by-waiting = sym g.rest ∙ turn most i m cs below l ∙ rw (eq-eqb (command_refusal (get_or cs i 0)) 0 passed, waiting)
 
       -- A waiting one is taken, and no more.
-      pub ends-waiting : w ≡ true → outcome number after (drop (i + 1) cs) ≡ commands_taken_by most m₀ cs
-      ends-waiting t =
-          rw (g.clean, ea, passed-does m (get_or cs i 0) passed, by-waiting, t)
+      pub ends-waiting : w ≡ true → outcome 0 after (drop (i + 1) cs) ≡ commands_taken_by most m₀ cs
+      ends-waiting t = rw (ea, passed-does m (get_or cs i 0) passed, by-waiting, t)
 
       -- Any other is taken.
-      pub goes_on : w ≡ false → length after ≡ length m → Going m₀ cs most after number (i + 1)
+      pub goes_on : w ≡ false → length after ≡ length m → Going m₀ cs most after (i + 1)
       goes_on f s =
           record {
-            here = omega arith;
-            within = omega arith;
+            within = omega (arith, below);
             size = s ∙ g.size;
-            clean = g.clean;
             rest = rw (ea, passed-does m (get_or cs i 0) passed, by-waiting, f);
           }

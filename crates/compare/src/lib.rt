@@ -1,45 +1,27 @@
 // Whether two orders of the generators are equal.
 #![tactic(auto)]
 
-ghost use Rattle.std.specs.Prelude.{◌≡◌};
+ghost use Rattle.std.specs.Prelude.{◌≡◌, false};
+ghost use Rattle.base_questions.specs.Refusals.{refused, answer_or};
 ghost use Rattle.compare.specs.Compare.{compare_refusal, compare_of};
 
+use base_questions::Refusal;
 use layout_texts::Text;
 
-// What a compare answers: the number of the refusing question or 0, and whether the orders are equal.
-#[derive(Clone, Copy)]
-pub struct Compared {
-    pub number: u32,
-    pub equal: bool,
-}
-
-// The first question of a compare that is answered no, or 0.
-pub fn refusal(text: Text, m: &[u32], first: &[u32], second: &[u32]) -> u32
-    ensures { result ≡ compare_refusal text m.now first.now second.now }
+// The first question of a compare that is answered no, if one is.
+pub fn refusal(text: Text, m: &[u32], first: &[u32], second: &[u32]) -> Result<(), Refusal>
+    ensures { refused result ≡ compare_refusal text m.now first.now second.now }
 {
-    let number = machine::refusal(text, m);
-    if number != 0 {
-        return number;
-    }
+    machine::refusal(text, m)?;
     let t = layout::ticks(m);
-    let number = pass_order::order_refusal(first, t);
-    if number != 0 {
-        return number;
-    }
+    pass_order::order_refusal(first, t)?;
     pass_order::order_refusal(second, t)
 }
 
-// Whether two orders of a machine's generators are equal. A refused compare says no.
-pub fn compare(text: Text, m: &[u32], first: &[u32], second: &[u32]) -> Compared
-    ensures { record { number = result.number; equal = result.equal } ≡ compare_of text m.now first.now second.now }
+// Whether two orders of a machine's generators are equal. A refused compare doesn't say yes.
+pub fn compare(text: Text, m: &[u32], first: &[u32], second: &[u32]) -> Result<bool, Refusal>
+    ensures { record { number = refused result; equal = answer_or false result } ≡ compare_of text m.now first.now second.now }
 {
-    let number = refusal(text, m, first, second);
-    if number != 0 {
-        return Compared {
-            number,
-            equal: false,
-        };
-    }
-    let equal = compare_first::agrees(text, m, first, second);
-    Compared { number: 0, equal }
+    refusal(text, m, first, second)?;
+    Ok(compare_first::agrees(text, m, first, second))
 }

@@ -1,3 +1,4 @@
+pub mod Failing
 pub mod Asked
 pub mod Neighbours
 pub mod Differences

@@ -15,9 +15,10 @@ use Rattle.base_sequences.proofs.Loops.{failing-same}
 use Rattle.pass_order.specs.Order.{IsOrder}
 use Rattle.compare_agreement.specs.Agreement.{settings_of}
 use Rattle.compare_agreement.specs.Points.{neighbour_same, neighbour_point}
-use Rattle.compare_traces.specs.AsCoded.{Traceable}
+use Rattle.compare_traces.specs.declared.Trace.{Trace}
+use Rattle.compare_traces.specs.AsCoded.{Traceable, trace_of}
 use Rattle.compare_traces.proofs.Holds.{trace-holds}
-use Rattle.compare_points.specs.AsCoded.{Sides, sides_of, side_by, neighbour_by}
+use Rattle.compare_points.specs.AsCoded.{sides, sides_of, side_by, neighbour_by}
 
 module _ (text : Text) (m : Machine) (o₁ o₂ : Order) (ready : Traceable m) (ordered : IsOrder (ticks_of m) o₁ × IsOrder (ticks_of m) o₂) where
   -- Which side g stands on of h.
@@ -41,6 +42,8 @@ module _ (text : Text) (m : Machine) (o₁ o₂ : Order) (ready : Traceable m) (
           sides-held (g - distance_of text) g (omega arith) h
       go false e = refl
 
-  pub neighbours-held : {sides : Sides} → sides ≡ sides_of text m o₁ o₂ → first_failing (neighbour_by text m sides) (ticks_of m) ≡ neighbour_point (settings_of text m) o₁ o₂
+  pub neighbours-held : {t₁ t₂ : Trace} → t₁ ≡ trace_of text m o₁ → t₂ ≡ trace_of text m o₂
+      → first_failing (neighbour_by text m (sides t₁ t₂)) (ticks_of m) ≡ neighbour_point (settings_of text m) o₁ o₂
   unfolding neighbour_point
-  neighbours-held e = rw e (failing-same (neighbour_by text m (sides_of text m o₁ o₂)) (neighbour_same (settings_of text m) o₁ o₂) (ticks_of m) neighbour-held)
+  neighbours-held e₁ e₂ =
+      rw (e₁, e₂) (failing-same (neighbour_by text m (sides_of text m o₁ o₂)) (neighbour_same (settings_of text m) o₁ o₂) (ticks_of m) neighbour-held)

@@ -23,9 +23,11 @@ use Rattle.base_sequences.proofs.Loops.{failing-same}
 use Rattle.pass_order.specs.Order.{IsOrder}
 use Rattle.compare_agreement.specs.Agreement.{settings_of, replaces_word, adds_to_word, last_replacing, place_replacing, after_replacing}
 use Rattle.compare_agreement.specs.Points.{word_same, word_point}
-use Rattle.compare_traces.specs.AsCoded.{Traceable, Replaced, Trace, trace_of}
+use Rattle.compare_traces.specs.declared.Replaced.{Replaced}
+use Rattle.compare_traces.specs.declared.Trace.{Trace}
+use Rattle.compare_traces.specs.AsCoded.{Traceable, trace_of}
 use Rattle.compare_traces.proofs.Holds.{Holds, trace-holds}
-use Rattle.compare_points.specs.AsCoded.{Sides, sides_of, side_by, same_at, adder_by, LastsWithin, word_marked_by, marks_of, word_by}
+use Rattle.compare_points.specs.AsCoded.{Sides, sides, sides_of, side_by, same_at, adder_by, LastsWithin, word_marked_by, marks_of, word_by}
 use Rattle.compare_points.proofs.Neighbours.{sides-held}
 
 -- The marks of the generators below n: a word has none just where each of them stands on the same side.
@@ -70,9 +72,9 @@ module _ (text : Text) (m : Machine) (sides : Sides) (last : List ℕ) where
   marks-hold ready (suc n) h = marks-next (marks_of text m sides last n) n (ready.gsums n (omega arith)) (marks-hold ready n (omega arith))
 
   -- The loop: none yet, and one generator more.
-  pub marked-none : {marks : List ℕ} → marks ≡ zeros quadrant_words → marks ≡ marks_of text m sides last 0
+  pub marked-none : zeros quadrant_words ≡ marks_of text m sides last 0
   unfolding marks_of
-  marked-none e = e
+  marked-none = refl
 
   pub marked_next : (g : ℕ) {marks marked : List ℕ} → marks ≡ marks_of text m sides last g → marked ≡ word_marked_by text m sides last g marks
       → marked ≡ marks_of text m sides last (g + 1)
@@ -80,7 +82,7 @@ module _ (text : Text) (m : Machine) (sides : Sides) (last : List ℕ) where
   marked_next g e f = rw (add-one g, f, e)
 
 -- The bound on what is held of the last 0111s.
-pub lasts-within : (text : Text) (m : Machine) (order : Order) → Traceable m → IsOrder (ticks_of m) order → {r : Replaced} → r ≡ (trace_of text m order).replaced → LastsWithin r.last
+pub lasts-within : (text : Text) (m : Machine) (order : Order) → Traceable m → IsOrder (ticks_of m) order → {t : Trace} → t ≡ trace_of text m order → LastsWithin t.replaced.last
 unfolding latest
 lasts-within text m order ready o e =
     rw e (record { within = λ w h. rw ((trace-holds text m order ready o).last w h) (within w (some (replaces_word (settings_of text m) w) order) refl) })
@@ -200,8 +202,9 @@ module _ (text : Text) (m : Machine) (o₁ o₂ : Order) (ready : Traceable m) (
       go true e = word-there w h e
       go false e = word_none w h e
 
-  pub words-held : (s : Sides) (r₁ r₂ : Replaced) {marked : List ℕ} → s ≡ sides_of text m o₁ o₂ → (r₁ ≡ (trace_of text m o₁).replaced) × (r₂ ≡ (trace_of text m o₂).replaced)
-      → marked ≡ marks_of text m s r₁.last (ticks_of m) → first_failing (word_by r₁ r₂ marked) quadrant_words ≡ word_point (settings_of text m) o₁ o₂
+  pub words-held : {t₁ t₂ : Trace} → t₁ ≡ trace_of text m o₁ → t₂ ≡ trace_of text m o₂ → {marked : List ℕ}
+      → marked ≡ marks_of text m (sides t₁ t₂) t₁.replaced.last (ticks_of m)
+      → first_failing (word_by t₁.replaced t₂.replaced marked) quadrant_words ≡ word_point (settings_of text m) o₁ o₂
   unfolding word_point
-  words-held s r₁ r₂ es (e₁, e₂) em =
-      rw (em, es, e₁, e₂) (failing-same (word_by first second marks) (word_same (settings_of text m) o₁ o₂) quadrant_words word_held)
+  words-held e₁ e₂ em =
+      rw (em, e₁, e₂) (failing-same (word_by first second marks) (word_same (settings_of text m) o₁ o₂) quadrant_words word_held)

@@ -1,21 +1,30 @@
 -- The four points as the code asks them: the tests on the traces of two orders.
 -- Readers need only the points, to which laws join these. Assumes nothing.
-use Rattle.std.specs.Prelude.{ℕ, zero, suc, ◌-◌, ◌<◌, ◌≤◌, Bool, true, cond, ◌&&◌, not, List, eqb, ltb, get_or, set}
+use Rattle.std.specs.Prelude.{ℕ, zero, suc, ◌-◌, ◌<◌, ◌≤◌, Bool, true, cond, ◌&&◌, not, List, Option, None, Some, eqb, ltb, get_or, set}
 use Rattle.std.specs.Bool.{beq}
 use Rattle.base_lists.specs.Lists.{zeros}
 use Rattle.layout.specs.Layout.{generators, quadrant_words}
 use Rattle.layout.specs.Machine.{Machine, Order, gsum_at}
 use Rattle.layout_texts.specs.declared.Text.{Text}
 use Rattle.compare_agreement.specs.Agreement.{settings_of, awaits, adds_to_word}
-use Rattle.compare_traces.specs.AsCoded.{Replaced, trace_of}
+use Rattle.compare_traces.specs.declared.Replaced.{Replaced}
+use Rattle.compare_traces.specs.declared.Trace.{Trace}
+use Rattle.compare_traces.specs.AsCoded.{trace_of}
+
+-- Where a point fails first, if that lies below its bound.
+abbrev pub where_failing : ℕ → ℕ → Option ℕ
+where_failing bound place = cond (eqb place bound) None (Some place)
 
 -- The places of the generators in two orders.
 pub record Sides : Type 0 where
   pub first : List ℕ
   pub second : List ℕ
 
+abbrev pub sides : Trace → Trace → Sides
+sides t₁ t₂ = record { first = t₁.place; second = t₂.place }
+
 abbrev pub sides_of : Text → Machine → Order → Order → Sides
-sides_of text m o₁ o₂ = record { first = (trace_of text m o₁).place; second = (trace_of text m o₂).place }
+sides_of text m o₁ o₂ = sides (trace_of text m o₁) (trace_of text m o₂)
 
 -- Whether g stands before h.
 abbrev pub earlier : List ℕ → ℕ → ℕ → Bool

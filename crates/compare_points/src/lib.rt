@@ -1,244 +1,178 @@
-// The four points on which two orders of the generators may differ, by the traces of the orders: each answers where it fails first, or its bound
-// where it fails nowhere. Arrays numbered 1 are of the first order, 2 of the second. The orders themselves are handed over for what is promised of them.
+// The four points on which two orders of the generators may differ, by the traces of the orders: each answers where it fails first, if it fails.
 #![tactic(auto)]
 
 ghost use Rattle.std.specs.Prelude.{◌≡◌, ◌<◌, ◌≤◌, length};
-ghost use Rattle.base_lists.specs.Lists.{zeros};
-ghost use Rattle.layout.specs.Layout.{generators, quadrant_words};
-ghost use Rattle.layout.specs.Machine.{Reaches, ticks_of};
+ghost use Rattle.layout.specs.Layout.{generators, quadrant_words, dacs};
+ghost use Rattle.layout.specs.Machine.{ticks_of};
 ghost use Rattle.base_sequences.specs.Sequences.{first_failing};
 ghost use Rattle.pass_order.specs.Order.{IsOrder};
 ghost use Rattle.compare_agreement.specs.Agreement.{settings_of};
-ghost use Rattle.compare_agreement.specs.Points.{neighbour_point, feeder_point, writer_point, word_point};
+ghost use Rattle.compare_agreement.specs.Points.{neighbour_point, feeder_point, writer_point, word_point, writers_of};
 ghost use Rattle.compare_roles.specs.AsCoded.{RunsOf};
 ghost use Rattle.compare_traces.specs.AsCoded.{Traceable, trace_of};
-ghost use Rattle.compare_points.specs.AsCoded.{sides_of, side_by, neighbour_by, same_at, LastsWithin, word_marked_by, marks_of, word_by};
+ghost use Rattle.compare_points.specs.AsCoded.{sides, side_by, neighbour_by, same_at, word_marked_by, marks_of, word_by, where_failing};
 
 use compare_roles::Runs;
-use compare_traces::{Feeders, GeneratorPlaces, SumWords, Writers};
+use compare_traces::Trace;
 use layout_texts::Text;
 
 // A mark for each sum word.
 type Marks = [u8; layout::QUADRANT_WORDS];
 
-// Whether g and h stand in the same sequence in two orders, by their places.
-pub fn same_side(place1: &GeneratorPlaces, place2: &GeneratorPlaces, g: usize, h: usize) -> bool
-    requires { (g < generators) × (h < generators) }
-    ensures { result ≡ side_by (record { first = place1.now; second = place2.now }) g h }
-{
-    (place1[g] < place1[h]) == (place2[g] < place2[h])
+// Two orders of a machine's generators, with what the points look at: the generators' run modes and the traces of the orders.
+#[derive(Drop)]
+pub struct Orders<'a> {
+    pub text: Text,
+    pub m: &'a [u32],
+    pub first: &'a [u32],
+    pub second: &'a [u32],
+    pub runs: Runs,
+    pub first_trace: Trace,
+    pub second_trace: Trace,
+    pub ghost traceable: { Traceable m.now },
+    pub ghost first_order: { IsOrder (ticks_of m.now) first.now },
+    pub ghost second_order: { IsOrder (ticks_of m.now) second.now },
+    pub ghost runs_of: { RunsOf text m.now runs },
+    pub ghost first_traced: { first_trace ≡ trace_of text m.now first.now },
+    pub ghost second_traced: { second_trace ≡ trace_of text m.now second.now },
 }
 
-// The first point at generator g.
-fn neighbour_same(
-    text: Text,
-    m: &[u32],
-    runs: &Runs,
-    place1: &GeneratorPlaces,
-    place2: &GeneratorPlaces,
-    g: usize,
-) -> bool
-    requires reaches { Reaches m.now }
-    requires runs_of { RunsOf text m.now runs.now }
-    requires g_bound { (g < ticks_of m.now) × (ticks_of m.now ≤ generators) }
-    ensures { result ≡ neighbour_by text m.now (record { first = place1.now; second = place2.now }) g }
-{
-    if compare_roles::run_at(text, m, runs, g) != layout_modes::WAIT {
-        return true;
-    }
-    if !compare_roles::awaits(text, m, g) {
-        return true;
-    }
-    let distance = layout_texts::distance(text);
-    same_side(place1, place2, g - distance, g)
-}
-
-// The lowest generator that waits and has a lower neighbour that can trigger on another side; T where there is none.
-pub fn neighbour_point(
-    text: Text,
-    m: &[u32],
-    runs: &Runs,
-    first: &[u32],
-    second: &[u32],
-    place1: &GeneratorPlaces,
-    place2: &GeneratorPlaces,
-) -> usize
-    requires traceable { Traceable m.now × RunsOf text m.now runs.now }
-    requires order { IsOrder (ticks_of m.now) first.now × IsOrder (ticks_of m.now) second.now }
-    requires place2_value { record { first = place1.now; second = place2.now } ≡ sides_of text m.now first.now second.now }
-    ensures { result ≡ neighbour_point (settings_of text m.now) first.now second.now }
-{
-    let t = layout::ticks(m);
-    let mut g: usize = 0;
-    while g < t {
-        if !neighbour_same(text, m, runs, place1, place2, g) {
-            return g;
-        }
-        g += 1;
-    }
-    g
-}
-
-// The lowest of n places at which two arrays hold another number; n where there is none.
-fn first_difference(first: &[u32], second: &[u32], n: usize) -> usize
+// The lowest of n places at which two arrays hold another number.
+fn first_difference(first: &[u32], second: &[u32], n: usize) -> Option<usize>
     requires { (n ≤ length first.now) × (n ≤ length second.now) }
-    ensures { result ≡ first_failing (same_at first.now second.now) n }
+    ensures { result ≡ where_failing n (first_failing (same_at first.now second.now) n) }
 {
-    let mut i: usize = 0;
-    while i < n {
+    for i in 0..n {
         if first[i] != second[i] {
-            return i;
+            return Some(i);
         }
-        i += 1;
     }
-    i
+    None
 }
 
-// The lowest DAC that is fed last through another GFM; DACS where there is none.
-pub fn feeder_point(
-    text: Text,
-    m: &[u32],
-    first: &[u32],
-    second: &[u32],
-    fed1: &Feeders,
-    fed2: &Feeders,
-) -> usize
-    requires traceable { Traceable m.now }
-    requires order { IsOrder (ticks_of m.now) first.now × IsOrder (ticks_of m.now) second.now }
-    requires fed1_value { (fed1.now ≡ (trace_of text m.now first.now).fed) × (fed2.now ≡ (trace_of text m.now second.now).fed) }
-    ensures { result ≡ feeder_point (settings_of text m.now) first.now second.now }
-{
-    first_difference(fed1, fed2, layout::DACS)
-}
-
-// The lowest place at which the GFMs of the written data, n in each order, differ; n where there is none.
-pub fn writer_point(
-    text: Text,
-    m: &[u32],
-    first: &[u32],
-    second: &[u32],
-    written1: &Writers,
-    written2: &Writers,
-    n: usize,
-) -> usize
-    requires traceable { Traceable m.now }
-    requires order { IsOrder (ticks_of m.now) first.now × IsOrder (ticks_of m.now) second.now }
-    requires written1_value { (written1.now ≡ (trace_of text m.now first.now).written) × (written2.now ≡ (trace_of text m.now second.now).written) }
-    requires n_value { n ≡ (trace_of text m.now first.now).counts.writes }
-    ensures { result ≡ writer_point (settings_of text m.now) first.now second.now }
-{
-    first_difference(written1, written2, n)
-}
-
-// If generator g adds to a word and stands on another side of the word's last 0111 in one order than in the other, the word is marked.
-fn adder(
-    text: Text,
-    m: &[u32],
-    runs: &Runs,
-    place1: &GeneratorPlaces,
-    place2: &GeneratorPlaces,
-    last: &SumWords,
-    marks: &mut Marks,
-    g: usize,
-)
-    requires traceable { Traceable m.now × RunsOf text m.now runs.now }
-    requires lasts_within { LastsWithin last.now × (g < ticks_of m.now) }
-    ensures { marks.new ≡ word_marked_by text m.now (record { first = place1.now; second = place2.now }) last.now g marks.old }
-{
-    if !compare_roles::adding(compare_roles::run_at(text, m, runs, g)) {
-        return;
-    }
-    let w = layout::gsum(m, g);
-    let l = layout::wide(last[w]);
-    if l == 0 {
-        return;
-    }
-    if same_side(place1, place2, l - 1, g) {
-        return;
-    }
-    marks[w] = 1;
-}
-
-// The words are marked of which an adding generator stands on another side of the last 0111 in one order than in the other.
-fn adders(
-    text: Text,
-    m: &[u32],
-    runs: &Runs,
-    place1: &GeneratorPlaces,
-    place2: &GeneratorPlaces,
-    last: &SumWords,
-    marks: &mut Marks,
-)
-    requires traceable { Traceable m.now × RunsOf text m.now runs.now }
-    requires lasts_within { LastsWithin last.now }
-    requires marks_value { marks.old ≡ zeros quadrant_words }
-    ensures { marks.new ≡ marks_of text m.now (record { first = place1.now; second = place2.now }) last.now (ticks_of m.now) }
-{
-    let t = layout::ticks(m);
-    let mut g: usize = 0;
-    while g < t {
-        adder(text, m, runs, place1, place2, last, marks, g);
-        g += 1;
-    }
-}
-
-// The fourth point at word w.
-fn word_same(
-    last1: &SumWords,
-    last2: &SumWords,
-    among1: &SumWords,
-    among2: &SumWords,
-    marks: &Marks,
-    w: usize,
-) -> bool
-    requires { w < quadrant_words }
-    ensures { result ≡ word_by (record { last = last1.now; among = among1.now }) (record { last = last2.now; among = among2.now }) marks.now w }
-{
-    (last1[w] == last2[w]) & (among1[w] == among2[w]) & (marks[w] == 0)
-}
-
-// The lowest word at which the fourth point fails; QUADRANT_WORDS where there is none.
-fn words(
-    last1: &SumWords,
-    last2: &SumWords,
-    among1: &SumWords,
-    among2: &SumWords,
-    marks: &Marks,
-) -> usize
-    ensures { result ≡ first_failing (word_by (record { last = last1.now; among = among1.now }) (record { last = last2.now; among = among2.now }) marks.now) quadrant_words }
-{
-    let mut w: usize = 0;
-    while w < layout::QUADRANT_WORDS {
-        if !word_same(last1, last2, among1, among2, marks, w) {
-            return w;
+impl<'a> Orders<'a> {
+    pub fn new(text: Text, m: &'a [u32], first: &'a [u32], second: &'a [u32]) -> Orders<'a>
+        requires traceable { Traceable m.now }
+        requires order { IsOrder (ticks_of m.now) first.now × IsOrder (ticks_of m.now) second.now }
+        ensures machine { (result.text ≡ text) × (result.m.now ≡ m.now) }
+        ensures orders { (result.first.now ≡ first.now) × (result.second.now ≡ second.now) }
+    {
+        let runs = compare_roles::runs(text, m);
+        let first_trace = Trace::of(text, m, &runs, first);
+        let second_trace = Trace::of(text, m, &runs, second);
+        Orders {
+            text,
+            m,
+            first,
+            second,
+            runs,
+            first_trace,
+            second_trace,
         }
-        w += 1;
     }
-    w
-}
 
-// The lowest word with a 0111 that has another last one, or at another place among all 0111s, or other adding generators after it;
-// QUADRANT_WORDS where there is none.
-pub fn word_point(
-    text: Text,
-    m: &[u32],
-    runs: &Runs,
-    first: &[u32],
-    second: &[u32],
-    place1: &GeneratorPlaces,
-    place2: &GeneratorPlaces,
-    last1: &SumWords,
-    last2: &SumWords,
-    among1: &SumWords,
-    among2: &SumWords,
-) -> usize
-    requires traceable { Traceable m.now × RunsOf text m.now runs.now }
-    requires order { IsOrder (ticks_of m.now) first.now × IsOrder (ticks_of m.now) second.now }
-    requires place2_value { record { first = place1.now; second = place2.now } ≡ sides_of text m.now first.now second.now }
-    requires among1_value { (record { last = last1.now; among = among1.now } ≡ (trace_of text m.now first.now).replaced) × (record { last = last2.now; among = among2.now } ≡ (trace_of text m.now second.now).replaced) }
-    ensures { result ≡ word_point (settings_of text m.now) first.now second.now }
-{
-    let mut marks = [0u8; layout::QUADRANT_WORDS];
-    adders(text, m, runs, place1, place2, last1, &mut marks);
-    words(last1, last2, among1, among2, &marks)
+    // Whether g and h stand in the same sequence in both.
+    pub fn same_side(&self, g: usize, h: usize) -> bool
+        requires { (g < generators) × (h < generators) }
+        ensures { result ≡ side_by (sides self.now.first_trace self.now.second_trace) g h }
+    {
+        let first = &self.first_trace.place;
+        let second = &self.second_trace.place;
+        (first[g] < first[h]) == (second[g] < second[h])
+    }
+
+    // The first point at generator g.
+    fn neighbour_same(&self, g: usize) -> bool
+        requires { g < ticks_of self.now.m.now }
+        ensures { result ≡ neighbour_by self.now.text self.now.m.now (sides self.now.first_trace self.now.second_trace) g }
+    {
+        if compare_roles::run_at(self.text, self.m, &self.runs, g) != layout_modes::WAIT {
+            return true;
+        }
+        if !compare_roles::awaits(self.text, self.m, g) {
+            return true;
+        }
+        let distance = layout_texts::distance(self.text);
+        self.same_side(g - distance, g)
+    }
+
+    // The lowest generator that waits and has a lower neighbour that can trigger on another side.
+    pub fn neighbour_point(&self) -> Option<usize>
+        ensures { result ≡ where_failing (ticks_of self.now.m.now) (neighbour_point (settings_of self.now.text self.now.m.now) self.now.first.now self.now.second.now) }
+    {
+        for g in 0..layout::ticks(self.m) {
+            if !self.neighbour_same(g) {
+                return Some(g);
+            }
+        }
+        None
+    }
+
+    // The lowest DAC that is fed last through another GFM.
+    pub fn feeder_point(&self) -> Option<usize>
+        ensures { result ≡ where_failing dacs (feeder_point (settings_of self.now.text self.now.m.now) self.now.first.now self.now.second.now) }
+    {
+        first_difference(&self.first_trace.fed, &self.second_trace.fed, layout::DACS)
+    }
+
+    // The lowest place at which the GFMs of the written data differ.
+    pub fn writer_point(&self) -> Option<usize>
+        ensures { result ≡ where_failing (writers_of (settings_of self.now.text self.now.m.now) self.now.first.now self.now.second.now) (writer_point (settings_of self.now.text self.now.m.now) self.now.first.now self.now.second.now) }
+    {
+        let n = self.first_trace.counts.writes;
+        first_difference(&self.first_trace.written, &self.second_trace.written, n)
+    }
+
+    // If generator g adds to a word and stands on another side of the word's last 0111 in one order than in the other, the word is marked.
+    fn adder(&self, marks: &mut Marks, g: usize)
+        requires { g < ticks_of self.now.m.now }
+        ensures { marks.new ≡ word_marked_by self.now.text self.now.m.now (sides self.now.first_trace self.now.second_trace) self.now.first_trace.replaced.last g marks.old }
+    {
+        if !compare_roles::adding(compare_roles::run_at(self.text, self.m, &self.runs, g)) {
+            return;
+        }
+        let w = layout::gsum(self.m, g);
+        let l = layout::wide(self.first_trace.replaced.last[w]);
+        if l == 0 {
+            return;
+        }
+        if self.same_side(l - 1, g) {
+            return;
+        }
+        marks[w] = 1;
+    }
+
+    // The words are marked of which an adding generator stands on another side of the last 0111 in one order than in the other.
+    fn adders(&self) -> Marks
+        ensures { result ≡ marks_of self.now.text self.now.m.now (sides self.now.first_trace self.now.second_trace) self.now.first_trace.replaced.last (ticks_of self.now.m.now) }
+    {
+        let mut marks = [0u8; layout::QUADRANT_WORDS];
+        for g in 0..layout::ticks(self.m) {
+            self.adder(&mut marks, g);
+        }
+        marks
+    }
+
+    // The fourth point at word w.
+    fn word_same(&self, marks: &Marks, w: usize) -> bool
+        requires { w < quadrant_words }
+        ensures { result ≡ word_by self.now.first_trace.replaced self.now.second_trace.replaced marks.now w }
+    {
+        let first = &self.first_trace.replaced;
+        let second = &self.second_trace.replaced;
+        (first.last[w] == second.last[w]) & (first.among[w] == second.among[w]) & (marks[w] == 0)
+    }
+
+    // The lowest word with a 0111 that has another last one, or at another place among all 0111s, or other adding generators after it.
+    pub fn word_point(&self) -> Option<usize>
+        ensures { result ≡ where_failing quadrant_words (word_point (settings_of self.now.text self.now.m.now) self.now.first.now self.now.second.now) }
+    {
+        let marks = self.adders();
+        for w in 0..layout::QUADRANT_WORDS {
+            if !self.word_same(&marks, w) {
+                return Some(w);
+            }
+        }
+        None
+    }
 }

@@ -15,6 +15,7 @@ use layout_texts::Text;
 pub fn triggering(run: u32) -> bool
     ensures { result ≡ free run }
 {
+    // No `matches!`: these two comparisons are as short, and one equation where its arms are three cases.
     (run == layout_modes::RUNNING_B) | (run == layout_modes::RUNNING_C)
 }
 
@@ -52,11 +53,9 @@ pub fn runs(text: Text, m: &[u32]) -> Runs
 {
     let t = layout::ticks(m);
     let mut runs = [0u8; layout::GENERATORS];
-    let mut g: usize = 0;
-    while g < t {
+    for g in 0..t {
         let run = layout_texts::run_mode(text, m, g);
         runs[g] = run as u8;
-        g += 1;
     }
     runs
 }

@@ -1,95 +1,59 @@
 // The generator that is to sound so that a sum word shows that the fourth point fails there, by the traces of two orders.
-// Arrays numbered 1 are of the first order, 2 of the second. The orders themselves are handed over for what is promised of them.
 #![tactic(auto)]
 
 ghost use Rattle.std.specs.Prelude.{◌≡◌, false, ◌<◌};
 ghost use Rattle.layout.specs.Layout.{generators, quadrant_words};
-ghost use Rattle.layout.specs.Machine.{Reaches, ticks_of};
+ghost use Rattle.layout.specs.Machine.{ticks_of};
 ghost use Rattle.base_sequences.specs.Sequences.{first_failing};
-ghost use Rattle.pass_order.specs.Order.{IsOrder};
 ghost use Rattle.compare_agreement.specs.Agreement.{settings_of};
 ghost use Rattle.compare_agreement.specs.Points.{word_same, sounding_at};
-ghost use Rattle.compare_traces.specs.AsCoded.{Traceable, trace_of};
-ghost use Rattle.compare_points.specs.AsCoded.{sides_of};
+ghost use Rattle.compare_points.specs.AsCoded.{sides};
 ghost use Rattle.compare_sounding.specs.AsCoded.{adder_on};
 
-use compare_traces::{GeneratorPlaces, SumWords};
-use layout_texts::Text;
+use compare_points::Orders;
 
 // Whether g, if it adds to word w, stands on the same side of generator l in both orders.
-fn adder_same(
-    text: Text,
-    m: &[u32],
-    place1: &GeneratorPlaces,
-    place2: &GeneratorPlaces,
-    w: usize,
-    l: usize,
-    g: usize,
-) -> bool
-    requires reaches { Reaches m.now }
-    requires l_lt_generators { (l < generators) × (g < generators) }
-    ensures { result ≡ adder_on text m.now (record { first = place1.now; second = place2.now }) w l g }
+fn adder_same(orders: &Orders, w: usize, l: usize, g: usize) -> bool
+    requires { (l < generators) × (g < generators) }
+    ensures { result ≡ adder_on orders.now.text orders.now.m.now (sides orders.now.first_trace orders.now.second_trace) w l g }
 {
-    if layout::gsum(m, g) != w {
+    if layout::gsum(orders.m, g) != w {
         return true;
     }
-    if !compare_roles::adding(layout_texts::run_mode(text, m, g)) {
+    if !compare_roles::adding(layout_texts::run_mode(orders.text, orders.m, g)) {
         return true;
     }
-    compare_points::same_side(place1, place2, l, g)
+    orders.same_side(l, g)
 }
 
-// The lowest generator that adds to word w and stands on another side of generator l; T where there is none.
-fn adder_point(
-    text: Text,
-    m: &[u32],
-    place1: &GeneratorPlaces,
-    place2: &GeneratorPlaces,
-    w: usize,
-    l: usize,
-) -> usize
-    requires traceable { Traceable m.now }
-    requires l_lt_generators { l < generators }
-    ensures { result ≡ first_failing (adder_on text m.now (record { first = place1.now; second = place2.now }) w l) (ticks_of m.now) }
+// The lowest generator that adds to word w and stands on another side of generator l; T where there is none, as the definition has it:
+// at a word where the fourth point fails there is one.
+fn adder_point(orders: &Orders, w: usize, l: usize) -> usize
+    requires { l < generators }
+    ensures { result ≡ first_failing (adder_on orders.now.text orders.now.m.now (sides orders.now.first_trace orders.now.second_trace) w l) (ticks_of orders.now.m.now) }
 {
-    let t = layout::ticks(m);
-    let mut g: usize = 0;
-    while g < t {
-        if !adder_same(text, m, place1, place2, w, l, g) {
+    let t = layout::ticks(orders.m);
+    for g in 0..t {
+        if !adder_same(orders, w, l, g) {
             return g;
         }
-        g += 1;
     }
-    g
+    t
 }
 
-// The generator that is to sound at a word at which the fourth point fails; GENERATORS where none is.
-pub fn sounding(
-    text: Text,
-    m: &[u32],
-    first: &[u32],
-    second: &[u32],
-    place1: &GeneratorPlaces,
-    place2: &GeneratorPlaces,
-    last1: &SumWords,
-    last2: &SumWords,
-    among1: &SumWords,
-    among2: &SumWords,
-    w: usize,
-) -> usize
-    requires traceable { Traceable m.now }
-    requires order { IsOrder (ticks_of m.now) first.now × IsOrder (ticks_of m.now) second.now }
-    requires place2_value { record { first = place1.now; second = place2.now } ≡ sides_of text m.now first.now second.now }
-    requires among1_value { (record { last = last1.now; among = among1.now } ≡ (trace_of text m.now first.now).replaced) × (record { last = last2.now; among = among2.now } ≡ (trace_of text m.now second.now).replaced) }
-    requires w_lt_quadrant_words { (w < quadrant_words) × (word_same (settings_of text m.now) first.now second.now w ≡ false) }
-    ensures { result ≡ sounding_at (settings_of text m.now) first.now second.now w }
+// The generator that is to sound at a word at which the fourth point fails; GENERATORS where none is, a number that the contents' definition takes too.
+pub fn sounding(orders: &Orders, w: usize) -> usize
+    requires { (w < quadrant_words) × (word_same (settings_of orders.now.text orders.now.m.now) orders.now.first.now orders.now.second.now w ≡ false) }
+    ensures { result ≡ sounding_at (settings_of orders.now.text orders.now.m.now) orders.now.first.now orders.now.second.now w }
 {
-    let l = layout::wide(last1[w]) - 1;
-    if last1[w] != last2[w] {
+    let first = &orders.first_trace.replaced;
+    let second = &orders.second_trace.replaced;
+    let l = layout::wide(first.last[w]) - 1;
+    if first.last[w] != second.last[w] {
         return l;
     }
-    if among1[w] != among2[w] {
+    if first.among[w] != second.among[w] {
         return layout::GENERATORS;
     }
-    adder_point(text, m, place1, place2, w, l)
+    adder_point(orders, w, l)
 }

@@ -26,7 +26,9 @@ use Rattle.base_sequences.proofs.Orders.{length-keep}
 use Rattle.base_sequences.proofs.Loops.{kept_next, kept-past, kept-end}
 use Rattle.pass_order.specs.Order.{IsOrder}
 use Rattle.compare_agreement.specs.Agreement.{settings_of, replaces_word}
-use Rattle.compare_traces.specs.AsCoded.{Traceable, Replaced, Trace, untraced, replaced_by, trace_step, trace_from, trace_of}
+use Rattle.compare_traces.specs.declared.Replaced.{Replaced}
+use Rattle.compare_traces.specs.declared.Trace.{Trace}
+use Rattle.compare_traces.specs.AsCoded.{Traceable, untraced, replaced_by, trace_step, trace_from, trace_of}
 use Rattle.compare_traces.proofs.Steps.{traced-all}
 use Rattle.compare_traces.proofs.Arrays.{set-where, length-set-where, map-inside, latest-next, latest-end, kept-place, placed-next}
 

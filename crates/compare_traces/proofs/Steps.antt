@@ -15,7 +15,9 @@ use Rattle.layout_texts.specs.Texts.{run_mode_at, dac_number_at}
 use Rattle.layout_texts.specs.declared.Text.{Text}
 use Rattle.layout_texts.specs.Texts.{source_at}
 use Rattle.layout_modes.specs.Modes.{read_data, write_data, write_dac}
-use Rattle.compare_traces.specs.AsCoded.{Replaced, Trace, untraced, replaced_by, trace_step, trace_from, trace_of}
+use Rattle.compare_traces.specs.declared.Replaced.{Replaced}
+use Rattle.compare_traces.specs.declared.Trace.{Trace}
+use Rattle.compare_traces.specs.AsCoded.{untraced, replaced_by, trace_step, trace_from, trace_of}
 
 module _ (text : Text) (m : Machine) (i g : ℕ) (t : Trace) {run : ℕ} (is : run ≡ run_mode_at text m g) where
   -- 0010 feeds a DAC.

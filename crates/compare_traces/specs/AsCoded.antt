@@ -1,6 +1,6 @@
 -- What the code of the four points holds of an order: its trace, made entry by entry.
 -- Readers need only the points, to which laws join it. Assumes nothing.
-use Rattle.std.specs.Prelude.{ℕ, suc, ◌+◌, ◌<◌, ◌≤◌, cond, List, [], ◌∷◌, eqb, set}
+use Rattle.std.specs.Prelude.{ℕ, suc, ◌+◌, ◌<◌, ◌≤◌, cond, [], ◌∷◌, eqb, set}
 use Rattle.base_lists.specs.Lists.{zeros}
 use Rattle.layout.specs.Layout.{generators, quadrant_words, dacs}
 use Rattle.layout.specs.Machine.{Machine, Order, Reaches, ticks_of, gsum_at}
@@ -8,8 +8,9 @@ use Rattle.layout_texts.specs.Texts.{run_mode_at, dac_number_at}
 use Rattle.layout_texts.specs.declared.Text.{Text}
 use Rattle.layout_texts.specs.Texts.{source_at}
 use Rattle.layout_modes.specs.Modes.{read_data, write_data, write_dac}
-use Rattle.pass_order.specs.declared.Counts.{Counts}
 use Rattle.compare_roles.specs.AsCoded.{Within}
+use Rattle.compare_traces.specs.declared.Replaced.{Replaced}
+use Rattle.compare_traces.specs.declared.Trace.{Trace}
 
 -- A machine of which a trace can be made; one that passes questions 1 and 2 is.
 pub record Traceable (m : Machine) : Type 0 where
@@ -17,20 +18,6 @@ pub record Traceable (m : Machine) : Type 0 where
   pub ticks : ticks_of m ≤ generators
   pub gsums : (g : ℕ) → g < generators → gsum_at m g < quadrant_words
   pub gmodes : Within m
-
--- Of each sum word one more than its last 0111, and the place of that one among all 0111s; 0 where there is none.
-pub record Replaced : Type 0 where
-  pub last : List ℕ
-  pub among : List ℕ
-
--- The place of each generator; of each DAC the source of its last feeder, 0 where there is none; the sources of the written data, in order;
--- the last 0111 of each sum word; how many generators have read and written data.
-pub record Trace : Type 0 where
-  pub place : List ℕ
-  pub fed : List ℕ
-  pub written : List ℕ
-  pub replaced : Replaced
-  pub counts : Counts
 
 -- The trace of no entries.
 unfoldable pub untraced : Trace

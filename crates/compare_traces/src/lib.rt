@@ -12,101 +12,99 @@ use compare_roles::Runs;
 use layout_texts::Text;
 use pass_order::Counts;
 
-// A number for each generator: its place in an order.
-pub type GeneratorPlaces = [u8; layout::GENERATORS];
-
-// A number for each DAC: the GFM of its last feeder.
-pub type Feeders = [u32; layout::DACS];
-
-// The GFMs of the generators that write data, in order.
-pub type Writers = [u32; layout::GENERATORS];
-
-// A number for each sum word: one more than its last 0111, or the place of that one among all 0111s.
-pub type SumWords = [u32; layout::QUADRANT_WORDS];
-
-// A 0111 is its word's last yet, and n 0111s stand before it.
-fn replace(m: &[u32], last: &mut SumWords, among: &mut SumWords, n: usize, g: usize)
-    requires traceable { Traceable m.now }
-    requires g_lt_generators { (g < generators) × (n < generators) }
-    ensures { record { last = last.exit.now; among = among.new } ≡ replaced_by m.now g n (record { last = last.entry.now; among = among.old }) }
-{
-    let w = layout::gsum(m, g);
-    last[w] = (g + 1) as u32;
-    among[w] = n as u32;
+// The last 0111 of each sum word in an order. Of a word without one both numbers are 0: an Option of a number and a place would make the
+// points' test of two words, two comparisons without a branch, a match.
+#[derive(Clone, Copy)]
+pub struct Replaced {
+    // One more than its number.
+    pub last: [u32; layout::QUADRANT_WORDS],
+    // Its place among all 0111s.
+    pub among: [u32; layout::QUADRANT_WORDS],
 }
 
-// Generator g at place i of an order.
-fn step(
-    text: Text,
-    m: &[u32],
-    runs: &Runs,
-    place: &mut GeneratorPlaces,
-    fed: &mut Feeders,
-    written: &mut Writers,
-    last: &mut SumWords,
-    among: &mut SumWords,
-    done: Counts,
-    i: usize,
-    g: usize,
-) -> Counts
-    requires traceable { Traceable m.now }
-    requires runs_of { RunsOf text m.now runs.now × (g < ticks_of m.now) }
-    requires i_lt_generators { (i < generators) × (g < generators) × (done.reads < generators) × (done.writes < generators) }
-    ensures { record { place = place.exit.now; fed = fed.new; written = written.new; replaced = record { last = last.exit.now; among = among.new }; counts = result } ≡ trace_step text m.now i g (record { place = place.entry.now; fed = fed.old; written = written.old; replaced = record { last = last.entry.now; among = among.old }; counts = done }) }
-{
-    place[g] = i as u8;
-    let run = compare_roles::run_at(text, m, runs, g);
-    if run == layout_modes::WRITE_DAC {
-        let d = layout_texts::dac_number(text, m, g);
-        fed[d] = layout_texts::source(text, m, g);
-        return done;
+impl Replaced {
+    // Generator g is its word's last yet, and n 0111s stand before it.
+    fn replace(&mut self, m: &[u32], n: usize, g: usize)
+        requires traceable { Traceable m.now }
+        requires g_lt_generators { (g < generators) × (n < generators) }
+        ensures { self.new ≡ replaced_by m.now g n self.old }
+    {
+        let w = layout::gsum(m, g);
+        self.last[w] = (g + 1) as u32;
+        self.among[w] = n as u32;
     }
-    if run == layout_modes::WRITE_DATA {
-        let n = done.writes;
-        written[n] = layout_texts::source(text, m, g);
-        return Counts {
-            reads: done.reads,
-            writes: n + 1,
-        };
-    }
-    if run == layout_modes::READ_DATA {
-        let n = done.reads;
-        replace(m, last, among, n, g);
-        return Counts {
-            reads: n + 1,
-            writes: done.writes,
-        };
-    }
-    done
 }
 
-// The trace of an order, in arrays of zeros; how many generators read and write data.
-pub fn trace(
-    text: Text,
-    m: &[u32],
-    runs: &Runs,
-    order: &[u32],
-    place: &mut GeneratorPlaces,
-    fed: &mut Feeders,
-    written: &mut Writers,
-    last: &mut SumWords,
-    among: &mut SumWords,
-) -> Counts
-    requires traceable { Traceable m.now × RunsOf text m.now runs.now }
-    requires order { IsOrder (ticks_of m.now) order.now }
-    requires writes_value { record { place = place.now; fed = fed.old; written = written.old; replaced = record { last = last.now; among = among.old }; counts = record { reads = 0; writes = 0 } } ≡ untraced }
-    ensures { record { place = place.exit.now; fed = fed.new; written = written.new; replaced = record { last = last.exit.now; among = among.new }; counts = result } ≡ trace_of text m.now order.now }
-{
-    let mut done = Counts {
-        reads: 0,
-        writes: 0,
-    };
-    let mut i: usize = 0;
-    while i < order.len() {
-        let g = layout::wide(order[i]);
-        let next = step(text, m, runs, place, fed, written, last, among, done, i, g);
-        done = next;
-        i += 1;
+// What an order leaves.
+#[derive(Clone, Copy)]
+pub struct Trace {
+    // Of each generator its place.
+    pub place: [u8; layout::GENERATORS],
+    // Of each DAC the source of its last feeder, 0 where there is none.
+    pub fed: [u32; layout::DACS],
+    // The sources of the written data, in order.
+    pub written: [u32; layout::GENERATORS],
+    pub replaced: Replaced,
+    // How many generators have read and written data.
+    pub counts: Counts,
+}
+
+impl Trace {
+    // Of no entries.
+    fn new() -> Trace
+        ensures { result ≡ untraced }
+    {
+        Trace {
+            place: [0; layout::GENERATORS],
+            fed: [0; layout::DACS],
+            written: [0; layout::GENERATORS],
+            replaced: Replaced {
+                last: [0; layout::QUADRANT_WORDS],
+                among: [0; layout::QUADRANT_WORDS],
+            },
+            counts: Counts {
+                reads: 0,
+                writes: 0,
+            },
+        }
     }
-    done
+
+    // Generator g at place i of an order.
+    fn step(&mut self, text: Text, m: &[u32], runs: &Runs, i: usize, g: usize)
+        requires traceable { Traceable m.now }
+        requires runs_of { RunsOf text m.now runs.now × (g < ticks_of m.now) }
+        requires i_lt_generators { (i < generators) × (self.old.counts.reads < generators) × (self.old.counts.writes < generators) }
+        ensures { self.new ≡ trace_step text m.now i g self.old }
+    {
+        self.place[g] = i as u8;
+        match compare_roles::run_at(text, m, runs, g) {
+            layout_modes::WRITE_DAC => {
+                let d = layout_texts::dac_number(text, m, g);
+                self.fed[d] = layout_texts::source(text, m, g);
+            }
+            layout_modes::WRITE_DATA => {
+                let n = self.counts.writes;
+                self.written[n] = layout_texts::source(text, m, g);
+                self.counts.writes += 1;
+            }
+            layout_modes::READ_DATA => {
+                self.replaced.replace(m, self.counts.reads, g);
+                self.counts.reads += 1;
+            }
+            _ => {}
+        }
+    }
+
+    // Of an order.
+    pub fn of(text: Text, m: &[u32], runs: &Runs, order: &[u32]) -> Trace
+        requires traceable { Traceable m.now × RunsOf text m.now runs.now }
+        requires order { IsOrder (ticks_of m.now) order.now }
+        ensures { result ≡ trace_of text m.now order.now }
+    {
+        let mut trace = Trace::new();
+        for (i, entry) in order.iter().enumerate() {
+            trace.step(text, m, runs, i, layout::wide(*entry));
+        }
+        trace
+    }
 }

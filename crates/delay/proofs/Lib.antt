@@ -1,4 +1,3 @@
-pub mod Rounding
 pub mod Turn
 pub mod Low
 pub mod Returns

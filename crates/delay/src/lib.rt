@@ -4,7 +4,7 @@
 ghost use Rattle.std.specs.Prelude.{◌≡◌, ◌≤◌, ◌<◌, ◌/◌, ◌^◌, length};
 ghost use Rattle.delay.specs.Delay.{loaded, stored, updated, Ranged, runs, slot, stepped, line_turn, rounding, address, table_turn, delay_turn_of};
 
-// The modes P.
+// The modes P. They stay numbers, as the functions' codes do: bits of the text in a word of the machine, of which each use asks for one.
 pub const INACTIVE: u32 = 0b0000;
 
 pub const LINE: u32 = 0b1000;
@@ -24,39 +24,26 @@ pub struct Delay {
     pub third: u32,
 }
 
-// A word shifted to the right, bringing in zeros.
-fn shifted(w: u32, n: u32) -> u32
-    requires { n < 16 }
-    ensures { result ≡ w / 2 ^ n }
-{
-    w >> n
-}
-
 impl Delay {
     // The unit whose words a part of the machine starts with.
+    #[tactic(auto, unfolding(crate::specs::Delay::loaded))]
     pub fn load(m: &[u32]) -> Delay
         requires { 7 ≤ length m.now }
         ensures { result ≡ loaded m.now }
     {
-        let x = m[layout::DELAY_X] % layout::DELAY_LIMIT;
-        let y = m[layout::DELAY_Y] % layout::DELAY_LIMIT;
-        let z = m[layout::DELAY_Z] % layout::DELAY_LIMIT;
-        let p = m[layout::DELAY_P] % layout::DELAY_MODE_LIMIT;
-        let first = m[layout::DELAY_FIRST] % layout::WORD_LIMIT;
-        let second = m[layout::DELAY_SECOND] % layout::WORD_LIMIT;
-        let third = m[layout::DELAY_THIRD] % layout::WORD_LIMIT;
         Delay {
-            x,
-            y,
-            z,
-            p,
-            first,
-            second,
-            third,
+            x: m[layout::DELAY_X] % layout::DELAY_LIMIT,
+            y: m[layout::DELAY_Y] % layout::DELAY_LIMIT,
+            z: m[layout::DELAY_Z] % layout::DELAY_LIMIT,
+            p: m[layout::DELAY_P] % layout::DELAY_MODE_LIMIT,
+            first: m[layout::DELAY_FIRST] % layout::WORD_LIMIT,
+            second: m[layout::DELAY_SECOND] % layout::WORD_LIMIT,
+            third: m[layout::DELAY_THIRD] % layout::WORD_LIMIT,
         }
     }
 
     // The registers that a turn can change are written back.
+    #[tactic(auto, unfolding(crate::specs::Delay::stored))]
     pub fn store(self, m: &mut [u32])
         requires { 7 ≤ length m.old }
         ensures { m.new ≡ stored m.old 0 self }
@@ -68,16 +55,11 @@ impl Delay {
     }
 
     // Whether unit u doesn't act as inactive in a pass of t processing ticks.
+    #[tactic(auto, unfolding(crate::specs::Delay::runs))]
     pub fn runs(self, t: usize, u: usize) -> bool
         ensures { result ≡ runs t u self }
     {
-        if self.p == INACTIVE {
-            return false;
-        }
-        if t < 10 {
-            return false;
-        }
-        u < (t - 6) / 4
+        self.p != INACTIVE && t >= 10 && u < (t - 6) / 4
     }
 
     // The unit with another Y and other words on their way.
@@ -85,13 +67,11 @@ impl Delay {
         ensures { result ≡ updated self y first second third }
     {
         Delay {
-            x: self.x,
             y,
-            z: self.z,
-            p: self.p,
             first,
             second,
             third,
+            ..self
         }
     }
 
@@ -112,6 +92,7 @@ impl Delay {
     }
 
     // A line's turn: the word in the slot leaves just before the new word is put there.
+    #[tactic(auto, unfolding(crate::specs::Delay::line_turn))]
     fn line_turn(self, memory: &mut [u32], w: u32) -> Delay
         requires { Ranged self }
         ensures { record { unit = result; memory = memory.new } ≡ line_turn self memory.old w }
@@ -126,28 +107,26 @@ impl Delay {
     fn rounding(self, w: u32) -> u32
         ensures { result ≡ rounding self w }
     {
-        let n = self.z % 16;
-        if n == 0 {
-            return 0;
-        }
-        if self.p == ROUNDED_TABLE {
-            shifted(w, n - 1) % 2
-        } else {
-            0
+        match self.z % 16 {
+            0 => 0,
+            n if self.p == ROUNDED_TABLE => (w >> (n - 1)) % 2,
+            _ => 0,
         }
     }
 
     // The address that a table looks up.
+    #[tactic(auto, unfolding(crate::specs::Delay::address))]
     fn address(self, w: u32) -> usize
         requires ranged { Ranged self }
         requires w_bound { w < 2 ^ 20 }
         ensures { result ≡ address self w }
     {
-        let argument = shifted(w, self.z % 16) + self.rounding(w);
+        let argument = (w >> (self.z % 16)) + self.rounding(w);
         layout::wide(self.x + argument % layout::DELAY_LIMIT) % layout::MEMORY_WORDS
     }
 
     // A table's turn: the answer becomes the third word on its way.
+    #[tactic(auto, unfolding(crate::specs::Delay::table_turn))]
     fn table_turn(self, memory: &[u32], w: u32) -> Delay
         requires ranged { Ranged self }
         requires w_bound { w < 2 ^ 20 }
@@ -159,14 +138,16 @@ impl Delay {
     }
 
     // The turn of a unit that doesn't act as inactive, with a word from the modifier.
+    #[tactic(auto, unfolding(crate::specs::Delay::delay_turn_of))]
     pub fn turn(self, memory: &mut [u32], w: u32) -> Delay
         requires ranged { Ranged self }
         requires w_bound { w < 2 ^ 20 }
         ensures { record { unit = result; memory = memory.new } ≡ delay_turn_of self memory.old w }
     {
         if self.p == LINE {
-            return self.line_turn(memory, w);
+            self.line_turn(memory, w)
+        } else {
+            self.table_turn(memory, w)
         }
-        self.table_turn(memory, w)
     }
 }

@@ -1,14 +1,13 @@
 -- Questions 10 and 12 as the code asks them: the or of the words, and a mark for each unit that is named.
 -- Readers need only `memory_good` and `named_once`, to which laws join these. Assumes nothing.
-use Rattle.std.specs.Prelude.{ℕ, zero, suc, Bool, true, false, cond, not, ◌&&◌, List, get_or, set}
+use Rattle.std.specs.Prelude.{ℕ, Bool, true, false, cond, not, ◌&&◌, List, get_or, set, fold}
 use Rattle.std.specs.Int.Bits.{bit_or}
 use Rattle.layout.specs.Machine.{Machine, Memory}
 use Rattle.delay_questions.specs.Questions.{invokes, named_by}
 
--- The or of the first n words.
-unfoldable pub ored : Memory → ℕ → ℕ
-ored memory zero = 0
-ored memory (suc n) = bit_or (ored memory n) (get_or memory n 0)
+-- The or of all words.
+unfoldable pub ored : Memory → ℕ
+ored memory = fold bit_or 0 memory
 
 -- Modifier k invokes no unit that has a mark.
 unfoldable pub unmarked : Machine → List Bool → ℕ → Bool

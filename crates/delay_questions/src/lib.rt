@@ -1,36 +1,31 @@
 // Questions 10, 11 and 12 of a pass: delay memory, the lines that run, and the units that modifiers name.
 #![tactic(auto)]
 
-ghost use Rattle.std.specs.Prelude.{◌≡◌, [], ◌∷◌, ◌/◌, ◌≤◌, ◌<◌, length};
+ghost use Rattle.std.specs.Prelude.{◌≡◌, [], ◌∷◌, ◌/◌, ◌≤◌, ◌<◌};
 ghost use Rattle.layout.specs.Machine.{Reaches, ticks_of};
 ghost use Rattle.base_questions.specs.Questions.{asked};
+ghost use Rattle.base_questions.specs.Refusals.{refused};
 ghost use Rattle.delay.specs.Delay.{Ranged};
 ghost use Rattle.delay_questions.specs.Questions.{memory_good, invokes, named_by, delay_of, fits, good_line, lines_good, named_once, question11, question12};
 ghost use Rattle.delay_questions.specs.AsCoded.{ored, unmarked, unit_marked};
 
+use base_questions::Refusal;
 use delay::Delay;
+use std::mem;
 
 // The or of all words of delay memory.
+#[tactic(auto, unfolding(crate::specs::AsCoded::ored))]
 fn ored(memory: &[u32]) -> u32
-    ensures { result ≡ ored memory.now (length memory.now) }
+    ensures { result ≡ ored memory.now }
 {
-    let mut x: u32 = 0;
-    let mut i: usize = 0;
-    while i < memory.len() {
-        x = x | memory[i];
-        i += 1;
-    }
-    x
+    memory.iter().fold(0, |x, w| x | w)
 }
 
 // Question 10. 2 ^ 20 is a power of two, so that the or of the words tells of them all.
 pub fn memory_good(memory: &[u32]) -> bool
     ensures { result ≡ memory_good memory.now }
 {
-    if memory.len() != layout::MEMORY_WORDS {
-        return false;
-    }
-    ored(memory) < layout::WORD_LIMIT
+    memory.len() == layout::MEMORY_WORDS && ored(memory) < layout::WORD_LIMIT
 }
 
 // How many modifiers a pass takes.
@@ -74,10 +69,11 @@ fn fits(d: Delay) -> bool
     requires { Ranged d }
     ensures { result ≡ fits d }
 {
-    (((d.x + d.z) as usize) < layout::MEMORY_WORDS) & (d.y <= d.z)
+    layout::wide(d.x + d.z) < layout::MEMORY_WORDS && d.y <= d.z
 }
 
 // Question 11 of modifier k.
+#[tactic(auto, unfolding(crate::specs::Questions::good_line))]
 fn good_line(m: &[u32], k: usize) -> bool
     requires reaches { Reaches m.now }
     requires k_bound { k < 128 }
@@ -88,13 +84,7 @@ fn good_line(m: &[u32], k: usize) -> bool
     }
     let u = named_by(m, k);
     let d = delay_at(m, u);
-    if d.p != delay::LINE {
-        return true;
-    }
-    if !d.runs(layout::ticks(m), u) {
-        return true;
-    }
-    fits(d)
+    d.p != delay::LINE || !d.runs(layout::ticks(m), u) || fits(d)
 }
 
 // Question 11.
@@ -103,18 +93,16 @@ fn lines_good(m: &[u32]) -> bool
     requires m_bound { ticks_of m.now ≤ 256 }
     ensures { result ≡ lines_good m.now }
 {
-    let n = modifiers(m);
-    let mut k: usize = 0;
-    while k < n {
+    for k in 0..modifiers(m) {
         if !good_line(m, k) {
             return false;
         }
-        k += 1;
     }
     true
 }
 
 // Marks the unit that modifier k invokes; whether it had no mark, or there is none.
+#[tactic(auto, unfolding(crate::specs::AsCoded::unmarked, crate::specs::AsCoded::unit_marked))]
 fn mark(m: &[u32], marks: &mut [bool; layout::DELAYS], k: usize) -> bool
     requires reaches { Reaches m.now }
     requires k_bound { k < 128 }
@@ -124,10 +112,7 @@ fn mark(m: &[u32], marks: &mut [bool; layout::DELAYS], k: usize) -> bool
     if !invokes(m, k) {
         return true;
     }
-    let u = named_by(m, k);
-    let free = !marks[u];
-    marks[u] = true;
-    free
+    !mem::replace(&mut marks[named_by(m, k)], true)
 }
 
 // Question 12.
@@ -136,29 +121,27 @@ fn named_once(m: &[u32]) -> bool
     requires m_bound { ticks_of m.now ≤ 256 }
     ensures { result ≡ named_once m.now }
 {
-    let n = modifiers(m);
     let mut marks = [false; layout::DELAYS];
-    let mut k: usize = 0;
-    while k < n {
+    for k in 0..modifiers(m) {
         if !mark(m, &mut marks, k) {
             return false;
         }
-        k += 1;
     }
     true
 }
 
-// The number of the first of questions 11 and 12 that is answered no, or 0.
-pub fn delay_refusal(m: &[u32]) -> u32
+// The first of questions 11 and 12 that is answered no, if one is.
+#[tactic(auto, unfolding(base_questions::specs::Questions::asked))]
+pub fn delay_refusal(m: &[u32]) -> Result<(), Refusal>
     requires reaches { Reaches m.now }
     requires m_bound { ticks_of m.now ≤ 256 }
-    ensures { result ≡ asked (question11 m.now ∷ question12 m.now ∷ []) }
+    ensures { refused result ≡ asked (question11 m.now ∷ question12 m.now ∷ []) }
 {
     if !lines_good(m) {
-        return 11;
+        return Err(Refusal::DelayLines);
     }
     if !named_once(m) {
-        return 12;
+        return Err(Refusal::DelayUnits);
     }
-    0
+    Ok(())
 }

@@ -5,10 +5,9 @@ use mathlib.Core.Bool.{Bool, true, false, cond, ◌&&◌, and-true, and-false}
 use mathlib.Core.List.{◌∷◌, ◌++◌}
 use Prim.Native.Nat.{ℕ, zero, suc, ◌-◌, ◌≤◌, ◌<◌}
 use native.Mathlib.Omega.{arith}
-use lib.Dec.{eqb, leb}
-use lib.ListN.{length, get_or}
+use lib.Dec.{leb}
+use lib.ListN.{length, get_or, length-replicate, get_or-replicate}
 use Rattle.base_lists.specs.Lists.{count}
-use Rattle.base_lists.proofs.Zeros.{zeros-length, zeros-at}
 use Rattle.layout.specs.Machine.{Machine, Order, Items, Places}
 use Rattle.pass_order.specs.Order.{IsOrder}
 use Rattle.pass_sums.specs.Sums.{sums_of}
@@ -26,7 +25,7 @@ use Rattle.base_sequences.proofs.Places.{before-cut, not-before-cut}
 use Rattle.equal_endings.specs.AsCoded.{turn_at, triggers_at, Follows, triggered_below_in}
 
 -- A mark tells.
-marked : (b : Bool) → eqb (cond b 1 0) 1 ≡ b
+marked : (b : Bool) → cond b true false ≡ b
 marked true = refl
 marked false = refl
 
@@ -35,13 +34,13 @@ module _ (of : Generators) (s : Settings) (m : Machine) (f : Follows of s m) (it
   start = begun m (sums_of m) places
 
   -- As a pass begins nothing has triggered.
-  begun-triggered : (k : ℕ) → k < 256 → get_or start.triggered k 0 ≡ 0
+  begun-triggered : (k : ℕ) → k < 256 → get_or start.triggered k false ≡ false
   unfolding begun
-  begun-triggered k h = zeros-at 256 k h
+  begun-triggered k h = get_or-replicate 256 k false false h
 
   begun-marks : length start.triggered ≡ 256
   unfolding begun
-  begun-marks = zeros-length 256
+  begun-marks = length-replicate 256 false
 
   -- What a generator brings that is taken after the part a of an order.
   turn-brings : (a : Order) (g : ℕ) → g < 256 → count g a ≡ 0
@@ -55,18 +54,18 @@ module _ (of : Generators) (s : Settings) (m : Machine) (f : Follows of s m) (it
 
   -- Its mark after such a part: it was taken and triggered.
   module _ (a : Order) (k : ℕ) (few : k < 256) where
-    untaken-mark : count k a ≡ 0 → get_or (steps of items start a).triggered k 0 ≡ 0
+    untaken-mark : count k a ≡ 0 → get_or (steps of items start a).triggered k false ≡ false
     untaken-mark n = steps-triggered-other of items a start k n ∙ begun-triggered k few
 
-    taken-mark : k < s.ticks → count k a ≡ 1 → get_or (steps of items start a).triggered k 0 ≡ cond (triggers_at of m k) 1 0
+    taken-mark : k < s.ticks → count k a ≡ 1 → get_or (steps of items start a).triggered k false ≡ cond (triggers_at of m k) true false
     taken-mark low n = at (split-once k a n)
       where
-        at : Split k a → get_or (steps of items start a).triggered k 0 ≡ cond (triggers_at of m k) 1 0
+        at : Split k a → get_or (steps of items start a).triggered k false ≡ cond (triggers_at of m k) true false
         at c =
             let t = steps of items start c.before in
             let same : (contribution_at of t k).triggers ≡ triggers_at of m k
             = ap (λ (b : Contribution). b.triggers) (turn-brings c.before k few c.not-before) ∙ (f.turns k low).triggers (triggered_below of.distance t.triggered k) in
-            ap (λ (l : Order). get_or (steps of items start l).triggered k 0) c.is
+            ap (λ (l : Order). get_or (steps of items start l).triggered k false) c.is
             ∙ turn-triggered of items c.before c.behind start k (rw begun-marks few) c.not-before c.not_behind
             ∙ rw (same, begun-triggered k few)
 
@@ -74,7 +73,7 @@ module _ (of : Generators) (s : Settings) (m : Machine) (f : Follows of s m) (it
   module _ (a : Order) (g : ℕ) (b : Order) (cut : count g a ≡ 0) (few : g < 256) (once : (k : ℕ) → count k (a ++ (g ∷ b)) ≤ 1)
       (there : (k : ℕ) → 1 ≤ count k (a ++ (g ∷ b)) → k < s.ticks) where
     told-by : (k : ℕ) → k < 256 → (n : ℕ) → count k a ≡ n
-        → eqb (get_or (steps of items start a).triggered k 0) 1 ≡ (triggers_at of m k && before k g (a ++ (g ∷ b)))
+        → get_or (steps of items start a).triggered k false ≡ (triggers_at of m k && before k g (a ++ (g ∷ b)))
     told-by k h zero e = rw (untaken-mark a k h e, not-before-cut a g b cut k e, and-false (triggers_at of m k))
     told-by k h (suc n) e =
         let parts = count-append k a (g ∷ b) in

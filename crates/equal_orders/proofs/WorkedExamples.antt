@@ -15,7 +15,7 @@ use Rattle.base_lists.proofs.Below.{and_first, and_second}
 use Rattle.base_words.specs.Words.{low_bits, signed, exact_sum, outside}
 use Rattle.generator_sine.specs.Sine.{angle, first_three, polynomial, entry}
 use Rattle.generator_exponential.specs.Exponential.{table_size, bound, entry as exponential_entry, exponential}
-use Rattle.generator_exponential.proofs.Entries.{right, right-entry}
+use Rattle.generator_exponential.proofs.LargestEntries.{right, right-entry}
 use Rattle.generator_envelope.specs.Envelope.{overflows, decayed, rounded, enveloped}
 use Rattle.modifier_product.specs.Product.{scaled, product}
 use Rattle.layout.specs.Layout.{t_at}

@@ -13,10 +13,9 @@ use Rattle.file_bytes.specs.Bytes.{starts_with}
 use Rattle.base_lists.proofs.Choices.{of-cond}
 use Rattle.file_bytes.proofs.Searches.{starts-long}
 use Rattle.file_numbers.specs.Numbers.{number_in, decimal_in, hexadecimal_in}
-use Rattle.file_numbers.specs.declared.Number.{Number}
-use Rattle.file_numbers.specs.declared.Number.TheVariants.{Is, No}
+use Rattle.std.specs.Prelude.{Option, Some, None}
+use Rattle.layout_texts.specs.declared.Text.{Text}
 use Rattle.file_lines.specs.Lines.{most_passes, passes_start, word_start, command_start, text_start, after_start, line_by, word_line, title_of, line_of, prepended, lines_of}
-use Rattle.file_lines.specs.declared.Title.{Title}
 use Rattle.file_lines.specs.declared.Line.{Line}
 use Rattle.file_lines.specs.declared.Line.TheVariants.{Titled, Passes, Command, Other}
 use Rattle.file_lines.proofs.LineKinds.{word-kind}
@@ -29,12 +28,12 @@ use Rattle.file_bench.proofs.WholeFile.{bench-file-ended, file-commands}
 Enough : ℕ → Line → Type 0
 Enough n l = 17 * length (commands_of l) ≤ n + 1
 
-enough-passes : (n : ℕ) (a : Number) → Enough n (line_by a (λ i. Passes i))
+enough-passes : (n : ℕ) (a : Option ℕ) → Enough n (line_by a (λ i. Passes i))
 unfolding Enough
-enough-passes n (Is i) = omega arith
-enough-passes n No = omega arith
+enough-passes n (Some i) = omega arith
+enough-passes n None = omega arith
 
-enough-titled : (n : ℕ) (t : Title) → Enough n (Titled t)
+enough-titled : (n : ℕ) (t : Option Text) → Enough n (Titled t)
 unfolding Enough
 enough-titled n t = omega arith
 
@@ -51,11 +50,11 @@ enough-command : (n : ℕ) (file : List ℕ) → length command_start + length f
 unfolding hexadecimal_in Enough
 enough-command n file h = by (eqb (length file) 8) refl
   where
-    some : 8 ≤ length file → (a : Number) → Enough n (line_by a (λ c. Command c))
-    some l (Is c) = omega (arith, l, h)
-    some l No = omega arith
+    some : 8 ≤ length file → (a : Option ℕ) → Enough n (line_by a (λ c. Command c))
+    some l (Some c) = omega (arith, l, h)
+    some l None = omega arith
 
-    by : (b : Bool) → eqb (length file) 8 ≡ b → Enough n (line_by (cond b (number_in 16 (2 ^ 32) file) No) (λ c. Command c))
+    by : (b : Bool) → eqb (length file) 8 ≡ b → Enough n (line_by (cond b (number_in 16 (2 ^ 32) file) None) (λ c. Command c))
     by true e = let l = eqb-true (length file) 8 e in some (omega arith) (number_in 16 (2 ^ 32) file)
     by false e = omega arith
 
@@ -65,7 +64,7 @@ enough-line l =
     of-cond (Enough (length l)) (starts_with l passes_start) (enough-passes (length l) (decimal_in (most_passes + 1) (after_start passes_start l)))
     (of-cond (Enough (length l)) (starts_with l word_start) (enough-word (length l) (after_start word_start l)) (by (starts_with l command_start) refl))
   where
-    title : Title
+    title : Option Text
     title = title_of (after_start text_start l)
 
     by : (b : Bool) → starts_with l command_start ≡ b

@@ -2,17 +2,22 @@
 -- Assumes nothing.
 use mathlib.Core.Path.{◌≡◌, refl, ap, sym, ◌∙◌}
 use mathlib.Core.List.{List, [], ◌∷◌}
-use Prim.Native.Nat.{ℕ, ◌+◌, ◌≤◌, ◌<◌}
+use Prim.Native.Nat.{ℕ, suc, ◌+◌, ◌≤◌, ◌<◌}
 use Prim.Native.Char.{code}
+use mathlib.Core.Logic.{◌⊎◌, inl, inr}
 use native.Mathlib.Omega.{arith}
-use lib.ListN.{length, take, drop, length-append}
-use Rattle.file_bytes.specs.Bytes.{bytes_before}
-use Rattle.file_lines.specs.Lines.{line_of, lines_of}
-use Rattle.file_lines.specs.declared.Title.{Title}
-use Rattle.file_lines.specs.declared.Title.TheVariants.{Text1978}
+use native.Mathlib.Nat.{add-zero}
+use lib.ListN.{length, length-append}
+use Rattle.file_lines.specs.Lines.{file_bytes, line_of, lines_of, prepended, ended}
+use Rattle.std.specs.Prelude.{Option, Some}
+use Rattle.layout_texts.specs.declared.Text.{Text}
+use Rattle.layout_texts.specs.declared.Text.TheVariants.{Of1978}
 use Rattle.file_lines.specs.declared.Line.{Line}
 use Rattle.file_lines.specs.declared.Line.TheVariants.{Titled, Passes, Word, Command, Other}
-use Rattle.file_lines.proofs.FileLines.{Ended, within, lines_next, lines_end}
+use Rattle.file_lines.proofs.FileLines.{ended-short}
+use Rattle.base_lists.proofs.Choices.{of-cond}
+use mathlib.Core.Bool.{true}
+use lib.Dec.{eqb}
 use Rattle.file_phases.specs.Phases.{phase_after}
 use Rattle.file_phases.specs.declared.Phase.{Phase}
 use Rattle.file_phases.specs.declared.Phase.TheVariants.{Start}
@@ -22,10 +27,17 @@ use Rattle.file_bench.specs.declared.File.{File}
 
 -- A step.
 module _ (f : File) (l : Line) where
-  pub judged : {title : Title} {next : Phase} {passes count : ℕ} → title ≡ with_title f.title l → next ≡ phase_after f.title f.phase l → passes ≡ with_passes f.passes l
+  pub judged : {title : Option Text} {next : Phase} {passes count : ℕ} → title ≡ with_title f.title l → next ≡ phase_after f.title f.phase l → passes ≡ with_passes f.passes l
       → count ≡ f.count + length (commands_of l) → record { title = title; phase = next; passes = passes; count = count } ≡ judged_line f l
   unfolding judged_line
   judged t e p c = rw (t, e, p, c)
+
+  -- A word and another line change the phase alone.
+  pub judged-same : ((p : ℕ) × (v : ℕ) × (l ≡ Word p v)) ⊎ (l ≡ Other) → {next : Phase} → next ≡ phase_after f.title f.phase l
+      → record { title = f.title; phase = next; passes = f.passes; count = f.count } ≡ judged_line f l
+  unfolding judged_line
+  judged-same (inl (p, v, s)) e = rw (e, s, add-zero)
+  judged-same (inr s) e = rw (e, s, add-zero)
 
 -- A line brings at most one command.
 pub one-command : (l : Line) → length (commands_of l) ≤ 1
@@ -49,28 +61,46 @@ unfolding with_lines judged_lines
 outline-lines r [] = refl
 outline-lines r (l ∷ ls) = outline-lines (with_line r (line_of l)) ls ∙ ap (λ (f : File). judged_lines f ls) (outline-line r (line_of l))
 
+-- A file has no more lines than bytes.
+longer : (b : ℕ) (ls : List (List ℕ)) (n : ℕ) → length ls ≤ n → length (prepended b ls) ≤ suc n
+unfolding prepended
+longer b [] n h = omega arith
+longer b (l ∷ ls) n h = omega arith
+
+few-lines : (file : List ℕ) → length (lines_of file) ≤ length file
+unfolding lines_of
+few-lines [] = omega arith
+few-lines (b ∷ file) =
+    let h = few-lines file in
+    of-cond (λ ls. length ls ≤ suc (length file)) (eqb b (code "\n")) {x = [] ∷ lines_of file} {y = prepended b (lines_of file)}
+    (omega (arith, h)) (longer b (lines_of file) (length file) h)
+
+pub ended-few : (file : List ℕ) → ended file ≡ true → length (lines_of file) ≤ file_bytes
+ended-few file e = omega (arith, few-lines file, ended-short file e)
+
 -- The sweep under way: the lines that are left make the whole file's outline.
-pub record Judging (file : List ℕ) (at : ℕ) (f : File) : Type 0 where
-  pub here : at ≤ length file
-  pub few : f.count ≤ at
-  pub rest : judged_lines f (lines_of (drop at file)) ≡ outline (file_of file)
+pub record Judging (file : List ℕ) (left : List (List ℕ)) (f : File) : Type 0 where
+  pub few : f.count + length left ≤ file_bytes
+  pub rest : judged_lines f left ≡ outline (file_of file)
 
-pub begins : (file : List ℕ) → Judging file 0 (record { title = Text1978; phase = Start; passes = 0; count = 0 })
+pub begins : (file : List ℕ) → ended file ≡ true → Judging file (lines_of file) (record { title = Some Of1978; phase = Start; passes = 0; count = 0 })
 unfolding file_of
-begins file = record { here = omega arith; few = omega arith; rest = sym (outline-lines unread (lines_of file)) }
+begins file e = record { few = omega (arith, ended-few file e); rest = sym (outline-lines unread (lines_of file)) }
 
-pub ends : (file : List ℕ) (at : ℕ) (f : File) → Judging file at f → length file ≤ at → f ≡ outline (file_of file)
-unfolding judged_lines
-ends file at f j h = sym (ap (judged_lines f) (lines_end file at h)) ∙ j.rest
+module _ {file : List ℕ} {left : List (List ℕ)} {f : File} (j : Judging file left f) where
+  pub ends : left ≡ [] → f ≡ outline (file_of file)
+  unfolding judged_lines
+  ends h = sym (ap (judged_lines f) h) ∙ j.rest
 
-pub goes_on : (file : List ℕ) (end : Ended file) (at : ℕ) (f : File) → Judging file at f → (h : at < length file) → {k : ℕ} (e : k ≡ bytes_before (code "\n") (drop at file)) → {g : File}
-    → g ≡ judged_line f (line_of (take k (drop at file))) → Judging file (at + k + 1) g
-unfolding judged_lines
-goes_on file end at f j h {k = k} e {g = g} s =
-    let w = within file end at h e in
-    let c = judged-count f (line_of (take k (drop at file))) in
-    record {
-      here = omega arith;
-      few = rw s (omega (arith, j.few));
-      rest = rw s (sym (ap (judged_lines f) (lines_next file end at h e)) ∙ j.rest);
-    }
+  module _ {l : List ℕ} {ls : List (List ℕ)} (h : left ≡ l ∷ ls) where
+    pub room_for : f.count < file_bytes
+    room_for = omega (arith, j.few, ap length h)
+
+    pub goes_on : {g : File} → g ≡ judged_line f (line_of l) → Judging file ls g
+    unfolding judged_lines
+    goes_on {g} s =
+        let c = judged-count f (line_of l) in
+        record {
+          few = rw s (omega (arith, j.few, c, ap length h));
+          rest = rw s (sym (ap (judged_lines f) h) ∙ j.rest);
+        }

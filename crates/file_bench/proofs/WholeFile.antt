@@ -14,6 +14,12 @@ use Rattle.layout.specs.Layout.{machine_length}
 use Rattle.layout.specs.Machine.{Reaches, with_update_ticks}
 use Rattle.layout_texts.specs.declared.Text.{Text}
 use Rattle.layout_texts.specs.declared.Text.TheVariants.{Of1978}
+use Rattle.std.specs.Prelude.{Some, None, Result}
+use Rattle.std.specs.Result.{IsErrAnd}
+use Rattle.std.proofs.lemmas.Result.{err_from_is_err_and}
+use Rattle.base_questions.specs.declared.Refusal.{Refusal}
+use Rattle.base_questions.specs.Refusals.{number_of}
+use Rattle.file_bench.specs.declared.Contents.{Contents}
 use Rattle.base_questions.specs.Questions.{asked}
 use Rattle.base_questions.proofs.Asked.{both_yes}
 use Rattle.base_lists.proofs.Choices.{of_test}
@@ -23,10 +29,9 @@ use Rattle.machine.proofs.ValidMachine.{reaches}
 use Rattle.machine.proofs.FreshMachine.{fresh-length}
 use Rattle.file_lines.specs.Lines.{line_of, lines_of, ended}
 use Rattle.file_phases.specs.Phases.{is_fit}
-use Rattle.file_bench.specs.BenchFile.{commands_of, Reading, unread, with_line, with_lines, file_of, is_bench_file, is_known, text_of, question9, question13, file_refusal, BenchAnswer, read_of}
-use Rattle.file_bench.specs.AsCoded.{outline, with_words, all_commands, contents_of}
+use Rattle.file_bench.specs.BenchFile.{commands_of, Reading, unread, with_line, with_lines, file_of, is_bench_file, is_known, text_of, question9, question13, file_refusal, BenchAnswer, bench_answer, read_of}
+use Rattle.file_bench.specs.AsCoded.{outline, with_words, all_commands, Said, contents_of}
 use Rattle.file_bench.specs.declared.File.{File}
-use Rattle.file_bench.specs.declared.Contents.{Contents}
 
 -- The lines of a file set their words and their commands.
 lines-hold : (r : Reading) (ls : List (List ℕ)) → ((with_lines r ls).machine ≡ with_words r.machine ls) × ((with_lines r ls).commands ≡ r.commands ++ all_commands ls)
@@ -66,25 +71,29 @@ module _ (file : List ℕ) {e : Bool} (p : e ≡ ended file) where
   unfolding contents_of file_refusal asked is_bench_file
   unended h = rw (sym p ∙ h)
 
-  module _ (h : e ≡ true) {f : File} (q : f ≡ outline (file_of file)) {n : ℕ}
-      (s : n ≡ asked (record { number = 9; yes = is_fit f.phase } ∷ record { number = 13; yes = is_known f.title } ∷ [])) where
-    number_is : file_refusal file ≡ n
+  module _ (h : e ≡ true) {f : File} (q : f ≡ outline (file_of file)) where
+    number_is : file_refusal file ≡ asked (record { number = 9; yes = is_fit f.phase } ∷ record { number = 13; yes = is_known f.title } ∷ [])
     unfolding file_refusal is_bench_file
-    number_is = rw (s, q, sym p ∙ h)
+    number_is = rw (q, sym p ∙ h)
 
-    pub refused : n ≢ 0 → record { number = n; text = Of1978; passes = 0; count = 0 } ≡ contents_of file
-    unfolding contents_of
-    refused g = rw (number_is, ne_eqb n 0 g)
+    pub unfit : is_fit f.phase ≡ false → record { number = 9; text = Of1978; passes = 0; count = 0 } ≡ contents_of file
+    unfolding contents_of asked
+    unfit g = rw (number_is, g)
 
-    pub fit : n ≡ 0 → {text : Text} → text ≡ text_of f.title → record { number = 0; text = text; passes = f.passes; count = f.count } ≡ contents_of file
-    unfolding contents_of
-    fit g x = rw (number_is, eq-eqb n 0 g, x, q)
+    module _ (g : is_fit f.phase ≡ true) where
+      pub unknown : f.title ≡ None → record { number = 13; text = Of1978; passes = 0; count = 0 } ≡ contents_of file
+      unfolding contents_of asked
+      unknown t = rw (number_is, g, t)
+
+      pub fit : {text : Text} → f.title ≡ Some text → record { number = 0; text = text; passes = f.passes; count = f.count } ≡ contents_of file
+      unfolding contents_of asked
+      fit {text} t = let u : (file_of file).title ≡ Some text = sym (ap (λ (x : File). x.title) q) ∙ t in rw (number_is, g, t, u, q)
 
 -- Reading, by what the file says.
-module _ (file : List ℕ) {said : Contents} (p : said ≡ contents_of file) where
+module _ (file : List ℕ) {said : Said} (p : said ≡ contents_of file) where
   pub said-number : said.number ≡ file_refusal file
   unfolding contents_of
-  said-number = rw p (of_test (λ (c : Contents). c.number ≡ file_refusal file) (eqb (file_refusal file) 0) (λ e. sym (eqb-true (file_refusal file) 0 e)) (λ e. refl))
+  said-number = rw p (of_test (λ (c : Said). c.number ≡ file_refusal file) (eqb (file_refusal file) 0) (λ e. sym (eqb-true (file_refusal file) 0 e)) (λ e. refl))
 
   -- What is said of a file that no question refuses.
   pub said-good : said.number ≡ 0
@@ -119,3 +128,8 @@ fresh-run m e = rw (eq-eqb (length m) machine_length e)
 -- With the words of a file it still has the machine's length.
 pub loaded-reaches : {m₁ m₂ : List ℕ} → m₁ ≡ fresh_machine → length m₂ ≡ length m₁ → Reaches m₂
 loaded-reaches {m₁} {m₂} e l = reaches m₂ (l ∙ ap length e ∙ fresh-length)
+
+-- What a refusal handed on answers.
+pub refused_on : (m room : List ℕ) (r : Result Contents Refusal) (e : Refusal) → IsErrAnd r (λ y. y ≡ e) →
+    bench_answer r m room ≡ record { number = number_of e; text = Of1978; passes = 0; count = 0; machine = m; room = room }
+refused_on m room r e h = let p = err_from_is_err_and r h in rw (p.1, p.2) refl

@@ -1,15 +1,16 @@
 -- The bench file (document 01, "Bench file"; document 02, Q-10): what it says, which text it follows, and whether a file is one.
 -- Assumes nothing.
-use Rattle.std.specs.Prelude.{ℕ, Bool, true, false, cond, ◌&&◌, List, [], ◌∷◌, ◌++◌, eqb, length, set}
+use Rattle.std.specs.Prelude.{ℕ, Bool, true, false, cond, ◌&&◌, Option, Some, None, Result, List, [], ◌∷◌, ◌++◌, eqb, length, set}
 use Rattle.std.proofs.lemmas.List.Edits.{sets}
 use Rattle.layout.specs.Machine.{Machine, Commands, with_update_ticks}
 use Rattle.layout_texts.specs.declared.Text.{Text}
-use Rattle.layout_texts.specs.declared.Text.TheVariants.{Of1978, Old}
+use Rattle.layout_texts.specs.declared.Text.TheVariants.{Of1978}
 use Rattle.base_questions.specs.Questions.{Question, asked}
 use Rattle.machine.specs.Questions.{fresh_machine}
 use Rattle.file_lines.specs.Lines.{line_of, lines_of, ended}
-use Rattle.file_lines.specs.declared.Title.{Title}
-use Rattle.file_lines.specs.declared.Title.TheVariants.{Text1978, TextOld, Unknown}
+use Rattle.base_questions.specs.declared.Refusal.{Refusal}
+use Rattle.base_questions.specs.Refusals.{refused, answer_or}
+use Rattle.file_bench.specs.declared.Contents.{Contents}
 use Rattle.file_lines.specs.declared.Line.{Line}
 use Rattle.file_lines.specs.declared.Line.TheVariants.{Titled, Passes, Word, Command, Other}
 use Rattle.file_phases.specs.Phases.{phase_after, is_fit}
@@ -17,7 +18,7 @@ use Rattle.file_phases.specs.declared.Phase.{Phase}
 use Rattle.file_phases.specs.declared.Phase.TheVariants.{Start}
 
 -- The title with a line more.
-abbrev pub with_title : Title → Line → Title
+abbrev pub with_title : Option Text → Line → Option Text
 with_title title (Titled t) = t
 with_title title (Passes n) = title
 with_title title (Word place value) = title
@@ -50,7 +51,7 @@ commands_of Other = []
 
 -- A file under way: its title, the lines that may follow, the passes, the machine and the commands so far.
 pub record Reading : Type 0 where
-  pub title : Title
+  pub title : Option Text
   pub phase : Phase
   pub passes : ℕ
   pub machine : Machine
@@ -58,7 +59,7 @@ pub record Reading : Type 0 where
 
 -- It begins with a fresh machine, and without a title it follows the 1978 text.
 abbrev pub unread : Reading
-unread = record { title = Text1978; phase = Start; passes = 0; machine = fresh_machine; commands = [] }
+unread = record { title = Some Of1978; phase = Start; passes = 0; machine = fresh_machine; commands = [] }
 
 -- With a line more: of two words for one place the later holds, commands follow one another.
 unfoldable pub with_line : Reading → Line → Reading
@@ -89,15 +90,13 @@ unfoldable pub is_bench_file : List ℕ → Bool
 is_bench_file file = ended file && is_fit (file_of file).phase
 
 -- Whether a title names a text whose machines are rung, and which.
-abbrev pub is_known : Title → Bool
-is_known Text1978 = true
-is_known TextOld = true
-is_known Unknown = false
+abbrev pub is_known : Option Text → Bool
+is_known (Some text) = true
+is_known None = false
 
-abbrev pub text_of : Title → Text
-text_of Text1978 = Of1978
-text_of TextOld = Old
-text_of Unknown = Of1978
+abbrev pub text_of : Option Text → Text
+text_of (Some text) = text
+text_of None = Of1978
 
 -- The questions of a file: 9, is it a bench file; then 13, is its text known.
 abbrev pub question9 : List ℕ → Question
@@ -121,6 +120,15 @@ pub record BenchAnswer : Type 0 where
   pub count : ℕ
   pub machine : Machine
   pub room : Commands
+
+-- What the call answers and leaves, told so.
+abbrev pub nothing_said : Contents
+nothing_said = record { text = Of1978; passes = 0; count = 0 }
+
+abbrev pub bench_answer : Result Contents Refusal → Machine → Commands → BenchAnswer
+bench_answer r m room =
+    let contents = answer_or nothing_said r in
+    record { number = refused r; text = contents.text; passes = contents.passes; count = contents.count; machine = m; room = room }
 
 -- A refused file leaves the machine and the room as they are.
 unfoldable pub read_of : List ℕ → Machine → Commands → BenchAnswer

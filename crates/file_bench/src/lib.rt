@@ -1,34 +1,31 @@
 // The bench file's reader: one sweep judges its lines, a second sets what they say.
 #![tactic(auto)]
 
-ghost use Rattle.std.specs.Prelude.{◌≡◌, true, [], ◌∷◌, ◌+◌, ◌<◌, length, set};
+ghost use Rattle.std.specs.Prelude.{◌≡◌, true, ◌+◌, ◌<◌, length, set};
 ghost use Rattle.std.proofs.lemmas.List.Edits.{sets};
 ghost use Rattle.layout.specs.Layout.{machine_length};
 ghost use Rattle.layout.specs.Machine.{Reaches, with_update_ticks};
-ghost use Rattle.layout_texts.specs.declared.Text.TheVariants.{Of1978};
-ghost use Rattle.base_questions.specs.Questions.{asked};
 ghost use Rattle.file_lines.specs.Lines.{file_bytes, lines_of, ended};
-ghost use Rattle.file_phases.specs.Phases.{is_fit};
-ghost use Rattle.file_bench.specs.BenchFile.{with_word, commands_of, file_of, is_known, text_of, file_refusal, read_of};
-ghost use Rattle.file_bench.specs.AsCoded.{outline, judged_line, with_words, all_commands, contents_of};
+ghost use Rattle.file_bench.specs.BenchFile.{with_word, commands_of, file_of, file_refusal, bench_answer, read_of};
+ghost use Rattle.file_bench.specs.AsCoded.{outline, judged_line, with_words, all_commands, said, contents_of};
 
-use file_lines::{Line, Title};
+use base_questions::Refusal;
+use file_lines::{Line, Lines};
 use file_phases::Phase;
 use layout_texts::Text;
 
 // A file under way: its title, its phase, its passes, and how many commands it has.
 #[derive(Clone, Copy)]
 pub struct File {
-    pub title: Title,
+    pub title: Option<Text>,
     pub phase: Phase,
     pub passes: u32,
     pub count: usize,
 }
 
-// What a file says: the number of its refusal or 0, its text, its passes, and how many commands it has.
+// What a file says: its text, its passes, and how many commands it has.
 #[derive(Clone, Copy)]
 pub struct Contents {
-    pub number: u32,
     pub text: Text,
     pub passes: u32,
     pub count: usize,
@@ -42,38 +39,16 @@ fn judge_line(reading: File, line: Line) -> File
     requires { reading.count < file_bytes }
     ensures { result ≡ judged_line reading line }
 {
-    let title = reading.title;
-    let before = reading.phase;
-    let phase = file_phases::phase_after(title, before, line);
-    let passes = reading.passes;
-    let count = reading.count;
-    let same = File {
-        title,
-        phase,
-        passes,
-        count,
-    };
+    let phase = file_phases::phase_after(reading.title, reading.phase, line);
+    let next = File { phase, ..reading };
     match line {
-        Line::Titled(named) => File {
-            title: named,
-            phase,
-            passes,
-            count,
-        },
-        Line::Passes(n) => File {
-            title,
-            phase,
-            passes: n,
-            count,
-        },
-        Line::Word(_, _) => same,
+        Line::Titled(title) => File { title, ..next },
+        Line::Passes(passes) => File { passes, ..next },
         Line::Command(_) => File {
-            title,
-            phase,
-            passes,
-            count: count + 1,
+            count: next.count + 1,
+            ..next
         },
-        Line::Other => same,
+        Line::Word(_, _) | Line::Other => next,
     }
 }
 
@@ -83,16 +58,13 @@ fn judge(file: &[u8]) -> File
     ensures { result ≡ outline (file_of file.now) }
 {
     let mut reading = File {
-        title: Title::Text1978,
+        title: Some(Text::Of1978),
         phase: Phase::Start,
         passes: 0,
         count: 0,
     };
-    let mut at = 0;
-    while at < file.len() {
-        let k = file_bytes::find(file_bytes::after(file, at), b'\n');
-        reading = judge_line(reading, file_lines::read_line(&file[at..at + k]));
-        at = at + k + 1;
+    for line in Lines(file) {
+        reading = judge_line(reading, file_lines::read_line(line));
     }
     reading
 }
@@ -101,6 +73,7 @@ fn judge(file: &[u8]) -> File
 fn put(m: &mut [u32], at: usize, value: u32)
     ensures { m.new ≡ set m.old at value }
 {
+    // `get_mut` was tried: at its None the check knows nothing of the run.
     if at < m.len() {
         m[at] = value;
     }
@@ -114,8 +87,7 @@ fn load_line(line: Line, m: &mut [u32], room: &mut [u32], count: usize) -> usize
     ensures room_after { room.new ≡ sets room.old count (commands_of line) }
 {
     match line {
-        Line::Titled(_) => count,
-        Line::Passes(_) => count,
+        Line::Titled(_) | Line::Passes(_) | Line::Other => count,
         Line::Word(place, value) => {
             put(m, place, value);
             count
@@ -124,7 +96,6 @@ fn load_line(line: Line, m: &mut [u32], room: &mut [u32], count: usize) -> usize
             put(room, count, c);
             count + 1
         }
-        Line::Other => count,
     }
 }
 
@@ -135,11 +106,8 @@ fn load(file: &[u8], m: &mut [u32], room: &mut [u32])
     ensures room_after { room.new ≡ sets room.old 0 (all_commands (lines_of file.now)) }
 {
     let mut count = 0;
-    let mut at = 0;
-    while at < file.len() {
-        let k = file_bytes::find(file_bytes::after(file, at), b'\n');
-        count = load_line(file_lines::read_line(&file[at..at + k]), m, room, count);
-        at = at + k + 1;
+    for line in Lines(file) {
+        count = load_line(file_lines::read_line(line), m, room, count);
     }
 }
 
@@ -153,74 +121,25 @@ fn count_update_ticks(m: &mut [u32])
     m[layout::UPDATE_TICKS_AT] = layout::update_ticks(t, n);
 }
 
-// Whether a title names a text whose machines are rung.
-fn known(title: Title) -> bool
-    ensures { result ≡ is_known title }
-{
-    match title {
-        Title::Text1978 => true,
-        Title::TextOld => true,
-        Title::Unknown => false,
-    }
-}
-
-// Which text it names.
-fn text_of(title: Title) -> Text
-    ensures { result ≡ text_of title }
-{
-    match title {
-        Title::Text1978 => Text::Of1978,
-        Title::TextOld => Text::Old,
-        Title::Unknown => Text::Of1978,
-    }
-}
-
-// The number of the question that refuses a file that ends in LF, or 0.
-fn refusal(phase: Phase, title: Title) -> u32
-    ensures { result ≡ asked (record { number = 9; yes = is_fit phase } ∷ record { number = 13; yes = is_known title } ∷ []) }
-{
-    if !file_phases::fit(phase) {
-        return 9;
-    }
-    if !known(title) {
-        return 13;
-    }
-    0
-}
-
-// What a refused file says.
-fn refused(number: u32) -> Contents
-    ensures { result ≡ record { number = number; text = Of1978; passes = 0; count = 0 } }
-{
-    Contents {
-        number,
-        text: Text::Of1978,
-        passes: 0,
-        count: 0,
-    }
-}
-
 // What a file says; nothing is set.
-pub fn judge_file(file: &[u8]) -> Contents
-    ensures { result ≡ contents_of file.now }
+pub fn judge_file(file: &[u8]) -> Result<Contents, Refusal>
+    ensures { said result ≡ contents_of file.now }
 {
     if !file_lines::ended(file) {
-        return refused(9);
+        return Err(Refusal::BenchFile);
     }
     let reading = judge(file);
-    let phase = reading.phase;
-    let title = reading.title;
-    let number = refusal(phase, title);
-    if number != 0 {
-        return refused(number);
+    if !file_phases::fit(reading.phase) {
+        return Err(Refusal::BenchFile);
     }
-    let text = text_of(title);
-    Contents {
-        number: 0,
+    let Some(text) = reading.title else {
+        return Err(Refusal::KnownText);
+    };
+    Ok(Contents {
         text,
         passes: reading.passes,
         count: reading.count,
-    }
+    })
 }
 
 // Sets what a file says that no question refuses: its words on a fresh machine with the update ticks that follow, its commands from the room's first place on.
@@ -230,7 +149,8 @@ pub fn load_file(file: &[u8], m: &mut [u32], room: &mut [u32])
     ensures m_after { m.new ≡ (file_of file.now).machine }
     ensures room_after { room.new ≡ sets room.old 0 (file_of file.now).commands }
 {
-    machine::fresh(m);
+    // It has the length of a machine, so that nothing refuses it.
+    let _ = machine::fresh(m);
     load(file, m, room);
     count_update_ticks(m);
 }
@@ -240,13 +160,10 @@ pub fn read(
     file: &[u8],
     m: &mut [u32; layout::MACHINE_LENGTH],
     room: &mut [u32; COMMAND_PLACES],
-) -> Contents
-    ensures { record { number = result.number; text = result.text; passes = result.passes; count = result.count; machine = m.new; room = room.new } ≡ read_of file.now m.old room.old }
+) -> Result<Contents, Refusal>
+    ensures { bench_answer result m.new room.new ≡ read_of file.now m.old room.old }
 {
-    let said = judge_file(file);
-    if said.number != 0 {
-        return said;
-    }
+    let contents = judge_file(file)?;
     load_file(file, m, room);
-    said
+    Ok(contents)
 }

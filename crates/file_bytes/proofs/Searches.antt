@@ -2,7 +2,7 @@
 -- Assumes nothing.
 use mathlib.Core.Path.{◌≡◌, refl, ap, ◌∙◌}
 use mathlib.Core.List.{List, [], ◌∷◌}
-use mathlib.Core.Bool.{true, false}
+use mathlib.Core.Bool.{Bool, true, ◌&&◌}
 use Prim.Native.Nat.{ℕ, zero, suc, ◌+◌, ◌-◌, ◌≤◌, ◌<◌}
 use borrow.Author.Tests.{eq-eqb, ne_eqb}
 use native.Mathlib.Omega.{arith}
@@ -13,6 +13,7 @@ use lib.Seq.{drop-cons, get_or-drop, take_all}
 use Rattle.base_lists.proofs.Below.{and_second}
 use Rattle.file_bytes.specs.Bytes.{starts_with, bytes_before}
 use Rattle.base_lists.proofs.Choices.{of-cond}
+use Rattle.std.specs.List as list
 
 -- What is left of a text is its next byte and what is left then.
 pub next : (bytes : List ℕ) (i : ℕ) → i < length bytes → drop i bytes ≡ get_or bytes i 0 ∷ drop (i + 1) bytes
@@ -49,29 +50,6 @@ before-within x bytes i h e =
     let w = before_at x (drop i bytes) (length bytes - 1 - i) (rw length-drop (omega arith)) g in
     omega arith
 
--- A text's start: none is left of it, the text is shorter, a byte differs, or it is the same.
-module _ (bytes start : List ℕ) (i : ℕ) where
-  pub starts-all : length start ≤ i → starts_with (drop i bytes) (drop i start) ≡ true
-  unfolding starts_with
-  starts-all h = rw (drop_of_length-le start h) (any (drop i bytes))
-    where
-      any : (l : List ℕ) → starts_with l [] ≡ true
-      any [] = refl
-      any (b ∷ l) = refl
-
-  module _ (h : i < length start) where
-    pub starts-short : length bytes ≤ i → starts_with (drop i bytes) (drop i start) ≡ false
-    unfolding starts_with
-    starts-short s = rw (drop_of_length-le bytes s, next start i h)
-
-    pub starts-differ : i < length bytes → (get_or bytes i 0 ≡ get_or start i 0 → ⊥) → starts_with (drop i bytes) (drop i start) ≡ false
-    unfolding starts_with
-    starts-differ s e = rw (next bytes i s, next start i h, ne_eqb (get_or bytes i 0) (get_or start i 0) e)
-
-    pub starts-same : i < length bytes → get_or bytes i 0 ≡ get_or start i 0 → starts_with (drop i bytes) (drop i start) ≡ starts_with (drop (i + 1) bytes) (drop (i + 1) start)
-    unfolding starts_with
-    starts-same s e = rw (next bytes i s, next start i h, eq-eqb (get_or bytes i 0) (get_or start i 0) e)
-
 -- A text that starts with another is at least as long.
 pub starts-long : (bytes start : List ℕ) → starts_with bytes start ≡ true → length start ≤ length bytes
 unfolding starts_with
@@ -83,3 +61,14 @@ starts-long (b ∷ bytes) (p ∷ start) e =
 
 pub rest_of : (bytes : List ℕ) (n : ℕ) → take (length bytes - n) (drop n bytes) ≡ drop n bytes
 rest_of bytes n = take_all (length bytes - n) (drop n bytes) (omega (arith, length-drop n bytes))
+
+-- The library's test is the definition.
+pub begun : (bytes start : List ℕ) → list.starts_with eqb bytes start ≡ starts_with bytes start
+unfolding starts_with
+begun [] [] = refl
+begun (b ∷ bytes) [] = refl
+begun [] (p ∷ start) = refl
+begun (b ∷ bytes) (p ∷ start) = ap (λ (t : Bool). eqb p b && t) (begun bytes start) ∙ ap (λ (t : Bool). t && starts_with bytes start) (either p b)
+  where
+    either : (x y : ℕ) → eqb x y ≡ eqb y x
+    either x y = grind arith

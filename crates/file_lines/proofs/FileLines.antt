@@ -1,9 +1,9 @@
 -- The lines of a file one after another, and a file that ends in LF.
 -- Assumes nothing.
-use mathlib.Core.Path.{◌≡◌, refl, ap, ◌∙◌}
+use mathlib.Core.Path.{◌≡◌, refl, ap, sym, ◌∙◌}
 use mathlib.Core.List.{List, [], ◌∷◌}
 use mathlib.Core.Bool.{Bool, true, false, ◌&&◌}
-use Prim.Native.Nat.{ℕ, ◌+◌, ◌-◌, ◌≤◌, ◌<◌}
+use Prim.Native.Nat.{ℕ, suc, ◌+◌, ◌-◌, ◌≤◌, ◌<◌}
 use Prim.Native.Char.{code}
 use borrow.Author.Tests.{le-leb, lt-leb, lt-ltb, le-ltb, eqb-true, leb-true, ltb-true}
 use native.Mathlib.Omega.{arith}
@@ -13,7 +13,7 @@ use lib.ListN.{length, get_or, take, drop, length-drop, drop_of_length-le}
 use lib.Seq.{drop-drop}
 use Rattle.base_lists.proofs.Below.{and_first, and_second}
 use Rattle.file_bytes.specs.Bytes.{bytes_before}
-use Rattle.file_bytes.proofs.Searches.{before-within}
+use Rattle.file_bytes.proofs.Searches.{before-within, rest_of}
 use Rattle.file_lines.specs.Lines.{file_bytes, lines_of, prepended, ended}
 
 -- A file of at most 65,536 bytes that ends in LF.
@@ -57,6 +57,35 @@ lines-first (c ∷ l) h = by (eqb c (code "\n")) refl h (lines-first l)
         lines_of (c ∷ l) ≡ take (bytes_before (code "\n") (c ∷ l)) (c ∷ l) ∷ lines_of (drop (bytes_before (code "\n") (c ∷ l) + 1) (c ∷ l))
     by true e g f = rw e
     by false e g f = let p : bytes_before (code "\n") l < length l = (let q = rw e at g in omega arith) in rw (e, f p) (simp add-one)
+
+-- Nothing is left; what is left has no LF; the first LF is cut off.
+pub no-lines : (l : List ℕ) → length l ≡ 0 → lines_of l ≡ []
+unfolding lines_of
+no-lines [] h = refl
+no-lines (b ∷ l) h = absurd (omega arith)
+
+one-line : (l : List ℕ) → (length l ≡ 0 → ⊥) → length l ≤ bytes_before (code "\n") l → lines_of l ≡ l ∷ []
+unfolding lines_of prepended bytes_before
+one-line [] s h = absurd (s refl)
+one-line (b ∷ l) s h = by (eqb b (code "\n")) refl h (one-line l)
+  where
+    rest : (k : List ℕ) → l ≡ k → ((length l ≡ 0 → ⊥) → length l ≤ bytes_before (code "\n") l → lines_of l ≡ l ∷ []) → length l ≤ bytes_before (code "\n") l → prepended b (lines_of l) ≡ (b ∷ l) ∷ []
+    rest [] e f h = rw e
+    rest (c ∷ k) e f h = rw (f (λ z. absurd (omega (arith, z, ap length e))) h)
+
+    by : (t : Bool) → eqb b (code "\n") ≡ t → length (b ∷ l) ≤ bytes_before (code "\n") (b ∷ l)
+        → ((length l ≡ 0 → ⊥) → length l ≤ bytes_before (code "\n") l → lines_of l ≡ l ∷ []) → lines_of (b ∷ l) ≡ (b ∷ l) ∷ []
+    by true e g f = let q : suc (length l) ≤ 0 = rw e at g in absurd (omega arith)
+    by false e g f = rw e (rest l refl f (let q : suc (length l) ≤ suc (bytes_before (code "\n") l) = rw e at g in omega arith))
+
+pub last-line : (l : List ℕ) → (length l ≡ 0 → ⊥) → length l ≤ bytes_before (code "\n") l → lines_of l ≡ l ∷ lines_of (take (length l - length l) (drop (length l) l))
+last-line l some h =
+    let k : length l ≤ length l = omega arith in
+    let z : take (length l - length l) (drop (length l) l) ≡ [] = rest_of l (length l) ∙ drop_of_length-le l k in
+    one-line l some h ∙ ap (λ (r : List (List ℕ)). l ∷ r) (sym (no-lines (take (length l - length l) (drop (length l) l)) (ap length z)))
+
+pub cut-line : (l : List ℕ) {k : ℕ} → k ≡ bytes_before (code "\n") l → k < length l → lines_of l ≡ take k l ∷ lines_of (take (length l - (k + 1)) (drop (k + 1) l))
+cut-line l {k} e h = rw (rest_of l (k + 1), e) (lines-first l (rw (← e) h))
 
 -- The line at a place of a file: it ends before the file does, and the lines after it stand behind its LF.
 module _ (file : List ℕ) (end : Ended file) (at : ℕ) (h : at < length file) {k : ℕ} (e : k ≡ bytes_before (code "\n") (drop at file)) where

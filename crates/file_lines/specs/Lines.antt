@@ -1,14 +1,13 @@
 -- The lines of a bench file (document 01, "Bench file"; document 02, Q-10): where a file's lines end, and what each says.
 -- Assumes nothing.
-use Rattle.std.specs.Prelude.{ℕ, ◌+◌, ◌-◌, ◌^◌, Bool, cond, ◌&&◌, List, [], ◌∷◌, eqb, leb, ltb, length, get_or, take, drop}
+use Rattle.std.specs.Prelude.{ℕ, ◌+◌, ◌-◌, ◌^◌, Bool, cond, ◌&&◌, Option, Some, None, List, [], ◌∷◌, eqb, leb, ltb, length, get_or, take, drop}
 use Prim.Native.Char.{code}
+use Rattle.std.specs.Str.{bytes_eq}
 use Rattle.layout.specs.Layout.{file_places}
 use Rattle.file_bytes.specs.Bytes.{ascii, starts_with, bytes_before}
 use Rattle.file_numbers.specs.Numbers.{decimal_in, hexadecimal_in}
-use Rattle.file_numbers.specs.declared.Number.{Number}
-use Rattle.file_numbers.specs.declared.Number.TheVariants.{Is, No}
-use Rattle.file_lines.specs.declared.Title.{Title}
-use Rattle.file_lines.specs.declared.Title.TheVariants.{Text1978, TextOld, Unknown}
+use Rattle.layout_texts.specs.declared.Text.{Text}
+use Rattle.layout_texts.specs.declared.Text.TheVariants.{Of1978, Old}
 use Rattle.file_lines.specs.declared.Line.{Line}
 use Rattle.file_lines.specs.declared.Line.TheVariants.{Titled, Passes, Word, Command, Other}
 
@@ -37,9 +36,9 @@ abbrev pub after_start : List ℕ → List ℕ → List ℕ
 after_start start file = drop (length start) file
 
 -- What a number makes of a line; no number makes it another line than the four kinds.
-abbrev pub line_by : Number → (ℕ → Line) → Line
-line_by (Is n) f = f n
-line_by No f = Other
+abbrev pub line_by : Option ℕ → (ℕ → Line) → Line
+line_by (Some n) f = f n
+line_by None f = Other
 
 -- PLACE:VALUE, places that a file can name and values below 2^32.
 unfoldable pub word_line : List ℕ → Line
@@ -49,13 +48,9 @@ word_line file =
     (line_by (decimal_in file_places (take colon file)) (λ place. line_by (decimal_in (2 ^ 32) (drop (colon + 1) file)) (λ value. Word place value)))
     Other
 
--- Whether bytes are those of another list, no more and no fewer.
-abbrev pub are_bytes : List ℕ → List ℕ → Bool
-are_bytes file bytes = eqb (length file) (length bytes) && starts_with file bytes
-
 -- The text that a value names: `1978`, `old`, or none that is known.
-unfoldable pub title_of : List ℕ → Title
-title_of value = cond (are_bytes value (ascii "1978")) Text1978 (cond (are_bytes value (ascii "old")) TextOld Unknown)
+unfoldable pub title_of : List ℕ → Option Text
+title_of value = cond (bytes_eq value (ascii "1978")) (Some Of1978) (cond (bytes_eq value (ascii "old")) (Some Old) None)
 
 -- A line, without its LF: `passes=` 0..65,535, `word=PLACE:VALUE`, `command=` and eight hexadecimal capitals, `text=` and any value, or another.
 unfoldable pub line_of : List ℕ → Line

@@ -2,23 +2,16 @@
 #![tactic(auto)]
 
 ghost use Rattle.std.specs.Prelude.{◌≡◌, ◌+◌};
+ghost use Rattle.std.specs.Iterator.{YieldsFirstRef, item_count};
 ghost use Rattle.file_numbers.specs.Numbers.{decimal_in, hexadecimal_in};
-ghost use Rattle.file_lines.specs.Lines.{most_passes, line_by, word_line, are_bytes, title_of, line_of, ended};
+ghost use Rattle.file_lines.specs.Lines.{most_passes, line_by, word_line, title_of, line_of, lines_of, ended};
 
-use file_numbers::Number;
+use layout_texts::Text;
 
-// The text that a file names: that of 1978, the older one, or none that is known.
-#[derive(Clone, Copy)]
-pub enum Title {
-    Text1978,
-    TextOld,
-    Unknown,
-}
-
-// A line of a bench file, or another.
+// A line of a bench file, or another. A title names a text, or none that is known.
 #[derive(Clone, Copy)]
 pub enum Line {
-    Titled(Title),
+    Titled(Option<Text>),
     Passes(u32),
     Word(usize, u32),
     Command(u32),
@@ -36,8 +29,8 @@ fn passes(file: &[u8]) -> Line
     ensures { result ≡ line_by (decimal_in (most_passes + 1) file.now) (λ n. Line.Passes n) }
 {
     match file_numbers::decimal(file, MOST_PASSES + 1) {
-        Number::Is(n) => Line::Passes(n),
-        Number::No => Line::Other,
+        Some(n) => Line::Passes(n),
+        None => Line::Other,
     }
 }
 
@@ -49,15 +42,13 @@ fn word(file: &[u8]) -> Line
     if file.len() <= k {
         return Line::Other;
     }
-    let Number::Is(place) = file_numbers::decimal(&file[..k], layout::FILE_PLACES as u64) else {
+    let Some(place) = file_numbers::decimal(&file[..k], layout::FILE_PLACES as u64) else {
         return Line::Other;
     };
-    let after = file_bytes::after(file, k + 1);
-    let Number::Is(value) = file_numbers::decimal(after, file_numbers::WORD_VALUES) else {
+    let Some(value) = file_numbers::decimal(&file[k + 1..], file_numbers::WORD_VALUES) else {
         return Line::Other;
     };
-    let at = place as usize;
-    Line::Word(at, value)
+    Line::Word(place as usize, value)
 }
 
 // What follows `command=`.
@@ -65,56 +56,66 @@ fn command(file: &[u8]) -> Line
     ensures { result ≡ line_by (hexadecimal_in file.now) (λ c. Line.Command c) }
 {
     match file_numbers::hexadecimal(file) {
-        Number::Is(c) => Line::Command(c),
-        Number::No => Line::Other,
+        Some(c) => Line::Command(c),
+        None => Line::Other,
     }
 }
 
-// Whether bytes are those of another run, no more and no fewer.
-fn are(file: &[u8], bytes: &[u8]) -> bool
-    ensures { result ≡ are_bytes file.now bytes.now }
-{
-    if file.len() != bytes.len() {
-        return false;
-    }
-    file_bytes::starts(file, bytes)
-}
-
-// The text that a value names.
-fn titled(value: &[u8]) -> Title
+// The text that a value names, if it is known.
+#[tactic(auto, unfolding(crate::specs::Lines::title_of))]
+fn titled(value: &[u8]) -> Option<Text>
     ensures { result ≡ title_of value.now }
 {
-    let unknown = Title::Unknown;
-    if are(value, b"1978") {
-        return Title::Text1978;
+    match value {
+        b"1978" => Some(Text::Of1978),
+        b"old" => Some(Text::Old),
+        _ => None,
     }
-    if are(value, b"old") {
-        return Title::TextOld;
-    }
-    unknown
 }
 
 // A line, without its LF.
 pub fn read_line(file: &[u8]) -> Line
     ensures { result ≡ line_of file.now }
 {
-    let start = b"passes=";
-    if file_bytes::starts(file, start) {
-        return passes(file_bytes::after(file, start.len()));
+    if let Some(number) = file.strip_prefix(b"passes=") {
+        return passes(number);
     }
-    let start = b"word=";
-    if file_bytes::starts(file, start) {
-        return word(file_bytes::after(file, start.len()));
+    if let Some(pair) = file.strip_prefix(b"word=") {
+        return word(pair);
     }
-    let start = b"command=";
-    if file_bytes::starts(file, start) {
-        return command(file_bytes::after(file, start.len()));
+    if let Some(digits) = file.strip_prefix(b"command=") {
+        return command(digits);
     }
-    let start = b"text=";
-    if file_bytes::starts(file, start) {
-        return Line::Titled(titled(file_bytes::after(file, start.len())));
+    if let Some(value) = file.strip_prefix(b"text=") {
+        return Line::Titled(titled(value));
     }
     Line::Other
+}
+
+// What is left of a file, line by line, each without its LF.
+#[derive(Drop)]
+pub struct Lines<'a>(pub &'a [u8]);
+
+impl<'a> Iterator for Lines<'a> {
+    type Item = &'a [u8];
+
+    ghost next_gives = { YieldsFirstRef (λ s. lines_of s.0.now) };
+
+    ghost remaining = { item_count (λ s. lines_of s.0.now) };
+
+    fn next(&mut self) -> Option<&'a [u8]> {
+        let left = self.0;
+        if left.is_empty() {
+            return None;
+        }
+        let k = file_bytes::find(left, b'\n');
+        if left.len() <= k {
+            self.0 = &left[left.len()..];
+            return Some(left);
+        }
+        self.0 = &left[k + 1..];
+        Some(&left[..k])
+    }
 }
 
 // Whether a file has at most 65,536 bytes and ends in LF.

@@ -12,8 +12,7 @@ use lib.Dec.{eqb, leb}
 use lib.ListN.{length, get_or, drop, drop_of_length-le}
 use Rattle.file_bytes.proofs.Searches.{next}
 use Rattle.file_numbers.specs.Numbers.{digit_value, all_digits, written_after, number_in, leading_zero, decimal_in, hexadecimal_in}
-use Rattle.file_numbers.specs.declared.Number.{Number}
-use Rattle.file_numbers.specs.declared.Number.TheVariants.{Is, No}
+use Rattle.std.specs.Prelude.{Option, Some, None}
 
 -- A test that fails in its second part fails.
 pub and-false : (a : Bool) {b : Bool} → b ≡ false → (a && b) ≡ false
@@ -76,16 +75,16 @@ written_grows b v (c ∷ l) h =
     let p : v * 1 ≤ v * b = mul-le-mul_left v h in
     omega (arith, mul-one v)
 
--- No number: another byte than a digit, or too large; and a number.
-pub number-none : (b limit : ℕ) (l : List ℕ) → all_digits b l ≡ false → number_in b limit l ≡ No
+-- None number: another byte than a digit, or too large; and a number.
+pub number-none : (b limit : ℕ) (l : List ℕ) → all_digits b l ≡ false → number_in b limit l ≡ None
 unfolding number_in
 number-none b limit l e = rw e
 
-pub number-large : (b limit : ℕ) (l : List ℕ) → limit ≤ written_after b 0 l → number_in b limit l ≡ No
+pub number-large : (b limit : ℕ) (l : List ℕ) → limit ≤ written_after b 0 l → number_in b limit l ≡ None
 unfolding number_in
 number-large b limit l h = rw (and-false (all_digits b l) (le-ltb (written_after b 0 l) limit h))
 
-pub number_is : (b limit v : ℕ) (l : List ℕ) → all_digits b l ≡ true → written_after b 0 l ≡ v → v < limit → number_in b limit l ≡ Is v
+pub number_is : (b limit v : ℕ) (l : List ℕ) → all_digits b l ≡ true → written_after b 0 l ≡ v → v < limit → number_in b limit l ≡ Some v
 unfolding number_in
 number_is b limit v l d e h = rw (d, e, lt-ltb v limit h)
 
@@ -102,23 +101,23 @@ long-zero l h = rw (lt-ltb 1 (length l) h) (same-with (eqb (get_or l 0 0) (code 
     same-with true = refl
     same-with false = refl
 
-pub decimal-empty : (limit : ℕ) (l : List ℕ) → length l ≡ 0 → No ≡ decimal_in limit l
+pub decimal-empty : (limit : ℕ) (l : List ℕ) → length l ≡ 0 → None ≡ decimal_in limit l
 unfolding decimal_in
 decimal-empty limit l e = rw (eq-eqb (length l) 0 e)
 
 module _ (limit : ℕ) (l : List ℕ) (some : length l ≡ 0 → ⊥) {z : Bool} (e : z ≡ leading_zero l) where
-  pub decimal-zero : z ≡ true → No ≡ decimal_in limit l
+  pub decimal-zero : z ≡ true → None ≡ decimal_in limit l
   unfolding decimal_in
   decimal-zero t = rw (ne_eqb (length l) 0 some, sym e ∙ t)
 
-  pub decimal-by : z ≡ false → {n : Number} → n ≡ number_in 10 limit l → n ≡ decimal_in limit l
+  pub decimal-by : z ≡ false → {n : Option ℕ} → n ≡ number_in 10 limit l → n ≡ decimal_in limit l
   unfolding decimal_in
   decimal-by f g = rw (ne_eqb (length l) 0 some, sym e ∙ f) g
 
-pub hexadecimal-by : (l : List ℕ) → length l ≡ 8 → {n : Number} → n ≡ number_in 16 (2 ^ 32) l → n ≡ hexadecimal_in l
+pub hexadecimal-by : (l : List ℕ) → length l ≡ 8 → {n : Option ℕ} → n ≡ number_in 16 (2 ^ 32) l → n ≡ hexadecimal_in l
 unfolding hexadecimal_in
 hexadecimal-by l e g = rw (eq-eqb (length l) 8 e) g
 
-pub hexadecimal-none : (l : List ℕ) → (length l ≡ 8 → ⊥) → No ≡ hexadecimal_in l
+pub hexadecimal-none : (l : List ℕ) → (length l ≡ 8 → ⊥) → None ≡ hexadecimal_in l
 unfolding hexadecimal_in
 hexadecimal-none l n = rw (ne_eqb (length l) 8 n)

@@ -1,9 +1,7 @@
 -- The numbers of a bench file (document 01, "Bench file").
 -- Assumes nothing.
-use Rattle.std.specs.Prelude.{ℕ, ◌+◌, ◌-◌, ◌*◌, ◌^◌, Bool, true, cond, ◌&&◌, ◌||◌, List, [], ◌∷◌, eqb, leb, ltb, length, get_or}
+use Rattle.std.specs.Prelude.{ℕ, ◌+◌, ◌-◌, ◌*◌, ◌^◌, Bool, true, cond, Option, Some, None, ◌&&◌, ◌||◌, List, [], ◌∷◌, eqb, leb, ltb, length, get_or}
 use Prim.Native.Char.{code}
-use Rattle.file_numbers.specs.declared.Number.{Number}
-use Rattle.file_numbers.specs.declared.Number.TheVariants.{Is, No}
 
 -- The value of a digit, 0 to 9 and then A to F; 16 for any other byte.
 unfoldable pub digit_value : ℕ → ℕ
@@ -22,18 +20,18 @@ written_after base n [] = n
 written_after base n (b ∷ bytes) = written_after base (n * base + digit_value b) bytes
 
 -- The number, below a limit, that a text of digits writes in a base.
-unfoldable pub number_in : ℕ → ℕ → List ℕ → Number
+unfoldable pub number_in : ℕ → ℕ → List ℕ → Option ℕ
 number_in base limit bytes =
-    cond (all_digits base bytes && ltb (written_after base 0 bytes) limit) (Is (written_after base 0 bytes)) No
+    cond (all_digits base bytes && ltb (written_after base 0 bytes) limit) (Some (written_after base 0 bytes)) None
 
 -- Whether a text of two digits or more begins with 0.
 unfoldable pub leading_zero : List ℕ → Bool
 leading_zero bytes = eqb (get_or bytes 0 0) (code "0") && ltb 1 (length bytes)
 
 -- A decimal number below a limit, of at least one digit and without leading zeros.
-unfoldable pub decimal_in : ℕ → List ℕ → Number
-decimal_in limit bytes = cond (eqb (length bytes) 0 || leading_zero bytes) No (number_in 10 limit bytes)
+unfoldable pub decimal_in : ℕ → List ℕ → Option ℕ
+decimal_in limit bytes = cond (eqb (length bytes) 0 || leading_zero bytes) None (number_in 10 limit bytes)
 
 -- Eight hexadecimal capitals.
-unfoldable pub hexadecimal_in : List ℕ → Number
-hexadecimal_in bytes = cond (eqb (length bytes) 8) (number_in 16 (2 ^ 32) bytes) No
+unfoldable pub hexadecimal_in : List ℕ → Option ℕ
+hexadecimal_in bytes = cond (eqb (length bytes) 8) (number_in 16 (2 ^ 32) bytes) None

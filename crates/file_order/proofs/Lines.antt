@@ -4,33 +4,35 @@ use mathlib.Core.Path.{◌≡◌, refl, ap, sym, ◌∙◌}
 use mathlib.Core.List.{List, [], ◌∷◌, map}
 use mathlib.Core.Bool.{Bool, true, false, cond, ◌&&◌}
 use Prim.Native.Nat.{ℕ, suc, ◌+◌, ◌≤◌, ◌<◌}
-use Prim.Native.Char.{code}
 use borrow.Author.Tests.{le-leb, lt-leb}
 use native.Mathlib.Omega.{arith}
 use native.Mathlib.Nat.{add-zero, zero-add}
 use lib.Dec.{leb}
-use lib.ListN.{length, take, drop, set, replicate, length-map}
+use lib.ListN.{length, set, replicate, length-map}
 use lib.Seq.{sets}
 use Rattle.base_lists.specs.Lists.{zeros}
 use Rattle.layout.specs.Layout.{generators}
 use Rattle.layout.specs.Machine.{Order}
-use Rattle.file_bytes.specs.Bytes.{starts_with, bytes_before}
+use Rattle.file_bytes.specs.Bytes.{starts_with}
 use Rattle.file_numbers.specs.Numbers.{decimal_in}
-use Rattle.file_numbers.specs.declared.Number.{Number}
-use Rattle.file_numbers.specs.declared.Number.TheVariants.{Is, No}
+use Rattle.std.specs.Prelude.{Option, Some, None}
 use Rattle.file_lines.specs.Lines.{after_start, lines_of, ended}
-use Rattle.file_lines.proofs.FileLines.{Ended, within, lines_next, lines_end}
 use Rattle.file_order.specs.OrderFile.{order_start, entry_of, entry, all_entries, is_order_file, order_of, OrderAnswer, no_order_file, read_of}
 
 -- A line by its start.
-module _ (line : List ℕ) {a : Bool} (p : a ≡ starts_with line order_start) where
-  pub entry_named : a ≡ true → {rest : List ℕ} → rest ≡ after_start order_start line → {n : Number} → n ≡ decimal_in generators rest → n ≡ entry_of line
+module _ (line : List ℕ) where
+  pub entry_named : starts_with line order_start ≡ true → {rest : List ℕ} → rest ≡ after_start order_start line → {n : Option ℕ} → n ≡ decimal_in generators rest → n ≡ entry_of line
   unfolding entry_of
-  entry_named t r q = rw (sym p ∙ t, ← r) q
+  entry_named t r q = rw (t, ← r) q
 
-  pub entry-none : a ≡ false → No ≡ entry_of line
+  pub entry-none : starts_with line order_start ≡ false → None ≡ entry_of line
   unfolding entry_of
-  entry-none f = rw (sym p ∙ f)
+  entry-none f = rw f
+
+-- What a file that is none is answered.
+pub none-told : record { number = 9; count = 0; entries = zeros generators } ≡ no_order_file
+unfolding no_order_file
+none-told = refl
 
 -- A test joined with one that fails.
 and_no : (b : Bool) → (b && false) ≡ false
@@ -55,14 +57,14 @@ lines_none n es h = rw (add-zero, le-leb n generators h)
 
 -- One line more: it names the next entry, it names none, or there is no room for it.
 module _ (n : ℕ) (es : Order) (l : List ℕ) (ls : List (List ℕ)) where
-  line-entry : {g : ℕ} → entry_of l ≡ Is g → with_lines n es (l ∷ ls) ≡ with_lines (n + 1) (set es n g) ls
+  line-entry : {g : ℕ} → entry_of l ≡ Some g → with_lines n es (l ∷ ls) ≡ with_lines (n + 1) (set es n g) ls
   unfolding with_lines all_entries
   line-entry e =
       let i : n + suc (length ls) ≡ n + 1 + length ls = omega arith in
       let j : suc n ≡ n + 1 = omega arith in
       rw (e, i, j)
 
-  line-no-entry : entry_of l ≡ No → no_order_file ≡ with_lines n es (l ∷ ls)
+  line-no-entry : entry_of l ≡ None → no_order_file ≡ with_lines n es (l ∷ ls)
   unfolding with_lines all_entries
   line-no-entry e = rw (e, and_no (leb (n + suc (length ls)) generators))
 
@@ -71,37 +73,34 @@ module _ (n : ℕ) (es : Order) (l : List ℕ) (ls : List (List ℕ)) where
   line-no-room h = let i : generators < n + suc (length ls) = omega arith in rw (lt-leb (n + suc (length ls)) generators i)
 
 -- The sweep under way: the lines that are left make what reading answers.
-pub record Reading (file : List ℕ) (at count : ℕ) (es : Order) : Type 0 where
-  pub here : at ≤ length file
+pub record Reading (file : List ℕ) (left : List (List ℕ)) (count : ℕ) (es : Order) : Type 0 where
   pub few : count ≤ generators
-  pub rest : with_lines count es (lines_of (drop at file)) ≡ read_of file
+  pub rest : with_lines count es left ≡ read_of file
 
-pub begins : (file : List ℕ) → ended file ≡ true → Reading file 0 0 (replicate generators 0)
+pub begins : (file : List ℕ) → ended file ≡ true → Reading file (lines_of file) 0 (replicate generators 0)
 unfolding zeros
-begins file e = record { here = omega arith; few = omega arith; rest = lines-all file e }
+begins file e = record { few = omega arith; rest = lines-all file e }
 
-module _ (file : List ℕ) {at count : ℕ} {es : Order} (r : Reading file at count es) where
-  pub ends : length file ≤ at → record { number = 0; count = count; entries = es } ≡ read_of file
-  ends h = lines_none count es r.few ∙ sym (ap (with_lines count es) (lines_end file at h)) ∙ r.rest
+module _ {file : List ℕ} {left : List (List ℕ)} {count : ℕ} {es : Order} (r : Reading file left count es) where
+  pub ends : left ≡ [] → record { number = 0; count = count; entries = es } ≡ read_of file
+  ends h = lines_none count es r.few ∙ sym (ap (with_lines count es) h) ∙ r.rest
 
-  module _ (end : Ended file) (h : at < length file) {k : ℕ} (e : k ≡ bytes_before (code "\n") (drop at file)) where
-    left : with_lines count es (take k (drop at file) ∷ lines_of (drop (at + k + 1) file)) ≡ read_of file
-    left = sym (ap (with_lines count es) (lines_next file end at h e)) ∙ r.rest
+  module _ {l : List ℕ} {ls : List (List ℕ)} (h : left ≡ l ∷ ls) where
+    next : with_lines count es (l ∷ ls) ≡ read_of file
+    next = sym (ap (with_lines count es) h) ∙ r.rest
 
     pub no_room : generators ≤ count → no_order_file ≡ read_of file
-    no_room i = line-no-room count es (take k (drop at file)) (lines_of (drop (at + k + 1) file)) i ∙ left
+    no_room i = line-no-room count es l ls i ∙ next
 
-    module _ {found : Number} (f : found ≡ entry_of (take k (drop at file))) where
-      pub no-entry : found ≡ No → no_order_file ≡ read_of file
-      no-entry i = line-no-entry count es (take k (drop at file)) (lines_of (drop (at + k + 1) file)) (sym f ∙ i) ∙ left
+    module _ {found : Option ℕ} (f : found ≡ entry_of l) where
+      pub no-entry : found ≡ None → no_order_file ≡ read_of file
+      no-entry i = line-no-entry count es l ls (sym f ∙ i) ∙ next
 
-      pub goes_on : {g : ℕ} → found ≡ Is g → count < generators → Reading file (at + k + 1) (count + 1) (set es count g)
+      pub goes_on : {g : ℕ} → found ≡ Some g → count < generators → Reading file ls (count + 1) (set es count g)
       goes_on i room =
-          let w = within file end at h e in
           record {
-            here = omega arith;
             few = omega arith;
-            rest = sym (line-entry count es (take k (drop at file)) (lines_of (drop (at + k + 1) file)) (sym f ∙ i)) ∙ left;
+            rest = sym (line-entry count es l ls (sym f ∙ i)) ∙ next;
           }
 
 -- A file that is not ended is no order file.

@@ -1,14 +1,15 @@
 -- A file with an order of the generators: a line `order=G` for each of them, as program sorted prints it.
 -- Assumes nothing.
-use Rattle.std.specs.Prelude.{ℕ, Bool, true, false, cond, ◌&&◌, List, [], ◌∷◌, map, leb, length}
+use Rattle.std.specs.Prelude.{ℕ, Bool, true, false, cond, ◌&&◌, Option, Some, None, Result, List, [], ◌∷◌, map, leb, length}
 use Rattle.std.proofs.lemmas.List.Edits.{sets}
 use Rattle.base_lists.specs.Lists.{zeros}
 use Rattle.layout.specs.Layout.{generators}
 use Rattle.layout.specs.Machine.{Order}
 use Rattle.file_bytes.specs.Bytes.{ascii, starts_with}
 use Rattle.file_numbers.specs.Numbers.{decimal_in}
-use Rattle.file_numbers.specs.declared.Number.{Number}
-use Rattle.file_numbers.specs.declared.Number.TheVariants.{Is, No}
+use Rattle.base_questions.specs.declared.Refusal.{Refusal}
+use Rattle.base_questions.specs.Refusals.{refused, answer_or}
+use Rattle.file_order.specs.declared.Entries.{Entries}
 use Rattle.file_lines.specs.Lines.{after_start, lines_of, ended}
 
 -- What a line starts with.
@@ -16,17 +17,17 @@ abbrev pub order_start : List ℕ
 order_start = ascii "order="
 
 -- The generator that a line names, 0..255 in decimal without leading zeros; or none.
-unfoldable pub entry_of : List ℕ → Number
-entry_of line = cond (starts_with line order_start) (decimal_in generators (after_start order_start line)) No
+unfoldable pub entry_of : List ℕ → Option ℕ
+entry_of line = cond (starts_with line order_start) (decimal_in generators (after_start order_start line)) None
 
 -- Whether there is one, and which.
-abbrev pub is_entry : Number → Bool
-is_entry (Is g) = true
-is_entry No = false
+abbrev pub is_entry : Option ℕ → Bool
+is_entry (Some g) = true
+is_entry None = false
 
-abbrev pub entry : Number → ℕ
-entry (Is g) = g
-entry No = 0
+abbrev pub entry : Option ℕ → ℕ
+entry (Some g) = g
+entry None = 0
 
 -- Whether each of a file's lines names a generator.
 unfoldable pub all_entries : List (List ℕ) → Bool
@@ -46,6 +47,13 @@ pub record OrderAnswer : Type 0 where
   pub number : ℕ
   pub count : ℕ
   pub entries : Order
+
+-- What a call answers, told so.
+abbrev pub none_read : Entries
+none_read = record { count = 0; entries = zeros generators }
+
+abbrev pub order_answer : Result Entries Refusal → OrderAnswer
+order_answer r = let read = answer_or none_read r in record { number = refused r; count = read.count; entries = read.entries }
 
 -- The answer to a file that is none.
 unfoldable pub no_order_file : OrderAnswer

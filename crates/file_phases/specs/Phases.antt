@@ -1,8 +1,8 @@
 -- Which lines may follow one another in a bench file (document 01, "Bench file"; document 02, Q-10).
 -- Assumes nothing.
-use Rattle.std.specs.Prelude.{Bool, true, false}
-use Rattle.file_lines.specs.declared.Title.{Title}
-use Rattle.file_lines.specs.declared.Title.TheVariants.{Text1978, TextOld, Unknown}
+use Rattle.std.specs.Prelude.{Bool, true, false, Option, Some, None}
+use Rattle.layout_texts.specs.declared.Text.{Text}
+use Rattle.layout_texts.specs.declared.Text.TheVariants.{Of1978, Old}
 use Rattle.file_lines.specs.declared.Line.{Line}
 use Rattle.file_lines.specs.declared.Line.TheVariants.{Titled, Passes, Word, Command, Other}
 use Rattle.file_phases.specs.declared.Phase.{Phase}
@@ -33,12 +33,12 @@ after_word Commands = Unfit
 after_word Unfit = Unfit
 
 -- After a `command=` line: behind `passes=`, and not in a file of the older text.
-abbrev pub first_command : Title → Phase
-first_command Text1978 = Commands
-first_command TextOld = Unfit
-first_command Unknown = Commands
+abbrev pub first_command : Option Text → Phase
+first_command (Some Of1978) = Commands
+first_command (Some Old) = Unfit
+first_command None = Commands
 
-abbrev pub after_command : Title → Phase → Phase
+abbrev pub after_command : Option Text → Phase → Phase
 after_command title Start = Unfit
 after_command title Headed = Unfit
 after_command title Words = first_command title
@@ -46,7 +46,7 @@ after_command title Commands = Commands
 after_command title Unfit = Unfit
 
 -- The phase after a line, in a file of a title; a line of another kind makes it no bench file.
-abbrev pub phase_after : Title → Phase → Line → Phase
+abbrev pub phase_after : Option Text → Phase → Line → Phase
 phase_after title phase (Titled t) = after_title phase
 phase_after title phase (Passes n) = after_passes phase
 phase_after title phase (Word place value) = after_word phase

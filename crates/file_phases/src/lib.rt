@@ -4,10 +4,11 @@
 ghost use Rattle.std.specs.Prelude.{◌≡◌};
 ghost use Rattle.file_phases.specs.Phases.{after_title, after_passes, after_word, first_command, after_command, phase_after, is_fit};
 
-use file_lines::{Line, Title};
+use file_lines::Line;
+use layout_texts::Text;
 
 // Which lines may follow: `text=` and `passes=`; only `passes=`; `word=` and `command=`; only `command=`; none, since a line before may not stand there.
-#[derive(Clone, Copy)]
+#[derive(Clone, Copy, PartialEq, Eq)]
 pub enum Phase {
     Start,
     Headed,
@@ -16,77 +17,59 @@ pub enum Phase {
     Unfit,
 }
 
-// The phase after a `text=` line.
+// The phase after a `text=` line: a second one, and one after `passes=`, are unfit.
 fn after_title(phase: Phase) -> Phase
     ensures { result ≡ after_title phase }
 {
-    // A second one, and one after `passes=`.
-    let second = Phase::Unfit;
-    let late = Phase::Unfit;
     match phase {
         Phase::Start => Phase::Headed,
-        Phase::Headed => second,
-        Phase::Words => late,
-        Phase::Commands => late,
-        Phase::Unfit => Phase::Unfit,
+        Phase::Headed | Phase::Words | Phase::Commands | Phase::Unfit => Phase::Unfit,
     }
 }
 
-// The phase after a `passes=` line.
+// The phase after a `passes=` line: a second one is unfit.
 fn after_passes(phase: Phase) -> Phase
     ensures { result ≡ after_passes phase }
 {
-    let again = Phase::Unfit;
     match phase {
-        Phase::Start => Phase::Words,
-        Phase::Headed => Phase::Words,
-        Phase::Words => again,
-        Phase::Commands => again,
-        Phase::Unfit => Phase::Unfit,
+        Phase::Start | Phase::Headed => Phase::Words,
+        Phase::Unfit | Phase::Words | Phase::Commands => Phase::Unfit,
     }
 }
 
-// The phase after a `word=` line.
+// The phase after a `word=` line: one after a `command=` line is unfit.
 fn after_word(phase: Phase) -> Phase
     ensures { result ≡ after_word phase }
 {
-    // One after a `command=` line.
-    let behind = Phase::Unfit;
     match phase {
-        Phase::Start => Phase::Unfit,
-        Phase::Headed => Phase::Unfit,
         Phase::Words => Phase::Words,
-        Phase::Commands => behind,
-        Phase::Unfit => Phase::Unfit,
+        Phase::Start | Phase::Headed | Phase::Commands | Phase::Unfit => Phase::Unfit,
     }
 }
 
 // The phase after a first `command=` line: an old file has none.
-fn first_command(title: Title) -> Phase
+fn first_command(title: Option<Text>) -> Phase
     ensures { result ≡ first_command title }
 {
     match title {
-        Title::Text1978 => Phase::Commands,
-        Title::TextOld => Phase::Unfit,
-        Title::Unknown => Phase::Commands,
+        Some(Text::Old) => Phase::Unfit,
+        Some(Text::Of1978) | None => Phase::Commands,
     }
 }
 
 // The phase after a `command=` line.
-fn after_command(title: Title, phase: Phase) -> Phase
+fn after_command(title: Option<Text>, phase: Phase) -> Phase
     ensures { result ≡ after_command title phase }
 {
     match phase {
-        Phase::Start => Phase::Unfit,
-        Phase::Headed => Phase::Unfit,
+        Phase::Start | Phase::Headed | Phase::Unfit => Phase::Unfit,
         Phase::Words => first_command(title),
         Phase::Commands => Phase::Commands,
-        Phase::Unfit => Phase::Unfit,
     }
 }
 
 // The phase after a line, in a file of a title.
-pub fn phase_after(title: Title, phase: Phase, line: Line) -> Phase
+pub fn phase_after(title: Option<Text>, phase: Phase, line: Line) -> Phase
     ensures { result ≡ phase_after title phase line }
 {
     match line {
@@ -102,11 +85,5 @@ pub fn phase_after(title: Title, phase: Phase, line: Line) -> Phase
 pub fn fit(phase: Phase) -> bool
     ensures { result ≡ is_fit phase }
 {
-    match phase {
-        Phase::Start => false,
-        Phase::Headed => false,
-        Phase::Words => true,
-        Phase::Commands => true,
-        Phase::Unfit => false,
-    }
+    matches!(phase, Phase::Words | Phase::Commands)
 }

@@ -1,6 +1,6 @@
 -- What the call answers and leaves, by its questions.
 -- Assumes nothing.
-use mathlib.Core.Path.{◌≡◌, ap, sym, ◌∙◌}
+use mathlib.Core.Path.{◌≡◌, refl, ap, sym, ◌∙◌}
 use mathlib.Core.Logic.{◌≢◌}
 use mathlib.Core.Bool.{true}
 use mathlib.Core.List.{List, [], ◌∷◌}
@@ -13,12 +13,17 @@ use lib.Seq.{sets}
 use Rattle.layout.specs.Layout.{machine_length}
 use Rattle.base_questions.specs.Questions.{asked}
 use Rattle.base_questions.proofs.Asked.{asked-first, asked-later}
+use Rattle.std.specs.Prelude.{Result}
+use Rattle.std.specs.Result.{IsErrAnd}
+use Rattle.std.proofs.lemmas.Result.{err_from_is_err_and}
+use Rattle.base_questions.specs.declared.Refusal.{Refusal}
+use Rattle.base_questions.specs.Refusals.{number_of}
+use Rattle.file_read.specs.declared.ReadAnswer.{ReadAnswer}
 use Rattle.machine.specs.Questions.{question1}
 use Rattle.file_bench.specs.BenchFile.{file_of, question9, question13, file_refusal}
-use Rattle.file_bench.specs.AsCoded.{contents_of}
-use Rattle.file_bench.specs.declared.Contents.{Contents}
+use Rattle.file_bench.specs.AsCoded.{Said, contents_of}
 use Rattle.file_bench.proofs.WholeFile.{said-number, said-good}
-use Rattle.file_read.specs.Read.{text_number, question8, read_refusal, read_into}
+use Rattle.file_read.specs.Read.{text_number, question8, read_refusal, read_answer, read_into}
 
 module _ (file m places : List ℕ) where
   -- What a refusal leaves.
@@ -26,7 +31,7 @@ module _ (file m places : List ℕ) where
   unfolding read_into
   no n h e = rw (e, ne_eqb n 0 h)
 
-  module _ {said : Contents} (p : said ≡ contents_of file) where
+  module _ {said : Said} (p : said ≡ contents_of file) where
     pub refused-file : said.number ≢ 0
         → record { number = said.number; text = 0; passes = 0; count = 0; machine = m; commands = places } ≡ read_into file m places
     unfolding read_refusal file_refusal
@@ -44,7 +49,7 @@ module _ (file m places : List ℕ) where
 
       -- The commands that are counted.
       counts : said.count ≡ length (file_of file).commands
-      counts = ap (λ (c : Contents). c.count) (said-good file p g)
+      counts = ap (λ (c : Said). c.count) (said-good file p g)
 
       pub other_length : length m ≢ machine_length → record { number = 1; text = 0; passes = 0; count = 0; machine = m; commands = places } ≡ read_into file m places
       unfolding asked
@@ -65,3 +70,8 @@ module _ (file m places : List ℕ) where
             → {text : ℕ} → text ≡ text_number said.text → record { number = 0; text = text; passes = said.passes; count = said.count; machine = m'; commands = places' } ≡ read_into file m places
         unfolding read_into
         loaded h a b t = rw (t, said-good file p g, a, b, none h)
+
+-- What a refusal handed on answers.
+pub refused_on : (m places : List ℕ) (r : Result ReadAnswer Refusal) (e : Refusal) → IsErrAnd r (λ y. y ≡ e) →
+    read_answer r m places ≡ record { number = number_of e; text = 0; passes = 0; count = 0; machine = m; commands = places }
+refused_on m places r e h = let p = err_from_is_err_and r h in rw (p.1, p.2) refl

@@ -1,11 +1,14 @@
 -- A bench file read into runs that a host hands in (document 01, "Bench file" and "Questions at the door"; document 02, Q-10).
 -- Assumes nothing.
-use Rattle.std.specs.Prelude.{ℕ, cond, List, [], ◌∷◌, eqb, leb, length}
+use Rattle.std.specs.Prelude.{ℕ, cond, Result, List, [], ◌∷◌, eqb, leb, length}
 use Rattle.std.proofs.lemmas.List.Edits.{sets}
 use Rattle.layout.specs.Machine.{Machine, Commands}
 use Rattle.layout_texts.specs.declared.Text.{Text}
 use Rattle.layout_texts.specs.declared.Text.TheVariants.{Of1978, Old}
 use Rattle.base_questions.specs.Questions.{Question, asked}
+use Rattle.base_questions.specs.declared.Refusal.{Refusal}
+use Rattle.base_questions.specs.Refusals.{refused, answer_or}
+use Rattle.file_read.specs.declared.ReadAnswer.{ReadAnswer}
 use Rattle.machine.specs.Questions.{question1}
 use Rattle.file_bench.specs.BenchFile.{file_of, text_of, question9, question13}
 
@@ -30,6 +33,14 @@ pub record Read : Type 0 where
   pub count : ℕ
   pub machine : Machine
   pub commands : Commands
+
+abbrev pub nothing_read : ReadAnswer
+nothing_read = record { text = 0; passes = 0; count = 0 }
+
+abbrev pub read_answer : Result ReadAnswer Refusal → Machine → Commands → Read
+read_answer r m places =
+    let read = answer_or nothing_read r in
+    record { number = refused r; text = read.text; passes = read.passes; count = read.count; machine = m; commands = places }
 
 -- The machine is the one that the file says, its commands stand from the first place on, and places past them stay. Refused, all stays and the other answers are 0.
 unfoldable pub read_into : List ℕ → Machine → Commands → Read

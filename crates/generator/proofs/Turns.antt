@@ -2,8 +2,7 @@
 -- Assumes nothing.
 use mathlib.Core.Path.{◌≡◌, refl, ap, ◌∙◌}
 use mathlib.Core.Bool.{Bool, true, false, cond, ◌&&◌, and-true, and-false}
-use Prim.Native.Nat.{ℕ, ◌/◌, ◌^◌, ◌<◌, ◌≤◌}
-use native.Mathlib.Omega.{arith}
+use Prim.Native.Nat.{ℕ, ◌/◌, ◌^◌, ◌<◌}
 use lib.Dec.{eqb}
 use lib.IntN.{ℤ}
 use borrow.Author.Tests.{ne_eqb}
@@ -34,29 +33,33 @@ pub output-is : (g : Generator) (f : ℕ) → output_by (oscillator_on (run_mode
 unfolding output_by k_by left_by p_of w_of k_of left_range phase_of leaves
 output-is g f = refl
 
--- P by the oscillator mode, of V.
-module _ (on : Bool) (g : Generator) (z : ℤ) (j v : ℕ) {p : ℕ} (is-v : v ≡ v_of g) where
-  pub output-of-j : p ≡ low_bits 20 (enveloped (sine_wave (j / 2 ^ 7) g.gm) v) → oscillator_mode g ≡ 8 → p ≡ output_by on g z j
-  unfolding output_by k_by wave_of
-  output-of-j h e = rw (e, h, is-v)
+-- K: of J in the mode 1000, else of GK.
+pub k-of-j : (g : Generator) (j : ℕ) → oscillator_mode g ≡ 8 → j / 2 ^ 7 ≡ k_by g j
+unfolding k_by
+k-of-j g j e = rw e refl
 
-  pub output-of-gk : p ≡ low_bits 20 (enveloped (sine_wave (g.gk / 2 ^ 7) g.gm) v) → oscillator_mode g ≡ 0 → p ≡ output_by on g z j
-  unfolding output_by k_by wave_of
-  output-of-gk h e = rw (e, h, is-v)
+pub k-of-gk : (g : Generator) (j : ℕ) → ¬ (oscillator_mode g ≡ 8) → g.gk / 2 ^ 7 ≡ k_by g j
+unfolding k_by
+k-of-gk g j n = rw (ne_eqb (oscillator_mode g) 8 n) refl
 
+-- P by the oscillator mode, of K and V.
+module _ (on : Bool) (g : Generator) (z : ℤ) (j v k : ℕ) {p : ℕ} (is-v : v ≡ v_of g) (is-k : k ≡ k_by g j) where
   pub output-shaped : {w : SignMagnitude} → p ≡ low_bits 20 (enveloped (value_of w) v)
-      → Wave (wave_of (oscillator_mode g) (g.gk / 2 ^ 7) g.gn g.gm (left_by on g z j)) w → oscillator_mode g < 4 → p ≡ output_by on g z j
-  unfolding output_by k_by
-  output-shaped h k l = rw (ne_eqb (oscillator_mode g) 8 (λ e. omega arith), ← k.is, ← is-v) h
+      → Wave (wave_of (oscillator_mode g) k g.gn g.gm (left_by on g z j)) w → p ≡ output_by on g z j
+  unfolding output_by
+  output-shaped h x = rw (← is-k, ← x.is, ← is-v) h
 
-  pub output-cosines : p ≡ low_bits 20 (enveloped (sum_of_cosines (g.gk / 2 ^ 7) g.gn g.gm) v) → oscillator_mode g ≡ 4 → p ≡ output_by on g z j
-  unfolding output_by k_by wave_of
-  output-cosines h e = rw (e, h, is-v)
+  pub output-cosines : p ≡ low_bits 20 (enveloped (sum_of_cosines k g.gn g.gm) v) → oscillator_mode g ≡ 4 → p ≡ output_by on g z j
+  unfolding output_by wave_of
+  output-cosines h e = rw (← is-k, e, ← is-v) h
 
-  -- A mode that isn't built.
-  pub output-rest : p ≡ low_bits 20 (enveloped (sine_wave (g.gk / 2 ^ 7) g.gm) v) → ¬ (oscillator_mode g ≡ 8) → ¬ (oscillator_mode g ≡ 4) → 4 ≤ oscillator_mode g → p ≡ output_by on g z j
-  unfolding output_by k_by wave_of
-  output-rest h n c l = simp (ne_eqb (oscillator_mode g) 8 n, ne_eqb (oscillator_mode g) 1 (λ e. omega arith), ne_eqb (oscillator_mode g) 2 (λ e. omega arith), ne_eqb (oscillator_mode g) 3 (λ e. omega arith), ne_eqb (oscillator_mode g) 4 c) (rw (← is-v) h)
+  -- 0000, 1000 and a mode that isn't built.
+  pub output-sine : p ≡ low_bits 20 (enveloped (sine_wave k g.gm) v)
+      → ¬ (oscillator_mode g ≡ 1) → ¬ (oscillator_mode g ≡ 2) → ¬ (oscillator_mode g ≡ 3) → ¬ (oscillator_mode g ≡ 4) → p ≡ output_by on g z j
+  unfolding output_by wave_of
+  output-sine h a b c d =
+      simp (ne_eqb (oscillator_mode g) 1 a, ne_eqb (oscillator_mode g) 2 b, ne_eqb (oscillator_mode g) 3 c, ne_eqb (oscillator_mode g) 4 d)
+      (rw (← is-k, ← is-v) h)
 
 -- GP added into GQ.
 abbrev decays : Bool → Generator → Generator
@@ -91,7 +94,7 @@ advanced-in r on same g j p = rw (same, oscillator-tells r, free-tells r, decays
 
 -- The turn of a generator whose envelope is on by the code's values: the exact sum z of step 1, J, P, and x after steps 2, 4 and 7.
 module _ (g : Generator) (f : ℕ) (on : Switches) (same : on ≡ switches_of (run_mode g)) (sounds : envelope_on (run_mode g) ≡ true)
-    (z : ℤ) (j p : ℕ) (x : Sounded) (is-z : z ≡ phase_of g f) (is-low : j ≡ low_bits 20 z) (is-p : p ≡ output_by (eqb on.oscillator 1) g z j)
+    (z : ℤ) (j p : ℕ) (x : Sounded) (is-z : z ≡ phase_of g f) (is-low : j ≡ low_bits 20 z) (is-p : p ≡ output_by on.oscillator g z j)
     (is_x : x ≡ advanced_by on g j p) where
   is-j : j ≡ j_of g f
   is-j = low-is-j g f is-z is-low
@@ -107,9 +110,9 @@ module _ (g : Generator) (f : ℕ) (on : Switches) (same : on ≡ switches_of (r
   triggers-same h = rw (← h, x-same)
 
   -- One that triggers, and one that doesn't.
-  pub sounded-triggers : {w : Generator} → w ≡ ended_of x.unit → x.triggers ≡ true → record { unit = w; p = p; triggers = true } ≡ sounded_of g f
+  pub sounded-triggers : {w : Generator} → w ≡ ended_of x.unit → x.triggers ≡ true → record { unit = w; p = x.p; triggers = x.triggers } ≡ sounded_of g f
   unfolding sounded_of after gmode_after
-  sounded-triggers e t = rw (e, x-same, ends_by, p-same, triggers-same t, and-true, and-false)
+  sounded-triggers e t = rw (t, e, x-same, ends_by, triggers-same t, and-true, and-false)
 
   pub sounded-quiet : x.triggers ≡ false → x ≡ sounded_of g f
   unfolding sounded_of after gmode_after

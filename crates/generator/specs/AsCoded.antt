@@ -35,11 +35,11 @@ output_by on g z j = low_bits 20 (enveloped (wave_of (oscillator_mode g) (k_by g
 -- Steps 2, 4 and 7 by a run mode's switches, its envelope being on: the registers with GMODE as it was, P, and whether a free envelope overflows.
 unfoldable pub advanced_by : Switches → Generator → ℕ → ℕ → Sounded
 advanced_by on g j p =
-    let u = oscillated (eqb on.oscillator 1) g j in
+    let u = oscillated on.oscillator g j in
     record {
-      unit = updated u u.gj u.gk (decayed (eqb on.free 1) u.gq u.gp) u.gmode;
+      unit = updated u u.gj u.gk (decayed on.free u.gq u.gp) u.gmode;
       p = p;
-      triggers = eqb on.free 1 && overflows g.gq g.gp;
+      triggers = on.free && overflows g.gq g.gp;
     }
 
 -- 1101 goes to 1001.

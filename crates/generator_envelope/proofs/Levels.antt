@@ -10,7 +10,7 @@ use lib.IntN.{pos, neg_ℤ}
 use Rattle.base_words.specs.Words.{value_of}
 use Rattle.base_words.proofs.Residues.{either-low, low-lt}
 use Rattle.generator_exponential.specs.Exponential.{table_size, exponent_of}
-use Rattle.generator_exponential.proofs.Entries.{exponential-low}
+use Rattle.generator_exponential.proofs.LargestEntries.{exponential-low}
 use Rattle.generator_envelope.specs.Envelope.{q_of, level, rounded, enveloped}
 
 pub q-low : (mode gq : ℕ) → gq < 2 ^ 24 → q_of mode gq < 2 ^ 12

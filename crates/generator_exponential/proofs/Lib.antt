@@ -1,4 +1,4 @@
 pub mod Largest
-pub mod Entries
+pub mod LargestEntries
 pub mod Sizes
 pub mod OlderTable

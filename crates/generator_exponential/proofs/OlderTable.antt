@@ -4,7 +4,7 @@ use mathlib.Core.Path.{◌≡◌, refl}
 use lib.Dec.{lit<}
 use Rattle.generator_exponential.specs.Exponential.{older_size, bound, entries}
 use Rattle.generator_exponential.specs.OlderTable.{older_table}
-use Rattle.generator_exponential.proofs.Entries.{right, entries-are}
+use Rattle.generator_exponential.proofs.LargestEntries.{right, entries-are}
 
 pub older-table : older_table ≡ entries older_size
 unfolding right bound

@@ -9,7 +9,7 @@ use lib.Dec.{lit<}
 use lib.Pow.{pow-add}
 use Rattle.generator_exponential.specs.Exponential.{table_size, older_size, bound, within, Largest, entry, exponential}
 use Rattle.generator_exponential.proofs.Largest.{largest-one}
-use Rattle.generator_exponential.proofs.Entries.{within-le, le-within, entry-largest}
+use Rattle.generator_exponential.proofs.LargestEntries.{within-le, le-within, entry-largest}
 
 pow-times : (a k n : ℕ) → a ^ (k * n) ≡ (a ^ n) ^ k
 pow-times a zero n = rw (zero-mul n, pow-zero a, pow-zero (a ^ n))

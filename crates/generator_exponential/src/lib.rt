@@ -10,10 +10,8 @@ const TABLE_SIZE: u32 = 1024;
 // How far GQ goes in one step of the exponent: its low 10 bits are dropped, the high 14 stay.
 const EXPONENT_STEP: u32 = 1024;
 
-pub type Entries = [u16; TABLE_SIZE as usize];
-
 // The exponential table: entry f at place f.
-const EXPONENTIAL: Entries = [
+const EXPONENTIAL: [u16; TABLE_SIZE as usize] = [
     4093, 4090, 4087, 4084, 4081, 4079, 4076, 4073, 4070, 4068, 4065, 4062, 4059, 4057, 4054, 4051,
     4048, 4046, 4043, 4040, 4037, 4035, 4032, 4029, 4027, 4024, 4021, 4018, 4016, 4013, 4010, 4008,
     4005, 4002, 3999, 3997, 3994, 3991, 3989, 3986, 3983, 3980, 3978, 3975, 3972, 3970, 3967, 3964,
@@ -80,26 +78,26 @@ const EXPONENTIAL: Entries = [
     2068, 2067, 2065, 2064, 2063, 2061, 2060, 2059, 2057, 2056, 2054, 2053, 2052, 2050, 2049, 2047,
 ];
 
-// The exponential table, which a caller copies once and hands to `exponential`.
-pub fn table() -> Entries
-    ensures { result ≡ entries table_size }
-{
-    EXPONENTIAL
+// The exponential table, which a caller makes once and hands on.
+#[derive(Drop)]
+pub struct Entries {
+    table: [u16; TABLE_SIZE as usize],
+    ghost right: { table ≡ entries table_size },
 }
 
-// A table's number as a word.
-fn wide(x: u16) -> u32
-    ensures { result ≡ x }
-{
-    x as u32
-}
+impl Entries {
+    // The table is copied.
+    pub fn new() -> Entries {
+        Entries { table: EXPONENTIAL }
+    }
 
-// The exponential of the high 14 bits of GQ.
-pub fn exponential(t: &Entries, gq: u32) -> u32
-    requires { (t.now ≡ entries table_size) × (gq < 2 ^ 24) }
-    ensures { result ≡ exponential table_size (exponent_of gq) }
-{
-    let x = gq / EXPONENT_STEP;
-    let f = (x % TABLE_SIZE) as usize;
-    wide(t[f]) >> (x / TABLE_SIZE)
+    // The exponential of the high 14 bits of GQ.
+    pub fn exponential(&self, gq: u32) -> u32
+        requires { gq < 2 ^ 24 }
+        ensures { result ≡ exponential table_size (exponent_of gq) }
+    {
+        let x = gq / EXPONENT_STEP;
+        let f = (x % TABLE_SIZE) as usize;
+        u32::from(self.table[f]) >> (x / TABLE_SIZE)
+    }
 }

@@ -44,7 +44,7 @@ old-output-is g f = rw (left-switched g f)
 
 -- The turn of a generator whose envelope is on by the code's values: the exact sum z of step 1, J, P, and x after steps 2, 4 and 7.
 module _ (g : Generator) (f : ℕ) (on : Switches) (same : on ≡ switches_of (switched_mode g)) (sounds : envelope_on (switched_mode g) ≡ true)
-    (z : ℤ) (j p : ℕ) (x : Sounded) (is-z : z ≡ phase_of g f) (is-low : j ≡ low_bits 20 z) (is-p : p ≡ old_output_by (eqb on.oscillator 1) g z j)
+    (z : ℤ) (j p : ℕ) (x : Sounded) (is-z : z ≡ phase_of g f) (is-low : j ≡ low_bits 20 z) (is-p : p ≡ old_output_by on.oscillator g z j)
     (is_x : x ≡ advanced_by on g j p) where
   is-j : j ≡ j_of g f
   is-j = low-is-j g f is-z is-low
@@ -62,9 +62,9 @@ module _ (g : Generator) (f : ℕ) (on : Switches) (same : on ≡ switches_of (s
   triggers-same h = rw (← h, x-same)
 
   -- One that triggers, and one that doesn't.
-  pub old-sounded-triggers : {w : Generator} → w ≡ old_ended_of x.unit → x.triggers ≡ true → record { unit = w; p = p; triggers = true } ≡ old_sounded g f
+  pub old-sounded-triggers : {w : Generator} → w ≡ old_ended_of x.unit → x.triggers ≡ true → record { unit = w; p = x.p; triggers = x.triggers } ≡ old_sounded g f
   unfolding old_sounded old_after old_gmode_after old_ended_of
-  old-sounded-triggers e t = rw (e, x-same, p-same, triggers-same t, and-true, and-false)
+  old-sounded-triggers e t = rw (t, e, x-same, triggers-same t, and-true, and-false)
 
   pub old-sounded-quiet : x.triggers ≡ false → x ≡ old_sounded g f
   unfolding old_sounded old_after old_gmode_after

@@ -1,10 +1,8 @@
 // The turn of a generator of the older text. Its registers, and steps 1, 2, 4 and 7, are the 1978 text's.
 #![tactic(auto)]
 
-ghost use Rattle.std.specs.Prelude.{◌/◌, ◌<◌, ◌^◌, ◌≡◌, true, eqb};
+ghost use Rattle.std.specs.Prelude.{◌/◌, ◌<◌, ◌^◌, ◌≡◌, true};
 ghost use Rattle.base_words.specs.Words.{signed};
-ghost use Rattle.generator_sine.specs.Sine.{quarter};
-ghost use Rattle.generator_exponential.specs.Exponential.{table_size, entries};
 ghost use Rattle.layout_modes.specs.Modes.{switches_of, envelope_on, wait};
 ghost use Rattle.generator_oscillator.specs.Oscillator.{Wave};
 ghost use Rattle.generator_old_waves.specs.OldWaves.{old_wave};
@@ -15,7 +13,7 @@ ghost use Rattle.generator_old.specs.OldGenerator.{switched_mode, e_of, old_leve
 ghost use Rattle.generator_old.specs.AsCoded.{e_by, old_output_by, old_ended_of};
 
 use base_words::SignMagnitude;
-use generator::{Generator, Sounded};
+use generator::{Generator, Sounded, Tables};
 use generator_exponential::Entries;
 use generator_sine::Quarter;
 use layout_modes::Switches;
@@ -26,13 +24,11 @@ const WAIT: u32 = 0b100;
 const RUNNING_C: u32 = 0b101;
 
 // Step 3: E, of J.
+#[tactic(auto, unfolding(crate::specs::AsCoded::e_by))]
 fn angle_by(unit: Generator, j: u32) -> u32
     ensures { result ≡ e_by unit j }
 {
-    if unit.gmode % 8 == 0b101 {
-        return j;
-    }
-    unit.gk
+    if unit.gmode % 8 == 0b101 { j } else { unit.gk }
 }
 
 // Step 5: what 111 sends, its own angle E.
@@ -41,15 +37,15 @@ pub fn angle(unit: Generator, f: u32) -> u32
     requires f_bound { f < 2 ^ 20 }
     ensures { result ≡ e_of unit f }
 {
-    let j = base_words::low20(unit.phase(f));
+    let j = base_words::low::<20>(unit.phase(f));
     angle_by(unit, j)
 }
 
 // Step 6: W, of the exact sum of step 1, J and whether the oscillator is on. K is the high 12 bits of E.
-fn wave(unit: Generator, sine: &Quarter, on: u8, exact: u32, j: u32) -> SignMagnitude
+fn wave(unit: Generator, sine: &Quarter, on: bool, exact: u32, j: u32) -> SignMagnitude
     requires ranged { Ranged unit }
-    requires sine_value { (sine.now ≡ quarter) × (j < 2 ^ 20) }
-    ensures { Wave (old_wave (old_oscillator unit.gmode) (e_by unit j / 2 ^ 8) unit.gm (left_by (eqb on 1) unit (signed 32 exact) j)) result }
+    requires j_bound { j < 2 ^ 20 }
+    ensures { Wave (old_wave (old_oscillator unit.gmode) (e_by unit j / 2 ^ 8) unit.gm (left_by on unit (signed 32 exact) j)) result }
 {
     let k = angle_by(unit, j) / 256;
     let mode = unit.gmode % 8;
@@ -63,8 +59,7 @@ fn wave(unit: Generator, sine: &Quarter, on: u8, exact: u32, j: u32) -> SignMagn
 
 // Step 8: V. Q of GQ without its low 12 bits has the exponential of 256 entries: entry f of them is entry 4f of the table.
 fn level(decay: &Entries, mode: u32, gl: u32, gq: u32) -> u32
-    requires decay_value { decay.now ≡ entries table_size }
-    requires gl_bound { (gl < 2 ^ 12) × (gq < 2 ^ 24) }
+    requires { (gl < 2 ^ 12) × (gq < 2 ^ 24) }
     ensures { result ≡ old_level mode gl gq }
 {
     let q = generator_envelope::q(decay, mode, gq / 4096 * 4096);
@@ -72,14 +67,13 @@ fn level(decay: &Entries, mode: u32, gl: u32, gq: u32) -> u32
 }
 
 // Steps 3 and 6 to 9: P, of the exact sum of step 1, J and whether the oscillator is on.
-fn output(unit: Generator, sine: &Quarter, decay: &Entries, on: u8, exact: u32, j: u32) -> u32
+fn output(unit: Generator, tables: &Tables, on: bool, exact: u32, j: u32) -> u32
     requires ranged { Ranged unit }
-    requires sine_value { (sine.now ≡ quarter) × (decay.now ≡ entries table_size) }
     requires j_bound { j < 2 ^ 20 }
-    ensures { result ≡ old_output_by (eqb on 1) unit (signed 32 exact) j }
+    ensures { result ≡ old_output_by on unit (signed 32 exact) j }
 {
-    let v = level(decay, unit.gmode / 8 % 4, unit.gl, unit.gq);
-    let w = wave(unit, sine, on, exact, j);
+    let v = level(&tables.decay, unit.gmode / 8 % 4, unit.gl, unit.gq);
+    let w = wave(unit, &tables.sine, on, exact, j);
     generator_envelope::enveloped(w, v)
 }
 
@@ -93,36 +87,36 @@ fn with_run(mut unit: Generator, run: u32) -> Generator
 }
 
 // 101 goes to 100.
+#[tactic(auto, unfolding(crate::specs::AsCoded::old_ended_of))]
 fn ended(unit: Generator) -> Generator
     ensures { result ≡ old_ended_of unit }
 {
     if unit.gmode / 32 % 8 == RUNNING_C {
-        return with_run(unit, WAIT);
+        with_run(unit, WAIT)
+    } else {
+        unit
     }
-    unit
 }
 
 // The turn of a generator whose envelope is on; on is its run mode's switches.
-pub fn play(unit: Generator, sine: &Quarter, decay: &Entries, on: Switches, f: u32) -> Sounded
+pub fn play(unit: Generator, tables: &Tables, on: Switches, f: u32) -> Sounded
     requires ranged { Ranged unit }
-    requires sine_value { (sine.now ≡ quarter) × (decay.now ≡ entries table_size) }
     requires on_value { (on ≡ switches_of (switched_mode unit)) × (envelope_on (switched_mode unit) ≡ true) }
     requires f_bound { f < 2 ^ 20 }
     ensures { result ≡ old_sounded unit f }
 {
     let exact = unit.phase(f);
-    let j = base_words::low20(exact);
-    let p = output(unit, sine, decay, on.oscillator, exact, j);
+    let j = base_words::low::<20>(exact);
+    let p = output(unit, tables, on.oscillator, exact, j);
     let sounded = unit.advance(on, j, p);
     if sounded.triggers {
-        let ended = ended(sounded.unit);
-        return Sounded {
-            unit: ended,
-            p,
-            triggers: true,
-        };
+        Sounded {
+            unit: ended(sounded.unit),
+            ..sounded
+        }
+    } else {
+        sounded
     }
-    sounded
 }
 
 // The turn of a generator in 100, told whether its lower neighbour has triggered in this pass.
@@ -131,10 +125,11 @@ pub fn await_trigger(unit: Generator, f: u32, below: bool) -> Generator
     requires unit_value { (switched_mode unit ≡ wait) × (f < 2 ^ 20) }
     ensures { result ≡ old_after unit f below }
 {
-    let j = base_words::low20(unit.phase(f));
-    let turned = unit.oscillate(1, j);
+    let j = base_words::low::<20>(unit.phase(f));
+    let turned = unit.oscillate(true, j);
     if below {
-        return with_run(turned, RUNNING_C);
+        with_run(turned, RUNNING_C)
+    } else {
+        turned
     }
-    turned
 }

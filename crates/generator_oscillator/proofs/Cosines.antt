@@ -13,7 +13,7 @@ use borrow.Author.Tests.{ltb-true, ltb-false}
 use Rattle.base_words.specs.Words.{signed, value_of}
 use Rattle.base_words.proofs.Residues.{low-lt, low-times}
 use Rattle.generator_sine.specs.Sine.{magnitude, negative, sign_of}
-use Rattle.generator_sine.proofs.Quarter.{magnitude-low, magnitude-positive}
+use Rattle.generator_sine.proofs.QuarterSine.{magnitude-low, magnitude-positive}
 use Rattle.generator_oscillator.specs.Oscillator.{sine_at, multiple, ratio, sum_of_cosines, Wave}
 
 -- K read unsigned times GN has the low 12 bits of K times GN.

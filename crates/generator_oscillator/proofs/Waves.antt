@@ -3,7 +3,7 @@
 use mathlib.Core.Path.{◌≡◌, refl, ap, ◌∙◌}
 use mathlib.Core.Bool.{Bool, true, false, cond}
 use Prim.Native.Nat.{ℕ, suc, ◌-◌, ◌/◌, ◌%◌, ◌^◌, ◌<◌, ◌≤◌}
-use native.Mathlib.Nat.{div-le_self, div-eq_of_lt, le-div_iff_mul-le}
+use native.Mathlib.Nat.{div-le_self, div-eq_of_lt, le-div_iff_mul-le, div-lt_iff_lt-mul, pow-le-pow_right}
 use native.Mathlib.Omega.{arith}
 use lib.Dec.{eqb, ltb}
 use lib.IntN.{pos, negsuc, neg_ℤ}
@@ -11,9 +11,10 @@ use lib.Pow.{pow_pos}
 use lib.Signed.{non_neg}
 use borrow.Author.Tests.{lt-ltb, le-ltb, ltb-true, ltb-false, eq-eqb, ne_eqb, eqb-true, eqb-false}
 use Rattle.base_words.specs.Words.{signed, value_of}
+use Rattle.base_words.proofs.Powers.{halved}
 use Rattle.base_words.proofs.Residues.{either-low}
 use Rattle.generator_sine.specs.Sine.{magnitude, negative, sign_of}
-use Rattle.generator_sine.proofs.Quarter.{magnitude-low}
+use Rattle.generator_sine.proofs.QuarterSine.{magnitude-low}
 use Rattle.generator_oscillator.specs.Oscillator.{sawtooth, half_of, square}
 
 -- A negative K of 13 bits: its magnitude, but 0 at -4,096.
@@ -45,6 +46,13 @@ module _ (k : ℕ) (h : k < 2 ^ 13) where
     where
       whole : 8192 - k ≡ suc (8192 - suc k)
       whole = omega arith
+
+-- The top bit of a word of b bits, and half of the largest magnitude of one of at most 13.
+pub top-bit : (b k : ℕ) → 1 < b → k < 2 ^ b → k / 2 ^ (b - 1) < 2
+top-bit b k h l = (div-lt_iff_lt-mul {k = 2 ^ (b - 1)} {x = k} {y = 2} (pow_pos (b - 1))).1 (omega (arith, halved b (omega arith)))
+
+pub half-low : (b : ℕ) → b < 14 → half_of b < 2 ^ 12
+half-low b h = omega (arith, pow-le-pow_right {n = 2} (omega arith) {i = b - 2} {j = 11} (omega arith))
 
 -- The square of a word of b bits has the sign of its top bit.
 pub square-by : (b k : ℕ) → cond (eqb (k / 2 ^ (b - 1)) 0) (pos (half_of b)) (neg_ℤ (pos (half_of b))) ≡ square b (signed b k)

@@ -1,3 +1,3 @@
-pub mod Quarter
+pub mod QuarterSine
 pub mod Exact
 pub mod Fold

@@ -4,10 +4,8 @@
 ghost use Rattle.std.specs.Prelude.{◌≡◌, ◌<◌};
 ghost use Rattle.generator_sine.specs.Sine.{quarter, index_of, sign_of, magnitude};
 
-pub type Quarter = [u16; 2048];
-
 // The quarter sine: entry j at place j.
-const SINE: Quarter = [
+const SINE: [u16; 2048] = [
     1, 4, 7, 10, 14, 17, 20, 23, 26, 29, 32, 36, 39, 42, 45, 48, 51, 54, 58, 61, 64, 67, 70, 73,
     76, 80, 83, 86, 89, 92, 95, 98, 102, 105, 108, 111, 114, 117, 120, 124, 127, 130, 133, 136,
     139, 142, 146, 149, 152, 155, 158, 161, 164, 168, 171, 174, 177, 180, 183, 186, 189, 193, 196,
@@ -135,13 +133,6 @@ const SINE: Quarter = [
     4095, 4095, 4095, 4095, 4095, 4095, 4095, 4095,
 ];
 
-// The quarter table, which a caller copies once and hands to `magnitude`.
-pub fn table() -> Quarter
-    ensures { result ≡ quarter }
-{
-    SINE
-}
-
 // Of the quarter number the low bit says whether the quarter is read backwards, the high bit whether the sine is negative there.
 // Backwards, place j is 2,047 - j, which is j with its eleven bits inverted: an exclusive or with 2,047 times the low bit.
 //   quarter 0: place j,         sign 0
@@ -167,18 +158,24 @@ pub fn sign(k: u32) -> u32
     k / 2048 / 2
 }
 
-// A table's number as a word.
-fn wide(x: u16) -> u32
-    ensures { result ≡ x }
-{
-    x as u32
+// The quarter table, which a caller makes once and hands on.
+#[derive(Drop)]
+pub struct Quarter {
+    table: [u16; 2048],
+    ghost right: { table ≡ quarter },
 }
 
-// The magnitude of the sine of k.
-pub fn magnitude(t: &Quarter, k: u32) -> u32
-    requires { (t.now ≡ quarter) × (k < 8192) }
-    ensures { result ≡ magnitude k }
-{
-    let i = index(k);
-    wide(t[i])
+impl Quarter {
+    // The table is copied.
+    pub fn new() -> Quarter {
+        Quarter { table: SINE }
+    }
+
+    // The magnitude of the sine of k.
+    pub fn magnitude(&self, k: u32) -> u32
+        requires { k < 8192 }
+        ensures { result ≡ magnitude k }
+    {
+        u32::from(self.table[index(k)])
+    }
 }

@@ -2,36 +2,24 @@
 #![tactic(auto)]
 
 ghost use Rattle.std.specs.Prelude.{◌≡◌, true, ◌<◌, ◌^◌};
-ghost use Rattle.generator_sine.specs.Sine.{quarter};
-ghost use Rattle.generator_exponential.specs.Exponential.{table_size, entries};
 ghost use Rattle.layout_modes.specs.Modes.{switches_of, envelope_on, wait};
 ghost use Rattle.generator.specs.Generator.{Ranged};
 ghost use Rattle.generator_turn.specs.AsCoded.{run_of, after_of, sounded_by, sends_of, dac_of};
 
-use generator::{Generator, Sounded};
-use generator_exponential::Entries;
-use generator_sine::Quarter;
+use generator::{Generator, Sounded, Tables};
 use layout_modes::Switches;
 use layout_texts::Text;
 
 // The turn of a generator whose envelope is on; on is its run mode's switches.
-pub fn turn_playing(
-    text: Text,
-    unit: Generator,
-    sine: &Quarter,
-    decay: &Entries,
-    on: Switches,
-    f: u32,
-) -> Sounded
+pub fn turn_playing(text: Text, unit: Generator, tables: &Tables, on: Switches, f: u32) -> Sounded
     requires ranged { Ranged unit }
-    requires sine_value { (sine.now ≡ quarter) × (decay.now ≡ entries table_size) }
     requires on_value { (on ≡ switches_of (run_of text unit)) × (envelope_on (run_of text unit) ≡ true) }
     requires f_bound { f < 2 ^ 20 }
     ensures { result ≡ sounded_by text unit f }
 {
     match text {
-        Text::Of1978 => unit.play(sine, decay, on, f),
-        Text::Old => generator_old::play(unit, sine, decay, on, f),
+        Text::Of1978 => unit.play(tables, on, f),
+        Text::Old => generator_old::play(unit, tables, on, f),
     }
 }
 

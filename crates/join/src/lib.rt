@@ -2,6 +2,7 @@
 #![tactic(auto)]
 
 ghost use Rattle.std.specs.Prelude.{◌≡◌, cond, ◌+◌, ◌≤◌, length, get_or, set};
+ghost use Rattle.base_questions.specs.Refusals.{refused};
 ghost use Rattle.base_fills.specs.Fills.{filled};
 ghost use Rattle.layout.specs.Layout.{generators, t_at, update_ticks_at};
 ghost use Rattle.layout.specs.Machine.{Reaches, ticks_of};
@@ -9,6 +10,7 @@ ghost use Rattle.join_model.specs.Join.{join_of};
 ghost use Rattle.join_questions.specs.AsCoded.{marks_length};
 ghost use Rattle.join.specs.AsCoded.{chosen, brought_used, stored};
 
+use base_questions::Refusal;
 use join_questions::Uses;
 
 // Copies the first n words of a run into another, from a place on.
@@ -16,10 +18,9 @@ fn copy(m: &mut [u32], at: usize, words: &[u32], n: usize)
     requires { (at + n ≤ length m.old) × (n ≤ length words.now) }
     ensures { m.new ≡ filled at 1 n (λ k. get_or words.now k 0) m.old }
 {
-    let mut k: usize = 0;
-    while k < n {
+    // By a loop: copy_from_slice would ask a host without a C library for memmove.
+    for k in 0..n {
         m[at + k] = words[k];
-        k += 1;
     }
 }
 
@@ -27,10 +28,7 @@ fn copy(m: &mut [u32], at: usize, words: &[u32], n: usize)
 fn choose(used: bool, word: u32, own: u32) -> u32
     ensures { result ≡ cond used word own }
 {
-    if used {
-        return word;
-    }
-    own
+    if used { word } else { own }
 }
 
 // Brings over those of n words that are used, to the words from a place on; their marks stand from `first` on.
@@ -38,11 +36,9 @@ fn bring(m: &mut [u32], at: usize, words: &[u32], used: &Uses, first: usize, n: 
     requires { (at + n ≤ length m.old) × (n ≤ length words.now) × (first + n ≤ marks_length) }
     ensures { m.new ≡ chosen m.old at words.now used.now first n }
 {
-    let mut k: usize = 0;
-    while k < n {
+    for k in 0..n {
         let word = choose(used[first + k], words[k], m[at + k]);
         m[at + k] = word;
-        k += 1;
     }
 }
 
@@ -93,19 +89,13 @@ fn store(m: &mut [u32], second: &[u32], used: &Uses)
     put_ticks(m, t, count);
 }
 
-// The first machine becomes the joined one; the second is only read. The answer is the number of the refusing question or 0. A refusal leaves the first as it was.
-pub fn join(m: &mut [u32], second: &[u32]) -> u32
-    ensures { record { number = result; machine = m.new } ≡ join_of m.old second.now }
+// The first machine becomes the joined one; the second is only read. A refused call leaves the first as it was.
+pub fn join(m: &mut [u32], second: &[u32]) -> Result<(), Refusal>
+    ensures { record { number = refused result; machine = m.new } ≡ join_of m.old second.now }
 {
-    let number = join_questions::machines_refusal(m, second);
-    if number != 0 {
-        return number;
-    }
+    join_questions::machines_refusal(m, second)?;
     let used = join_questions::uses(second);
-    let refused = join_questions::pair_refusal(m, second, &used);
-    if refused != 0 {
-        return refused;
-    }
+    join_questions::pair_refusal(m, second, &used)?;
     store(m, second, &used);
-    0
+    Ok(())
 }

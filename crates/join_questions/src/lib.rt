@@ -5,11 +5,13 @@ ghost use Rattle.std.specs.Prelude.{◌≡◌, ◌&&◌, [], ◌∷◌, ◌+◌,
 ghost use Rattle.layout.specs.Layout.{generators, quadrant_words, dacs, modifier_at, modifier_words, MMODE};
 ghost use Rattle.machine_sweep.specs.AsCoded.{every_word};
 ghost use Rattle.base_questions.specs.Questions.{asked};
+ghost use Rattle.base_questions.specs.Refusals.{refused};
 ghost use Rattle.machine.specs.Questions.{question1, question2};
 ghost use Rattle.layout_texts.specs.declared.Text.TheVariants.{Of1978};
 ghost use Rattle.join_model.specs.Join.{own_generator, own_generators, self_contained, awaits_neighbour, question16, question17, question18};
 ghost use Rattle.join_questions.specs.AsCoded.{Usable, dacs_used_at, marks_length, uses_marked, marks_of, marks_apart};
 
+use base_questions::Refusal;
 use layout_texts::Text;
 
 // The marks of what a machine uses: of the words that a GSUM or GFM can name, and, from DACS_USED_AT on, of the DACs.
@@ -41,10 +43,8 @@ pub fn uses(m: &[u32]) -> Uses
 {
     let t = layout::ticks(m);
     let mut used = [false; 144];
-    let mut g: usize = 0;
-    while g < t {
+    for g in 0..t {
         mark(m, &mut used, g);
-        g += 1;
     }
     used
 }
@@ -55,10 +55,8 @@ fn apart(first: &Uses, second: &Uses, at: usize, n: usize) -> bool
     ensures { result ≡ marks_apart first.now second.now at n }
 {
     let mut ok = true;
-    let mut k: usize = 0;
-    while k < n {
+    for k in 0..n {
         ok = !(first[at + k] & second[at + k]) & ok;
-        k += 1;
     }
     ok
 }
@@ -81,11 +79,8 @@ fn own_generators(m: &[u32]) -> bool
 {
     let below = layout::ticks(m);
     let mut ok = true;
-    let mut g: usize = 0;
-    while g < below {
-        let own = own_generator(m, g);
-        ok = own & ok;
-        g += 1;
+    for g in 0..below {
+        ok = own_generator(m, g) & ok;
     }
     ok
 }
@@ -140,35 +135,32 @@ fn nothing_shared(first: &Uses, second: &Uses) -> bool
         & apart(first, second, DACS_USED_AT, layout::DACS)
 }
 
-// The number of the first of questions 1 and 2 of both machines that is answered no, or 0.
-pub fn machines_refusal(m: &[u32], second: &[u32]) -> u32
-    ensures { result ≡ asked (question1 m.now ∷ question2 Of1978 m.now ∷ question1 second.now ∷ question2 Of1978 second.now ∷ []) }
+// The first of questions 1 and 2 of both machines that is answered no, if one is.
+pub fn machines_refusal(m: &[u32], second: &[u32]) -> Result<(), Refusal>
+    ensures { refused result ≡ asked (question1 m.now ∷ question2 Of1978 m.now ∷ question1 second.now ∷ question2 Of1978 second.now ∷ []) }
 {
-    let number = machine::refusal(Text::Of1978, m);
-    if number != 0 {
-        return number;
-    }
+    machine::refusal(Text::Of1978, m)?;
     machine::refusal(Text::Of1978, second)
 }
 
-// The number of the first of questions 16, 17 and 18 that is answered no, or 0, by what the second machine uses.
-pub fn pair_refusal(m: &[u32], second: &[u32], brought: &Uses) -> u32
+// The first of questions 16, 17 and 18 that is answered no, if one is, by what the second machine uses.
+pub fn pair_refusal(m: &[u32], second: &[u32], brought: &Uses) -> Result<(), Refusal>
     requires usable { Usable m.now × Usable second.now }
     requires brought_value { brought.now ≡ marks_of second.now }
-    ensures { result ≡ asked (question16 m.now second.now ∷ question17 m.now second.now ∷ question18 m.now second.now ∷ []) }
+    ensures { refused result ≡ asked (question16 m.now second.now ∷ question17 m.now second.now ∷ question18 m.now second.now ∷ []) }
 {
     let own = uses(m);
     let fits = room(m, second);
     let joins = may_join(m, second);
     let apart = nothing_shared(&own, brought);
     if !fits {
-        return 16;
+        return Err(Refusal::JoinedTicks);
     }
     if !joins {
-        return 17;
+        return Err(Refusal::JoinedAlone);
     }
     if !apart {
-        return 18;
+        return Err(Refusal::JoinedApart);
     }
-    0
+    Ok(())
 }

@@ -2,6 +2,7 @@
 #![tactic(auto)]
 
 ghost use Rattle.std.specs.Prelude.{◌≡◌, drop, cond};
+ghost use Rattle.base_questions.specs.Refusals.{refused, answer_or};
 ghost use Rattle.machine.specs.Questions.{fresh_answer, fresh_run};
 ghost use Rattle.pass_model.specs.Pass.{pass_of};
 ghost use Rattle.command_update.specs.Update.{outcome, update_of, taken_count};
@@ -16,9 +17,35 @@ ghost use Rattle.file_read.specs.Read.{read_into};
 ghost use Rattle.ring_block.specs.Block.{block_of};
 
 use any_order_sums::Kept;
+use base_questions::Refusal;
+use chain_entries::Chain;
 use chain_numbers::Numbers;
+use file_read::ReadAnswer;
 use layout_texts::Text;
+use parts::Parted;
+use pass::Passed;
 use pass_sums::Clipped;
+
+// What a host in C is told of an answer: the number of the refusing question or 0, and beside it a value, as the C interface needs it.
+#[derive(Clone, Copy)]
+struct Told<T: Copy> {
+    number: u32,
+    value: T,
+}
+
+// An answer as a host is told it: of a refused call another value stands beside the number.
+fn told_of<T: Copy>(answer: Result<T, Refusal>, other: T) -> Told<T>
+    ensures number { result.number ≡ refused answer }
+    ensures value { result.value ≡ answer_or other answer }
+{
+    match answer {
+        Ok(value) => Told { number: 0, value },
+        Err(refusal) => Told {
+            number: u32::from(refusal),
+            value: other,
+        },
+    }
+}
 
 // A fresh machine.
 #[unsafe(no_mangle)]
@@ -26,7 +53,7 @@ pub extern "C" fn karvelorn_fresh(m: &mut [u32]) -> u32
     ensures value { result ≡ fresh_answer m.old }
     ensures m_after { m.new ≡ fresh_run m.old }
 {
-    machine::fresh(m)
+    base_questions::number(machine::fresh(m))
 }
 
 // A pass of a machine of a text. The answer is the number of the refusing question or 0; read and written get how many items were, clipped a mark for each word of generator-this: 1 where it left its range, else 0.
@@ -43,10 +70,15 @@ fn pass(
 ) -> u32
     ensures { record { number = result; read = read.new; written = written.new; clipped = clipped.new; machine = m.new; places = places.new; memory = memory.new } ≡ pass_of text m.old (record { order = order.entry.now; items = items.now; places = places.old; memory = memory.old }) }
 {
-    let done = pass::pass(text, m, order, items, places, memory);
-    *read = done.read;
-    *written = done.written;
-    let marks = done.clipped;
+    let unpassed = Passed {
+        read: 0,
+        written: 0,
+        clipped: [0; layout::QUADRANT_WORDS],
+    };
+    let done = told_of(pass::pass(text, m, order, items, places, memory), unpassed);
+    *read = done.value.read;
+    *written = done.value.written;
+    let marks = done.value.clipped;
     *clipped = marks;
     done.number
 }
@@ -111,10 +143,9 @@ pub extern "C" fn karvelorn_update(m: &mut [u32], commands: &[u32], taken: &mut 
     ensures commands_after { outcome result m.new (drop taken.new commands.now) ≡ update_of m.old commands.now }
     ensures taken_after { taken.new ≡ taken_count m.old commands.now }
 {
-    let mut number: u32 = 0;
-    let left = command_update::update(m, commands, &mut number);
-    *taken = commands.len() - left.len();
-    number
+    let left = command_update::update(m, commands);
+    *taken = commands.len() - left.rest.len();
+    base_questions::number(left.end)
 }
 
 // Whether two orders of a machine of a text are equal. The answer is the number of the refusing question or 0; equal gets 1 where they are, else 0.
@@ -122,8 +153,8 @@ fn compare(text: Text, m: &[u32], first: &[u32], second: &[u32], equal: &mut u32
     ensures value { result ≡ (compare_of text m.now first.now second.now).number }
     ensures equal_after { equal.new ≡ cond (compare_of text m.now first.now second.now).equal 1 0 }
 {
-    let compared = compare::compare(text, m, first, second);
-    *equal = compared.equal as u32;
+    let compared = told_of(compare::compare(text, m, first, second), false);
+    *equal = compared.value as u32;
     compared.number
 }
 
@@ -161,8 +192,8 @@ pub extern "C" fn karvelorn_any_order(m: &[u32], alike: &mut u32) -> u32
     ensures value { result ≡ (any_order_of m.now).number }
     ensures alike_after { alike.new ≡ cond (any_order_of m.now).alike 1 0 }
 {
-    let answer = any_order::any_order(m);
-    *alike = answer.alike as u32;
+    let answer = told_of(any_order::any_order(m), false);
+    *alike = answer.value as u32;
     answer.number
 }
 
@@ -171,7 +202,7 @@ pub extern "C" fn karvelorn_any_order(m: &[u32], alike: &mut u32) -> u32
 pub extern "C" fn karvelorn_keep(m: &[u32], kept: &mut Kept) -> u32
     ensures { record { number = result; kept = kept.new } ≡ keep_of m.now kept.old }
 {
-    any_order_kept::keep(m, kept)
+    base_questions::number(any_order_kept::keep(m, kept))
 }
 
 // A change of one partial, with what is kept brought up to date. The answer is the number of the refusing question or 0.
@@ -185,7 +216,7 @@ pub extern "C" fn karvelorn_change(
 ) -> u32
     ensures { record { number = result; machine = m.new; kept = kept.new } ≡ change_of m.old kept.old (record { kind = kind; generator = generator; value = value }) }
 {
-    any_order_kept::change(m, kept, kind, generator, value)
+    base_questions::number(any_order_kept::change_by_numbers(m, kept, kind, generator, value))
 }
 
 // What parts two orders of a machine of a text. The answer is the number of the refusing question or 0; point gets 0 where they are equal, else the first of
@@ -202,10 +233,11 @@ fn parts(
 ) -> u32
     ensures { record { number = result; point = point.new; place = place.new; contents = contents.new; items = items.new } ≡ parts_of text m.now first.now second.now contents.old items.old }
 {
-    let told = parts::parts(text, m, first, second, contents, items);
-    *point = told.point;
-    *place = told.place;
-    told.number
+    let parting = told_of(parts::parts(text, m, first, second, contents, items), None);
+    let parted = parting.value.unwrap_or(Parted { point: 0, place: 0 });
+    *point = parted.point;
+    *place = parted.place;
+    parting.number
 }
 
 // What parts two orders.
@@ -254,7 +286,8 @@ pub extern "C" fn karvelorn_old_parts(
 pub extern "C" fn karvelorn_chain(entries: &[u32], names: &[u32], numbers: &mut Numbers) -> u32
     ensures { record { number = result; numbers = numbers.new } ≡ chain_of (record { entries = entries.entry.now; names = names.now }) numbers.old }
 {
-    chain::chain(entries, names, numbers)
+    let chain = Chain { entries, names };
+    base_questions::number(chain::chain(&chain, numbers))
 }
 
 // Two machines joined: the first becomes the joined one, the second is only read. The answer is the number of the refusing question or 0.
@@ -262,7 +295,7 @@ pub extern "C" fn karvelorn_chain(entries: &[u32], names: &[u32], numbers: &mut 
 pub extern "C" fn karvelorn_join(m: &mut [u32], second: &[u32]) -> u32
     ensures { record { number = result; machine = m.new } ≡ join_of m.old second.now }
 {
-    join::join(m, second)
+    base_questions::number(join::join(m, second))
 }
 
 // Reads a bench file. The answer is the number of the refusing question or 0; text gets the number of the file's text, passes how many passes it has, count how many commands.
@@ -277,11 +310,16 @@ pub extern "C" fn karvelorn_read(
 ) -> u32
     ensures { record { number = result; text = text.new; passes = passes.new; count = count.new; machine = m.new; commands = commands.new } ≡ read_into file.now m.old commands.old }
 {
-    let answer = file_read::read(file, m, commands);
-    *text = answer.text;
-    *passes = answer.passes;
-    *count = answer.count;
-    answer.number
+    let unread = ReadAnswer {
+        text: 0,
+        passes: 0,
+        count: 0,
+    };
+    let contents = told_of(file_read::read(file, m, commands), unread);
+    *text = contents.value.text;
+    *passes = contents.value.passes;
+    *count = contents.value.count;
+    contents.number
 }
 
 // A block of passes of a machine of a text. The answer is the number of the refusing question or 0; done gets how many passes were done, taken how many commands were taken.
@@ -302,7 +340,7 @@ fn ring(
     let block = ring_block::ring(text, m, memory, commands, order, passes, dacs, frames);
     *done = block.done;
     *taken = block.taken;
-    block.number
+    base_questions::number(block.end)
 }
 
 // A block of passes.

@@ -199,7 +199,7 @@ pub fn update_ticks(t: u32, n: u32) -> u32
 pub fn next_pass(counter: u32) -> u32
     ensures { result ≡ (counter + 1) % 2 ^ counter_bits }
 {
-    std::num::wrapping_add_u32(counter, 1)
+    counter.wrapping_add(1)
 }
 
 // GFM of generator g.

@@ -18,7 +18,7 @@ pub fn built_function(f: u32) -> bool
     requires { f < 32 }
     ensures { result ≡ built_function f }
 {
-    (BUILT_FUNCTION >> f) % 2 == 1
+    base_words::bit(BUILT_FUNCTION, f)
 }
 
 // Whether a function of the older text is built.
@@ -26,7 +26,7 @@ pub fn old_built_function(f: u32) -> bool
     requires { f < 32 }
     ensures { result ≡ old_built_function f }
 {
-    (OLD_BUILT_FUNCTION >> f) % 2 == 1
+    base_words::bit(OLD_BUILT_FUNCTION, f)
 }
 
 // Whether a mode is built.
@@ -34,5 +34,5 @@ pub fn built_mode(p: u32) -> bool
     requires { p < 16 }
     ensures { result ≡ built_mode p }
 {
-    (BUILT_MODE >> p) % 2 == 1
+    base_words::bit(BUILT_MODE, p)
 }

@@ -5,7 +5,7 @@ use mathlib.Core.Bool.{Bool, true, false, not, ◌||◌}
 use Prim.Native.Nat.{ℕ, zero, suc, ◌<◌}
 use native.Mathlib.Omega.{arith}
 use lib.Dec.{eqb}
-use borrow.Author.Tests.{eqb-true, eq-eqb, ne_eqb}
+use borrow.Author.Tests.{eqb-true}
 use Rattle.base_lists.specs.Lists.{is_one_of}
 use Rattle.layout_modes.specs.declared.Switches.{Switches}
 use Rattle.layout_modes.proofs.RunModes.{envelope-output, oscillator-output, replaces-alone, envelope-tells, oscillator-tells}
@@ -77,18 +77,18 @@ outputs r on = go (adds r) (replaces r) refl refl
 
 -- What the switches of a run mode tell where they are tested.
 module _ (on : Switches) (r : ℕ) (is : on ≡ switches_of r) where
-  pub envelope-is : on.envelope ≡ 1 → envelope_on r ≡ true
-  envelope-is h = sym (envelope-tells r) ∙ rw (← is) (eq-eqb on.envelope 1 h)
+  pub envelope-is : on.envelope ≡ true → envelope_on r ≡ true
+  envelope-is h = sym (envelope-tells r) ∙ rw (← is) h
 
-  pub envelope-not : (on.envelope ≡ 1 → ⊥) → envelope_on r ≡ false
-  envelope-not h = sym (envelope-tells r) ∙ rw (← is) (ne_eqb on.envelope 1 h)
+  pub envelope-not : on.envelope ≡ false → envelope_on r ≡ false
+  envelope-not h = sym (envelope-tells r) ∙ rw (← is) h
 
-  pub oscillator-not : (on.oscillator ≡ 1 → ⊥) → oscillator_on r ≡ false
-  oscillator-not h = sym (oscillator-tells r) ∙ rw (← is) (ne_eqb on.oscillator 1 h)
+  pub oscillator-not : on.oscillator ≡ false → oscillator_on r ≡ false
+  oscillator-not h = sym (oscillator-tells r) ∙ rw (← is) h
 
   -- An oscillator that is on beside an envelope that is off is a generator that waits.
-  pub waits-is : (on.envelope ≡ 1 → ⊥) → on.oscillator ≡ 1 → r ≡ wait
-  waits-is e o = eqb-true r wait (sym alone ∙ (sym (oscillator-tells r) ∙ rw (← is) (eq-eqb on.oscillator 1 o)))
+  pub waits-is : on.envelope ≡ false → on.oscillator ≡ true → r ≡ wait
+  waits-is e o = eqb-true r wait (sym alone ∙ (sym (oscillator-tells r) ∙ rw (← is) o))
     where
       alone : oscillator_on r ≡ eqb r wait
       alone = oscillator-output r ∙ rw (quiet r (envelope-not e)).no_add

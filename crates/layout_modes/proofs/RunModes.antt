@@ -1,20 +1,39 @@
--- The run modes' switches: what the table has at each place, what each number of the switches tells, and how the switches go together.
+-- The run modes' switches: what the table has at each place, what each switch tells, and how the switches go together.
 -- Assumes nothing.
 use mathlib.Core.Path.{◌≡◌, refl, ◌∙◌, sym}
-use mathlib.Core.Bool.{Bool, true, false, cond, ◌||◌, or-false}
+use mathlib.Core.Bool.{Bool, true, false, cond, not, ◌||◌, or-false}
 use mathlib.Core.List.{List, [], ◌∷◌}
 use Prim.Native.Nat.{ℕ, ◌<◌}
 use lib.Dec.{eqb}
+use Rattle.std.proofs.Common.{nat_eq}
 use lib.ListN.{get_or}
 use borrow.Author.Tests.{eqb-true}
 use Rattle.base_lists.specs.Lists.{is_one_of}
 use Rattle.base_lists.proofs.Members.{is_one_of-append}
 use Rattle.base_lists.proofs.Tables.{tabulate-at}
-use Rattle.layout_modes.specs.Modes.{read_data, wait, running_a, running_b, running_c, oscillator_on, envelope_on, free, adds, replaces, switches_of, row, rows}
+use Rattle.layout_modes.specs.declared.Output.TheVariants.{Silent, Adds, Replaces}
+use Rattle.layout_modes.specs.Modes.{read_data, wait, running_a, running_b, running_c, oscillator_on, envelope_on, free, adds, replaces, switches_of, is_adds, output_by, row, rows}
 
 pub row_at : (r : ℕ) → r < 16 → get_or rows r [] ≡ row r
 unfolding rows
 row_at r h = tabulate-at row 16 r [] h
+
+-- A switch, and an output, are told from their numbers.
+bit-told : (b : Bool) → not (nat_eq (cond b 1 0) 0) ≡ b
+bit-told true = refl
+bit-told false = refl
+
+output-told : (a b : Bool) → output_by (cond a 1 (cond b 2 0)) ≡ cond a Adds (cond b Replaces Silent)
+output-told true b = refl
+output-told false true = refl
+output-told false false = refl
+
+-- What the numbers of a row tell.
+pub row-tells : (r : ℕ) →
+    (record { oscillator = not (nat_eq (get_or (row r) 0 0) 0); envelope = not (nat_eq (get_or (row r) 1 0) 0); free = not (nat_eq (get_or (row r) 2 0) 0); output = output_by (get_or (row r) 3 0) })
+    ≡ switches_of r
+unfolding row switches_of
+row-tells r = rw (bit-told (oscillator_on r), bit-told (envelope_on r), bit-told (free r), output-told (adds r) (replaces r)) refl
 
 running : List ℕ
 running = running_a ∷ running_b ∷ running_c ∷ []
@@ -42,28 +61,24 @@ pub replaces-alone : (r : ℕ) → replaces r ≡ true → adds r ≡ false
 unfolding adds is_one_of
 replaces-alone r h = rw (eqb-true r read_data (sym (replaces-is r) ∙ h))
 
--- What the switches' numbers tell.
-on : (b : Bool) → eqb (cond b 1 0) 1 ≡ b
-on true = refl
-on false = refl
-
-pub oscillator-tells : (r : ℕ) → eqb (switches_of r).oscillator 1 ≡ oscillator_on r
+-- What the switches tell.
+pub oscillator-tells : (r : ℕ) → (switches_of r).oscillator ≡ oscillator_on r
 unfolding switches_of
-oscillator-tells r = on (oscillator_on r)
+oscillator-tells r = refl
 
-pub envelope-tells : (r : ℕ) → eqb (switches_of r).envelope 1 ≡ envelope_on r
+pub envelope-tells : (r : ℕ) → (switches_of r).envelope ≡ envelope_on r
 unfolding switches_of
-envelope-tells r = on (envelope_on r)
+envelope-tells r = refl
 
-pub free-tells : (r : ℕ) → eqb (switches_of r).free 1 ≡ free r
+pub free-tells : (r : ℕ) → (switches_of r).free ≡ free r
 unfolding switches_of
-free-tells r = on (free r)
+free-tells r = refl
 
-adding : (a b : Bool) → eqb (cond a 1 (cond b 2 0)) 1 ≡ a
+adding : (a b : Bool) → is_adds (cond a Adds (cond b Replaces Silent)) ≡ a
 adding true b = refl
 adding false true = refl
 adding false false = refl
 
-pub adds-tells : (r : ℕ) → eqb (switches_of r).output 1 ≡ adds r
+pub adds-tells : (r : ℕ) → is_adds (switches_of r).output ≡ adds r
 unfolding switches_of
 adds-tells r = adding (adds r) (replaces r)

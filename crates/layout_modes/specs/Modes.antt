@@ -1,8 +1,10 @@
 -- The run modes, by the 1978 text's names, and their switches (document 01: "The built run modes, and whether oscillator, envelope and adding are on").
 -- Assumes nothing.
-use Rattle.std.specs.Prelude.{ℕ, ◌+◌, ◌*◌, ◌%◌, ◌^◌, Bool, cond, List, [], ◌∷◌}
+use Rattle.std.specs.Prelude.{ℕ, ◌+◌, ◌*◌, ◌%◌, ◌^◌, Bool, true, false, cond, ◌==◌, List, [], ◌∷◌}
 use Rattle.base_lists.specs.Lists.{is_one_of, tabulate}
 use Rattle.layout_modes.specs.declared.Switches.{Switches}
+use Rattle.layout_modes.specs.declared.Output.{Output}
+use Rattle.layout_modes.specs.declared.Output.TheVariants.{Silent, Adds, Replaces}
 
 -- Inactive, and paused.
 abbrev pub inactive : ℕ
@@ -73,19 +75,29 @@ adds r = is_one_of r (running_a ∷ running_b ∷ running_c ∷ [])
 unfoldable pub replaces : ℕ → Bool
 replaces r = is_one_of r (read_data ∷ [])
 
--- A run mode's switches, 1 for on and 0 for off; the output is 1 where it adds, 2 where it replaces, else 0.
+-- A run mode's switches; it is silent where it neither adds nor replaces.
 unfoldable pub switches_of : ℕ → Switches
 switches_of r =
     record {
-      oscillator = cond (oscillator_on r) 1 0;
-      envelope = cond (envelope_on r) 1 0;
-      free = cond (free r) 1 0;
-      output = cond (adds r) 1 (cond (replaces r) 2 0);
+      oscillator = oscillator_on r;
+      envelope = envelope_on r;
+      free = free r;
+      output = cond (adds r) Adds (cond (replaces r) Replaces Silent);
     }
 
--- A run mode's switches as a row of four numbers.
+-- Whether an output adds.
+abbrev pub is_adds : Output → Bool
+is_adds Silent = false
+is_adds Adds = true
+is_adds Replaces = false
+
+-- The output that a number stands for: 1 where it adds, 2 where it replaces.
+abbrev pub output_by : ℕ → Output
+output_by n = cond (n == 1) Adds (cond (n == 2) Replaces Silent)
+
+-- A run mode's switches as a row of four numbers, 1 for on and 0 for off, and last the number of the output.
 unfoldable pub row : ℕ → List ℕ
-row r = (switches_of r).oscillator ∷ (switches_of r).envelope ∷ (switches_of r).free ∷ (switches_of r).output ∷ []
+row r = cond (oscillator_on r) 1 0 ∷ cond (envelope_on r) 1 0 ∷ cond (free r) 1 0 ∷ cond (adds r) 1 (cond (replaces r) 2 0) ∷ []
 
 -- The rows of the 16 run modes.
 unfoldable pub rows : List (List ℕ)

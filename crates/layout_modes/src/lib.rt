@@ -2,7 +2,7 @@
 #![tactic(auto)]
 
 ghost use Rattle.std.specs.Prelude.{◌≡◌, ◌<◌};
-ghost use Rattle.layout_modes.specs.Modes.{rows, switches_of, built_run, built_oscillator};
+ghost use Rattle.layout_modes.specs.Modes.{rows, output_by, switches_of, built_run, built_oscillator};
 
 // The run modes, by the 1978 text's names.
 pub const INACTIVE: u32 = 0b0000;
@@ -23,19 +23,26 @@ pub const WRITE_DATA: u32 = 0b0011;
 
 pub const WRITE_DAC: u32 = 0b0010;
 
-// A run mode's switches, 1 or 0: oscillator on, envelope on, envelope free. The output is 1 where it adds, 2 where it replaces, else 0.
-#[derive(Clone, Copy)]
-pub struct Switches {
-    pub oscillator: u8,
-    pub envelope: u8,
-    pub free: u8,
-    pub output: u8,
+// What a generator whose envelope is on does with its P: nothing, add it to the word of its sum, or have the word replaced.
+#[derive(Clone, Copy, PartialEq, Eq)]
+pub enum Output {
+    Silent,
+    Adds,
+    Replaces,
 }
 
-pub type Rows = [[u8; 4]; 16];
+// A run mode's switches: whether its oscillator and its envelope are on, whether its envelope is free, and its output.
+#[derive(Clone, Copy, PartialEq, Eq)]
+pub struct Switches {
+    pub oscillator: bool,
+    pub envelope: bool,
+    pub free: bool,
+    pub output: Output,
+}
 
-// The switches of the 16 run modes, by number: oscillator, envelope, free, output.
-const SWITCHES: Rows = [
+// The switches of the 16 run modes, by number: oscillator, envelope and free, 1 or 0, and the output, 1 where it adds, 2 where it replaces, else 0.
+// Document 01 names this form, a constant table of 16 rows of numbers: so it stays one.
+const SWITCHES: [[u8; 4]; 16] = [
     [0, 0, 0, 0],
     [0, 0, 0, 0],
     [0, 0, 0, 0],
@@ -60,25 +67,43 @@ pub const BUILT_RUN: u32 = 0b1110_0010_1000_1111;
 // The built oscillator modes, in the same way.
 pub const BUILT_OSCILLATOR: u32 = 0b0000_0001_0001_1111;
 
-// The switches' table, which a caller copies once and hands to `switches_of`.
-pub fn table() -> Rows
-    ensures { result ≡ rows }
+// The output that a row's last number stands for.
+fn output_by(number: u8) -> Output
+    ensures { result ≡ output_by number }
 {
-    SWITCHES
+    match number {
+        1 => Output::Adds,
+        2 => Output::Replaces,
+        _ => Output::Silent,
+    }
 }
 
-// The switches of a run mode.
-pub fn switches_of(t: &Rows, run: u32) -> Switches
-    requires { (t.now ≡ rows) × (run < 16) }
-    ensures { result ≡ switches_of run }
-{
-    let n = run as usize;
-    let row = t[n];
-    Switches {
-        oscillator: row[0],
-        envelope: row[1],
-        free: row[2],
-        output: row[3],
+// The switches' table, which a caller makes once and hands on.
+#[derive(Drop)]
+pub struct Rows {
+    table: [[u8; 4]; 16],
+    ghost right: { table ≡ rows },
+}
+
+impl Rows {
+    // The table is copied.
+    pub fn new() -> Rows {
+        Rows { table: SWITCHES }
+    }
+
+    // The switches of a run mode.
+    pub fn switches_of(&self, run: u32) -> Switches
+        requires { run < 16 }
+        ensures { result ≡ switches_of run }
+    {
+        let row = self.table[run as usize];
+        // Not `== 1`, which makes a generator's turn 1.07 times as many instructions.
+        Switches {
+            oscillator: row[0] != 0,
+            envelope: row[1] != 0,
+            free: row[2] != 0,
+            output: output_by(row[3]),
+        }
     }
 }
 
@@ -87,7 +112,7 @@ pub fn built_run(r: u32) -> bool
     requires { r < 16 }
     ensures { result ≡ built_run r }
 {
-    (BUILT_RUN >> r) % 2 == 1
+    base_words::bit(BUILT_RUN, r)
 }
 
 // Whether an oscillator mode is built.
@@ -95,5 +120,5 @@ pub fn built_oscillator(s: u32) -> bool
     requires { s < 16 }
     ensures { result ≡ built_oscillator s }
 {
-    (BUILT_OSCILLATOR >> s) % 2 == 1
+    base_words::bit(BUILT_OSCILLATOR, s)
 }

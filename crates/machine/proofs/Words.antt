@@ -91,10 +91,4 @@ mmode-function x e = and_second (bits 9 x) (mmode_built x) e
 
 -- A word of 4 bits is a delay unit's mode.
 pub delay-mode-is : (x : ℕ) → test delay_mode x ≡ (bits 4 x && delay_field x)
-delay-mode-is x = by_width (bits 4 x) refl where
-  by_width : (b : Bool) → bits 4 x ≡ b → (b && built_mode x) ≡ (b && delay_field x)
-  by_width false e = refl
-  by_width true e =
-      let h : x < 16 = ltb-true x 16 e in
-      let low : x / 2 ^ 0 % 32 % 16 ≡ x = omega arith in
-      rw low
+delay-mode-is x = within 16 built_mode x

@@ -34,7 +34,7 @@ abbrev pub function_field : Text → ℕ → Bool
 function_field text x = built text (x / 2 ^ 4 % 32)
 
 abbrev pub delay_field : ℕ → Bool
-delay_field x = built_mode (x / 2 ^ 0 % 32 % 16)
+delay_field x = built_mode (x % 16)
 
 -- The modes of all generators, within the width of GMODE.
 unfoldable pub modes_built : Text → List ℕ → Bool

@@ -1,163 +1,80 @@
 // The machine's run of words: a fresh machine, and questions 1 and 2.
 #![tactic(auto)]
 
-ghost use Rattle.std.specs.Prelude.{◌≡◌, [], ◌∷◌, length};
+ghost use Rattle.std.specs.Prelude.{◌≡◌, false, ◌+◌, ◌/◌, ◌%◌, ◌^◌, ◌<◌, ◌&&◌, [], ◌∷◌, get_or};
 ghost use Rattle.layout.specs.Machine.{Reaches};
-ghost use Rattle.machine.specs.Questions.{question1, question2, valid, good_address, generator_registers, modifier_registers, delay_registers, fresh_answer, fresh_run};
-ghost use Rattle.machine.specs.AsCoded.{limits_of, repeated, modes_built, generators_within, functions_built, modifiers_within, controls_within, delays_within, ticks_counted};
+ghost use Rattle.layout.specs.Layout.{generator_words, GMODE, modifier_at, modifier_words, MMODE};
+ghost use Rattle.machine_sweep.specs.AsCoded.{every_word, swept, flags_of};
+ghost use Rattle.machine.specs.Questions.{question1, question2, valid, good_address, fresh_answer, fresh_run};
+ghost use Rattle.machine.specs.AsCoded.{generators_within, functions_built, modifiers_within, controls_within, delays_within, ticks_counted};
 ghost use Rattle.base_questions.specs.Questions.{asked};
-ghost use Rattle.layout_texts.specs.declared.Text.TheVariants.{Of1978, Old};
-ghost use Rattle.base_lists.specs.Lists.{zeros};
+ghost use Rattle.base_questions.specs.Refusals.{refused};
 
+use base_questions::Refusal;
 use layout_texts::Text;
 
-// What the registers of a generator are below, for the four generators of a row.
-const GENERATOR_LIMITS: [u32; 44] = [
-    1 << 20, // GO
-    1 << 28, // GJ
-    1 << 20, // GK
-    1 << 11, // GN
-    1 << 4, // GM
-    1 << 20, // GP
-    1 << 24, // GQ
-    1 << 12, // GL
-    1 << 6, // GSUM
-    1 << 7, // GFM
-    1 << 10, // GMODE
-    1 << 20,
-    1 << 28,
-    1 << 20,
-    1 << 11,
-    1 << 4,
-    1 << 20,
-    1 << 24,
-    1 << 12,
-    1 << 6,
-    1 << 7,
-    1 << 10,
-    1 << 20,
-    1 << 28,
-    1 << 20,
-    1 << 11,
-    1 << 4,
-    1 << 20,
-    1 << 24,
-    1 << 12,
-    1 << 6,
-    1 << 7,
-    1 << 10,
-    1 << 20,
-    1 << 28,
-    1 << 20,
-    1 << 11,
-    1 << 4,
-    1 << 20,
-    1 << 24,
-    1 << 12,
-    1 << 6,
-    1 << 7,
-    1 << 10,
-];
+// The limits of one unit, for the four units of a row.
+macro_rules! four_units {
+    ($($limit:expr,)*) => { [$($limit,)* $($limit,)* $($limit,)* $($limit,)*] };
+}
 
-// The same by the older text, whose GMODE has 8 bits.
-const OLD_GENERATOR_LIMITS: [u32; 44] = [
-    1 << 20, // GO
-    1 << 28, // GJ
-    1 << 20, // GK
-    1 << 11, // GN
-    1 << 4, // GM
-    1 << 20, // GP
-    1 << 24, // GQ
-    1 << 12, // GL
-    1 << 6, // GSUM
-    1 << 7, // GFM
-    1 << 8, // GMODE
-    1 << 20,
-    1 << 28,
-    1 << 20,
-    1 << 11,
-    1 << 4,
-    1 << 20,
-    1 << 24,
-    1 << 12,
-    1 << 6,
-    1 << 7,
-    1 << 8,
-    1 << 20,
-    1 << 28,
-    1 << 20,
-    1 << 11,
-    1 << 4,
-    1 << 20,
-    1 << 24,
-    1 << 12,
-    1 << 6,
-    1 << 7,
-    1 << 8,
-    1 << 20,
-    1 << 28,
-    1 << 20,
-    1 << 11,
-    1 << 4,
-    1 << 20,
-    1 << 24,
-    1 << 12,
-    1 << 6,
-    1 << 7,
-    1 << 8,
-];
+// What the registers of a generator are below, GMODE's limit being the text's, for the four generators of a row.
+macro_rules! generator_limits {
+    ($gmode:expr) => {
+        four_units![
+            layout::GO_LIMIT,
+            layout::GJ_LIMIT,
+            layout::GK_LIMIT,
+            layout::GN_LIMIT,
+            layout::GM_LIMIT,
+            layout::GP_LIMIT,
+            layout::GQ_LIMIT,
+            layout::GL_LIMIT,
+            layout::GSUM_LIMIT,
+            layout::GFM_LIMIT,
+            $gmode,
+        ]
+    };
+}
+
+const GENERATOR_LIMITS: [u32; 44] = generator_limits!(layout::GMODE_LIMIT);
+
+// The older text's GMODE has 8 bits.
+const OLD_GENERATOR_LIMITS: [u32; 44] = generator_limits!(1 << 8);
 
 // What the registers of a modifier are below, for the two modifiers of a row.
 const MODIFIER_LIMITS: [u32; 16] = [
-    1 << 30, // M0
-    1 << 30, // M1
-    1 << 20, // L0
-    1 << 20, // L1
-    1 << 8, // MIN
-    1 << 8, // MRM
-    1 << 7, // MSUM
-    1 << 9, // MMODE
-    1 << 30,
-    1 << 30,
-    1 << 20,
-    1 << 20,
-    1 << 8,
-    1 << 8,
-    1 << 7,
-    1 << 9,
+    layout::COEFFICIENT_LIMIT, // M0
+    layout::COEFFICIENT_LIMIT, // M1
+    layout::LATCH_LIMIT, // L0
+    layout::LATCH_LIMIT, // L1
+    layout::ADDRESS_LIMIT, // MIN
+    layout::ADDRESS_LIMIT, // MRM
+    layout::MSUM_LIMIT,
+    layout::MMODE_LIMIT,
+    layout::COEFFICIENT_LIMIT,
+    layout::COEFFICIENT_LIMIT,
+    layout::LATCH_LIMIT,
+    layout::LATCH_LIMIT,
+    layout::ADDRESS_LIMIT,
+    layout::ADDRESS_LIMIT,
+    layout::MSUM_LIMIT,
+    layout::MMODE_LIMIT,
 ];
 
 // What the registers of a delay unit are below, for the four units of a row.
-const DELAY_LIMITS: [u32; 28] = [
-    1 << 16, // X
-    1 << 16, // Y
-    1 << 16, // Z
-    1 << 4, // P
-    1 << 20, // the word next due
-    1 << 20, // the second
-    1 << 20, // the third
-    1 << 16,
-    1 << 16,
-    1 << 16,
-    1 << 4,
-    1 << 20,
-    1 << 20,
-    1 << 20,
-    1 << 16,
-    1 << 16,
-    1 << 16,
-    1 << 4,
-    1 << 20,
-    1 << 20,
-    1 << 20,
-    1 << 16,
-    1 << 16,
-    1 << 16,
-    1 << 4,
-    1 << 20,
-    1 << 20,
-    1 << 20,
+const DELAY_LIMITS: [u32; 28] = four_units![
+    layout::DELAY_LIMIT, // X
+    layout::DELAY_LIMIT, // Y
+    layout::DELAY_LIMIT, // Z
+    layout::DELAY_MODE_LIMIT, // P
+    layout::WORD_LIMIT, // the word next due
+    layout::WORD_LIMIT, // the second
+    layout::WORD_LIMIT, // the third
 ];
+
+// The addresses of a modifier whose top two bits are not 11 are those below.
+const ADDRESSES: u32 = 192;
 
 // The built modes of a GMODE of 10 bits, by number: run mode (4 bits), envelope mode (2), oscillator mode (4).
 const BUILT_MODES: [bool; 1024] = [
@@ -277,54 +194,19 @@ const OLD_BUILT_MODES: [bool; 256] = [
 pub fn built_address(address: u32) -> bool
     ensures { result ≡ good_address address }
 {
-    address < 192
+    address < ADDRESSES
 }
 
-// The limits' tables: the widths that the definition's list of registers has.
-fn generator_limits() -> [u32; 44]
-    ensures { result ≡ repeated (limits_of (generator_registers Of1978)) 44 }
+// All generators' words below the limits of a row, with modes that have flags.
+fn generators_by<const N: usize>(limits: &[u32; 44], built: &[bool; N], m: &[u32]) -> bool
+    requires some { 0 < N }
+    requires reaches { Reaches m.now }
+    ensures { result ≡ (swept limits.now m.now 0 8 && every_word (λ x. get_or built.now (x / 2 ^ 0 % N) false) m.now GMODE generator_words 0 256) }
 {
-    GENERATOR_LIMITS
-}
-
-fn old_generator_limits() -> [u32; 44]
-    ensures { result ≡ repeated (limits_of (generator_registers Old)) 44 }
-{
-    OLD_GENERATOR_LIMITS
-}
-
-fn modifier_limits(text: Text) -> [u32; 16]
-    ensures { result ≡ repeated (limits_of (modifier_registers text)) 16 }
-{
-    match text {
-        Text::Of1978 => MODIFIER_LIMITS,
-        Text::Old => MODIFIER_LIMITS,
-    }
-}
-
-fn delay_limits() -> [u32; 28]
-    ensures { result ≡ repeated (limits_of delay_registers) 28 }
-{
-    DELAY_LIMITS
-}
-
-// All generators' modes built, by the table of a text, which is laid out best where it is looked at.
-fn modes_built(m: &[u32]) -> bool
-    requires { Reaches m.now }
-    ensures { result ≡ modes_built Of1978 m.now }
-{
-    let built = BUILT_MODES;
+    let at = layout::GMODE;
     let n = layout::GENERATORS;
-    machine_sweep::words_flagged(&built, m, layout::GMODE, layout::GENERATOR_WORDS, n)
-}
-
-fn old_modes_built(m: &[u32]) -> bool
-    requires { Reaches m.now }
-    ensures { result ≡ modes_built Old m.now }
-{
-    let old_built = OLD_BUILT_MODES;
-    let n = layout::GENERATORS;
-    machine_sweep::words_flagged(&old_built, m, layout::GMODE, layout::GENERATOR_WORDS, n)
+    machine_sweep::swept(limits, m, 0, 8)
+        & machine_sweep::flagged(built, m, at, layout::GENERATOR_WORDS, n, 0)
 }
 
 // All generators' words within their widths, with built modes.
@@ -333,34 +215,30 @@ fn generators_within(text: Text, m: &[u32]) -> bool
     ensures { result ≡ generators_within text m.now }
 {
     match text {
-        Text::Of1978 => {
-            let limits = generator_limits();
-            machine_sweep::swept(&limits, m, 0, 8) & modes_built(m)
-        }
-        Text::Old => {
-            let limits = old_generator_limits();
-            machine_sweep::swept(&limits, m, 0, 8) & old_modes_built(m)
-        }
+        Text::Of1978 => generators_by(&GENERATOR_LIMITS, &BUILT_MODES, m),
+        Text::Old => generators_by(&OLD_GENERATOR_LIMITS, &OLD_BUILT_MODES, m),
     }
 }
 
-// All modifiers' functions built: bit f is 1 where function f is built.
+// All modifiers' functions those of a mask: bit f is 1 where function f is one.
+fn functions_by(mask: u32, m: &[u32]) -> bool
+    requires { Reaches m.now }
+    ensures { result ≡ every_word (λ x. get_or (flags_of mask 32) (x / 2 ^ 4 % 32) false) m.now (modifier_at 0 + MMODE) modifier_words 0 128 }
+{
+    let functions = machine_sweep::flags::<32>(mask);
+    let at = layout::MODIFIERS_AT + layout::MMODE;
+    let n = layout::MODIFIERS;
+    machine_sweep::flagged(&functions, m, at, layout::MODIFIER_WORDS, n, 4)
+}
+
+// All modifiers' functions built.
 fn functions_built(text: Text, m: &[u32]) -> bool
     requires { Reaches m.now }
     ensures { result ≡ functions_built text m.now }
 {
-    let at = layout::MODIFIERS_AT + layout::MMODE;
-    let n = layout::MODIFIERS;
-    let step = layout::MODIFIER_WORDS;
     match text {
-        Text::Of1978 => {
-            let functions = machine_sweep::flags(layout_codes::BUILT_FUNCTION);
-            machine_sweep::fields_flagged(&functions, m, at, step, n, 4)
-        }
-        Text::Old => {
-            let functions = machine_sweep::flags(layout_codes::OLD_BUILT_FUNCTION);
-            machine_sweep::fields_flagged(&functions, m, at, step, n, 4)
-        }
+        Text::Of1978 => functions_by(layout_codes::BUILT_FUNCTION, m),
+        Text::Old => functions_by(layout_codes::OLD_BUILT_FUNCTION, m),
     }
 }
 
@@ -369,13 +247,12 @@ fn modifiers_within(text: Text, m: &[u32]) -> bool
     requires { Reaches m.now }
     ensures { result ≡ modifiers_within text m.now }
 {
-    let limits = modifier_limits(text);
     let at = layout::MODIFIERS_AT;
     let n = layout::MODIFIERS;
     let step = layout::MODIFIER_WORDS;
-    machine_sweep::swept(&limits, m, at, 8)
-        & machine_sweep::words_below(m, at + layout::MIN, step, n, 192)
-        & machine_sweep::words_below(m, at + layout::MRM, step, n, 192)
+    machine_sweep::swept(&MODIFIER_LIMITS, m, at, 8)
+        & machine_sweep::words_below(m, at + layout::MIN, step, n, ADDRESSES)
+        & machine_sweep::words_below(m, at + layout::MRM, step, n, ADDRESSES)
         & functions_built(text, m)
 }
 
@@ -398,18 +275,17 @@ fn controls_within(m: &[u32]) -> bool
         & (overrun <= 1)
 }
 
-// All delay units' words within their widths, with built modes, whose flags stand twice.
+// All delay units' words within their widths, with built modes.
 fn delays_within(m: &[u32]) -> bool
     requires { Reaches m.now }
     ensures { result ≡ delays_within m.now }
 {
-    let limits = delay_limits();
-    let built = machine_sweep::flags(65537 * layout_codes::BUILT_MODE);
+    let built = machine_sweep::flags::<16>(layout_codes::BUILT_MODE);
     let at = layout::DELAYS_AT;
     let n = layout::DELAYS;
     let step = layout::DELAY_WORDS;
-    machine_sweep::swept(&limits, m, at, 1)
-        & machine_sweep::fields_flagged(&built, m, at + layout::DELAY_P, step, n, 0)
+    machine_sweep::swept(&DELAY_LIMITS, m, at, 1)
+        & machine_sweep::flagged(&built, m, at + layout::DELAY_P, step, n, 0)
 }
 
 // The update ticks are those of T and N.
@@ -445,42 +321,31 @@ pub fn valid(text: Text, m: &[u32]) -> bool
         & ticks_counted(m)
 }
 
-// The number of the first of questions 1 and 2 that is answered no, or 0.
-pub fn refusal(text: Text, m: &[u32]) -> u32
-    ensures { result ≡ asked (question1 m.now ∷ question2 text m.now ∷ []) }
+// The first of questions 1 and 2 that is answered no, if one is.
+pub fn refusal(text: Text, m: &[u32]) -> Result<(), Refusal>
+    ensures { refused result ≡ asked (question1 m.now ∷ question2 text m.now ∷ []) }
 {
     if m.len() != layout::MACHINE_LENGTH {
-        return 1;
+        return Err(Refusal::MachineLength);
     }
     if !valid(text, m) {
-        return 2;
+        return Err(Refusal::MachineWords);
     }
-    0
+    Ok(())
 }
 
-// Every word 0.
-fn clear(m: &mut [u32])
-    ensures { m.new ≡ zeros (length m.old) }
-{
-    let mut i: usize = 0;
-    while i < m.len() {
-        m[i] = 0;
-        i += 1;
-    }
-}
-
-// A fresh machine: zero but for T = 1, N = 265 and the update ticks, 256. A run of another length is left as it is, and question 1's number given.
-pub fn fresh(m: &mut [u32]) -> u32
-    ensures value { result ≡ fresh_answer m.old }
+// A fresh machine: zero but for T = 1, N = 265 and the update ticks, 256. A run of another length is left as it is, and question 1 named.
+pub fn fresh(m: &mut [u32]) -> Result<(), Refusal>
+    ensures value { refused result ≡ fresh_answer m.old }
     ensures m_after { m.new ≡ fresh_run m.old }
 {
     let words = m.len();
     if words != layout::MACHINE_LENGTH {
-        return 1;
+        return Err(Refusal::MachineLength);
     }
-    clear(m);
+    m.fill(0);
     m[layout::T_AT] = 1;
     m[layout::N_AT] = 265;
     m[layout::UPDATE_TICKS_AT] = 256;
-    0
+    Ok(())
 }

@@ -3,18 +3,22 @@
 use mathlib.Core.Path.{◌≡◌, refl, sym, ap, ◌∙◌}
 use mathlib.Core.Logic.{◌≢◌}
 use mathlib.Core.Bool.{Bool, true, false, ◌&&◌}
-use Prim.Native.Nat.{ℕ, ◌+◌, ◌-◌, ◌*◌, ◌/◌, ◌%◌, ◌<◌, ◌≤◌}
+use native.Mathlib.Omega.{arith}
+use Prim.Native.Nat.{ℕ, ◌+◌, ◌-◌, ◌/◌, ◌%◌, ◌<◌, ◌≤◌}
 use borrow.Author.Tests.{eq-eqb, ne_eqb, ltb-true, lt-ltb, le-ltb, leb-true}
 use lib.Dec.{leb, ltb}
 use lib.ListN.{get_or, set}
 use Rattle.base_lists.proofs.Below.{and_first, and_second}
-use Rattle.layout.specs.Layout.{generator_at, t_at, n_at, update_ticks_at, GO, GSUM, GFM, GMODE}
+use Rattle.layout.specs.Layout.{t_at, n_at, update_ticks_at}
 use Rattle.layout.specs.Machine.{Machine, Reaches, ticks_of, update_ticks, with_update_ticks}
 use Rattle.layout.proofs.UpdateTicks.{ticks-by-t}
 use Rattle.layout_modes.specs.Modes.{built_run, built_oscillator}
 use Rattle.layout_texts.specs.declared.Text.TheVariants.{Of1978}
 use Rattle.machine.specs.Questions.{good_gmode}
-use Rattle.machine_change.specs.Change.{Change, gmode_change, gsum_change, gfm_change, tick_more, tick_fewer, register_changed, with_ticks, changed_by, concerned}
+use Rattle.machine_change.specs.declared.Register.{Register}
+use Rattle.machine_change.specs.declared.Register.TheVariants.{Gmode, Gsum, Gfm, Dac}
+use Rattle.machine_change.specs.Kinds.{kind_of}
+use Rattle.machine_change.specs.Change.{Change, tick_more, tick_fewer, register_changed, with_ticks, changed_by, concerned}
 use Rattle.machine_change.specs.AsCoded.{value_fits, let_through}
 
 -- A GMODE.
@@ -23,26 +27,6 @@ not-built x h = rw (le-ltb x 1024 h)
 
 pub is-built : (x : ℕ) → x < 1024 → {a b : Bool} → a ≡ built_run (x / 64) → b ≡ built_oscillator (x % 16) → (a && b) ≡ good_gmode Of1978 x
 is-built x h a b = rw (lt-ltb x 1024 h, a, b)
-
--- A value.
-module _ (kind v : ℕ) where
-  pub gmode-fits : kind ≡ gmode_change → {b : Bool} → b ≡ good_gmode Of1978 v → b ≡ value_fits kind v
-  unfolding value_fits
-  gmode-fits k e = rw (eq-eqb kind gmode_change k) e
-
-  module _ (no-gmode : kind ≢ gmode_change) where
-    pub gsum-fits : kind ≡ gsum_change → ltb v 64 ≡ value_fits kind v
-    unfolding value_fits
-    gsum-fits k = rw (ne_eqb kind gmode_change no-gmode, eq-eqb kind gsum_change k)
-
-    module _ (no-gsum : kind ≢ gsum_change) where
-      pub gfm-fits : kind ≡ gfm_change → ltb v 128 ≡ value_fits kind v
-      unfolding value_fits
-      gfm-fits k = rw (ne_eqb kind gmode_change no-gmode, ne_eqb kind gsum_change no-gsum, eq-eqb kind gfm_change k)
-
-      pub dac-fits : kind ≢ gfm_change → ltb v 16 ≡ value_fits kind v
-      unfolding value_fits
-      dac-fits k = rw (ne_eqb kind gmode_change no-gmode, ne_eqb kind gsum_change no-gsum, ne_eqb kind gfm_change k)
 
 module _ (m : Machine) (kind g v : ℕ) where
   abbrev c : Change
@@ -76,28 +60,6 @@ module _ (m : Machine) (kind g v : ℕ) where
     unfolding concerned
     register-concerns k e = rw (ne_eqb kind tick_more no_more, ne_eqb kind tick_fewer k) e
 
-  -- The changed word.
-  abbrev at : ℕ
-  at = generator_at g
-
-  pub gmode-changed : kind ≡ gmode_change → {i : ℕ} → i ≡ at + GMODE → set m i v ≡ register_changed m c
-  unfolding register_changed
-  gmode-changed k e = rw (eq-eqb kind gmode_change k, e)
-
-  module _ (no-gmode : kind ≢ gmode_change) where
-    pub gsum-changed : kind ≡ gsum_change → {i : ℕ} → i ≡ at + GSUM → set m i v ≡ register_changed m c
-    unfolding register_changed
-    gsum-changed k e = rw (ne_eqb kind gmode_change no-gmode, eq-eqb kind gsum_change k, e)
-
-    module _ (no-gsum : kind ≢ gsum_change) where
-      pub gfm-changed : kind ≡ gfm_change → {i : ℕ} → i ≡ at + GFM → set m i v ≡ register_changed m c
-      unfolding register_changed
-      gfm-changed k e = rw (ne_eqb kind gmode_change no-gmode, ne_eqb kind gsum_change no-gsum, eq-eqb kind gfm_change k, e)
-
-      pub dac-changed : kind ≢ gfm_change → {i : ℕ} → i ≡ at + GO → set m i (get_or m i 0 / 16 * 16 + v) ≡ register_changed m c
-      unfolding register_changed
-      dac-changed k e = rw (ne_eqb kind gmode_change no-gmode, ne_eqb kind gsum_change no-gsum, ne_eqb kind gfm_change k, e)
-
   -- The changed machine.
   pub more-changed : kind ≡ tick_more → {n : Machine} → n ≡ with_ticks m (ticks_of m + 1) → n ≡ changed_by m c
   unfolding changed_by
@@ -127,6 +89,28 @@ module _ (m : Machine) (kind g v : ℕ) where
         ltb-true g 256 (and_second (leb kind 3) (ltb g 256) first),
         and_second (leb kind 3 && ltb g 256) (value_fits kind v) all,
       )
+
+-- A change of a register is none of T: whether it is let through, and what it concerns.
+pub sets-kind : (r : Register) → (kind_of r ≢ tick_more) × (kind_of r ≢ tick_fewer)
+sets-kind Gmode = ((λ z. omega (arith, z)), (λ z. omega (arith, z)))
+sets-kind Gsum = ((λ z. omega (arith, z)), (λ z. omega (arith, z)))
+sets-kind Gfm = ((λ z. omega (arith, z)), (λ z. omega (arith, z)))
+sets-kind Dac = ((λ z. omega (arith, z)), (λ z. omega (arith, z)))
+
+pub sets-let : (m : Machine) (r : Register) (g v : ℕ) {b : Bool} → b ≡ value_fits (kind_of r) v → (ltb g 256 && b) ≡ let_through m (record { kind = kind_of r; generator = g; value = v })
+unfolding let_through
+sets-let m Gmode g v e = ap (λ (x : Bool). ltb g 256 && x) e
+sets-let m Gsum g v e = ap (λ (x : Bool). ltb g 256 && x) e
+sets-let m Gfm g v e = ap (λ (x : Bool). ltb g 256 && x) e
+sets-let m Dac g v e = ap (λ (x : Bool). ltb g 256 && x) e
+
+pub sets-concern : (m : Machine) (r : Register) (g v : ℕ) {h : ℕ} → h ≡ g → h ≡ concerned m (record { kind = kind_of r; generator = g; value = v })
+sets-concern m r g v e = let no = sets-kind r in register-concerns m (kind_of r) g v no.0 no.1 e
+
+-- A DAC number that fits.
+pub dac-below : (r : Register) (v : ℕ) → r ≡ Dac → value_fits (kind_of r) v ≡ true → v < 16
+unfolding value_fits
+dac-below r v e h = ltb-true v 16 (rw e at h)
 
 -- T and its update ticks.
 pub ticks-set : (m : Machine) (t : ℕ) → Reaches m → {n : ℕ} → n ≡ update_ticks t (get_or m n_at 0) → set (set m t_at t) update_ticks_at n ≡ with_ticks m t

@@ -7,20 +7,49 @@ ghost use Rattle.layout.specs.Machine.{Reaches, ticks_of};
 ghost use Rattle.machine.specs.Questions.{valid, good_gmode};
 ghost use Rattle.layout_texts.specs.declared.Text.TheVariants.{Of1978};
 ghost use Rattle.machine_change.specs.Change.{register_changed, with_ticks, changed_by, concerned};
+ghost use Rattle.machine_change.specs.Kinds.{kind_of, change_of_kind, of_numbers};
 ghost use Rattle.machine_change.specs.AsCoded.{value_fits, let_through};
 
-// The kinds of changes: of GMODE, of GSUM, of GFM, of the DAC number, one tick more, one tick fewer.
-pub const GMODE_CHANGE: u32 = 0;
+// A generator's register that a change sets; of GO the DAC number alone.
+#[derive(Clone, Copy, PartialEq, Eq, Debug)]
+pub enum Register {
+    Gmode,
+    Gsum,
+    Gfm,
+    Dac,
+}
 
-pub const GSUM_CHANGE: u32 = 1;
+// A change of one partial: a register's new value, or one tick more or fewer.
+#[derive(Clone, Copy, PartialEq, Eq, Debug)]
+pub enum PartialChange {
+    Sets {
+        register: Register,
+        generator: u32,
+        value: u32,
+    },
+    TickMore,
+    TickFewer,
+}
 
-pub const GFM_CHANGE: u32 = 2;
-
-pub const DAC_CHANGE: u32 = 3;
-
-pub const TICK_MORE: u32 = 4;
-
-pub const TICK_FEWER: u32 = 5;
+// The change that three numbers of a host in C ask for, if there is one: the kinds are numbered from 0 to 5.
+pub fn of_numbers(kind: u32, generator: u32, value: u32) -> Option<PartialChange>
+    ensures { result ≡ of_numbers (record { kind = kind; generator = generator; value = value }) }
+{
+    let register = match kind {
+        0 => Register::Gmode,
+        1 => Register::Gsum,
+        2 => Register::Gfm,
+        3 => Register::Dac,
+        4 => return Some(PartialChange::TickMore),
+        5 => return Some(PartialChange::TickFewer),
+        _ => return None,
+    };
+    Some(PartialChange::Sets {
+        register,
+        generator,
+        value,
+    })
+}
 
 // Ten bits with built modes.
 fn built_gmode(gmode: u32) -> bool
@@ -32,50 +61,46 @@ fn built_gmode(gmode: u32) -> bool
     layout_modes::built_run(gmode / 64) & layout_modes::built_oscillator(gmode % 16)
 }
 
-// Whether the value of a change of a generator's word fits.
-fn value_fits(kind: u32, value: u32) -> bool
-    ensures { result ≡ value_fits kind value }
+// Whether a register's value fits.
+fn value_fits(register: Register, value: u32) -> bool
+    ensures { result ≡ value_fits (kind_of register) value }
 {
-    if kind == GMODE_CHANGE {
-        return built_gmode(value);
+    match register {
+        Register::Gmode => built_gmode(value),
+        Register::Gsum => value < layout::GSUM_LIMIT,
+        Register::Gfm => value < layout::GFM_LIMIT,
+        Register::Dac => value < 16,
     }
-    if kind == GSUM_CHANGE {
-        return value < layout::GSUM_LIMIT;
-    }
-    if kind == GFM_CHANGE {
-        return value < layout::GFM_LIMIT;
-    }
-    value < 16
 }
 
-// Whether there is such a change and the changed machine passes question 2, of a machine that does.
-pub fn let_through(m: &[u32], kind: u32, generator: u32, value: u32) -> bool
+// Whether the changed machine passes question 2, of a machine that does.
+pub fn let_through(m: &[u32], change: PartialChange) -> bool
     requires { Reaches m.now }
-    ensures { result ≡ let_through m.now (record { kind = kind; generator = generator; value = value }) }
+    ensures { result ≡ let_through m.now (change_of_kind change) }
 {
-    if kind == TICK_MORE {
-        return m[layout::T_AT] < 256;
+    match change {
+        PartialChange::TickMore => m[layout::T_AT] < 256,
+        PartialChange::TickFewer => 1 < m[layout::T_AT],
+        PartialChange::Sets {
+            register,
+            generator,
+            value,
+        } => (generator < 256) & value_fits(register, value),
     }
-    if kind == TICK_FEWER {
-        return 1 < m[layout::T_AT];
-    }
-    (kind <= DAC_CHANGE) & (generator < 256) & value_fits(kind, value)
 }
 
 // The generator that a change concerns.
-pub fn concerned(m: &[u32], kind: u32, generator: u32) -> usize
+pub fn concerned(m: &[u32], change: PartialChange) -> usize
     requires reaches { Reaches m.now }
     requires bound { 1 ≤ ticks_of m.now }
-    ensures { result ≡ concerned m.now (record { kind = kind; generator = generator; value = 0 }) }
+    ensures { result ≡ concerned m.now (change_of_kind change) }
 {
     let t = layout::ticks(m);
-    if kind == TICK_MORE {
-        return t;
+    match change {
+        PartialChange::TickMore => t,
+        PartialChange::TickFewer => t - 1,
+        PartialChange::Sets { generator, .. } => layout::wide(generator),
     }
-    if kind == TICK_FEWER {
-        return t - 1;
-    }
-    layout::wide(generator)
 }
 
 // T is set, and the update ticks of it.
@@ -88,42 +113,35 @@ fn set_ticks(m: &mut [u32], t: u32)
     m[layout::UPDATE_TICKS_AT] = layout::update_ticks(t, n);
 }
 
-// A generator's word is set; of GO the low 4 bits alone.
-fn set_register(m: &mut [u32], kind: u32, generator: u32, value: u32)
+// A generator's register is set; of GO the low 4 bits alone.
+fn set_register(m: &mut [u32], register: Register, generator: u32, value: u32)
     requires m_len { (length m.old ≡ machine_length) × (valid Of1978 m.old ≡ true) }
-    requires generator_lt_generators { (generator < generators) × (value_fits kind value ≡ true) }
-    ensures { m.new ≡ register_changed m.old (record { kind = kind; generator = generator; value = value }) }
+    requires generator_lt_generators { (generator < generators) × (value_fits (kind_of register) value ≡ true) }
+    ensures { m.new ≡ register_changed m.old (record { kind = kind_of register; generator = generator; value = value }) }
 {
     let at = layout::GENERATOR_WORDS * layout::wide(generator);
-    if kind == GMODE_CHANGE {
-        m[at + layout::GMODE] = value;
-        return;
+    match register {
+        Register::Gmode => m[at + layout::GMODE] = value,
+        Register::Gsum => m[at + layout::GSUM] = value,
+        Register::Gfm => m[at + layout::GFM] = value,
+        Register::Dac => m[at + layout::GO] = m[at + layout::GO] / 16 * 16 + value,
     }
-    if kind == GSUM_CHANGE {
-        m[at + layout::GSUM] = value;
-        return;
-    }
-    if kind == GFM_CHANGE {
-        m[at + layout::GFM] = value;
-        return;
-    }
-    m[at + layout::GO] = m[at + layout::GO] / 16 * 16 + value;
 }
 
 // The change is made.
-pub fn make(m: &mut [u32], kind: u32, generator: u32, value: u32)
+pub fn make(m: &mut [u32], change: PartialChange)
     requires m_len { (length m.old ≡ machine_length) × (valid Of1978 m.old ≡ true) }
-    requires value_value { let_through m.old (record { kind = kind; generator = generator; value = value }) ≡ true }
-    ensures { m.new ≡ changed_by m.old (record { kind = kind; generator = generator; value = value }) }
+    requires value_value { let_through m.old (change_of_kind change) ≡ true }
+    ensures { m.new ≡ changed_by m.old (change_of_kind change) }
 {
     let t = m[layout::T_AT];
-    if kind == TICK_MORE {
-        set_ticks(m, t + 1);
-        return;
+    match change {
+        PartialChange::TickMore => set_ticks(m, t + 1),
+        PartialChange::TickFewer => set_ticks(m, t - 1),
+        PartialChange::Sets {
+            register,
+            generator,
+            value,
+        } => set_register(m, register, generator, value),
     }
-    if kind == TICK_FEWER {
-        set_ticks(m, t - 1);
-        return;
-    }
-    set_register(m, kind, generator, value);
 }

@@ -21,9 +21,9 @@ rows_below limits m at n = all_below (λ i. ltb (column m at (length limits) i 8
 unfoldable pub swept : List ℕ → List ℕ → ℕ → ℕ → Bool
 swept limits m at times = all_below (λ k. rows_below limits m (at + 8 * length limits * k) (length limits)) times
 
--- Bit k of a mask is 1, and the list of this for the numbers below 32.
+-- Bit k of a mask is 1, and the list of this for the numbers below n.
 unfoldable pub flag_of : ℕ → ℕ → Bool
 flag_of mask k = eqb (mask / 2 ^ k % 2) 1
 
-unfoldable pub flags_of : ℕ → List Bool
-flags_of mask = tabulate (flag_of mask) 0 32
+unfoldable pub flags_of : ℕ → ℕ → List Bool
+flags_of mask n = tabulate (flag_of mask) 0 n

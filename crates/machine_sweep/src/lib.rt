@@ -11,8 +11,7 @@ fn rows_below(limits: &[u32], m: &[u32], at: usize) -> bool
 {
     let w = limits.len();
     let mut ok = true;
-    let mut i: usize = 0;
-    while i < w {
+    for i in 0..w {
         let x = m[at + i]
             | m[at + w + i]
             | m[at + 2 * w + i]
@@ -22,7 +21,6 @@ fn rows_below(limits: &[u32], m: &[u32], at: usize) -> bool
             | m[at + 6 * w + i]
             | m[at + 7 * w + i];
         ok = (x < limits[i]) & ok;
-        i += 1;
     }
     ok
 }
@@ -34,11 +32,8 @@ pub fn swept(limits: &[u32], m: &[u32], at: usize, times: usize) -> bool
 {
     let rows = 8 * limits.len();
     let mut ok = true;
-    let mut k: usize = 0;
-    while k < times {
-        let below = rows_below(limits, m, at + rows * k);
-        ok = below & ok;
-        k += 1;
+    for k in 0..times {
+        ok = rows_below(limits, m, at + rows * k) & ok;
     }
     ok
 }
@@ -49,62 +44,42 @@ pub fn words_below(m: &[u32], at: usize, step: usize, n: usize, limit: u32) -> b
     ensures { result ≡ every_word (λ x. ltb x limit) m.now at step 0 n }
 {
     let mut ok = true;
-    let mut k: usize = 0;
-    while k < n {
+    for k in 0..n {
         ok = (m[at + step * k] < limit) & ok;
-        k += 1;
     }
     ok
 }
 
-// The flags of the numbers below 32: flag k is bit k of a mask.
-pub fn flags(mask: u32) -> [bool; 32]
-    ensures { result ≡ flags_of mask }
+// The flags of the numbers below N: flag k is bit k of a mask.
+pub fn flags<const N: usize>(mask: u32) -> [bool; N]
+    requires { N ≤ 32 }
+    ensures { result ≡ flags_of mask N }
 {
-    let mut t = [false; 32];
-    let mut k: u32 = 0;
-    while k < 32 {
-        let n = k as usize;
-        t[n] = (mask >> k) % 2 == 1;
-        k += 1;
+    let mut t = [false; N];
+    for k in 0..N {
+        t[k] = base_words::bit(mask, k as u32);
     }
     t
 }
 
-// The five bits from `shift` on, in one word of each of n units: each has its flag.
-pub fn fields_flagged(
-    t: &[bool; 32],
+// The bits from `shift` on, as many as N flags need, in one word of each of n units: what they say has its flag.
+pub fn flagged<const N: usize>(
+    t: &[bool; N],
     m: &[u32],
     at: usize,
     step: usize,
     n: usize,
     shift: u32,
 ) -> bool
-    requires { (at + step * n < length m.now + step) × (shift < 32) }
-    ensures { result ≡ every_word (λ x. get_or t.now (x / 2 ^ shift % 32) false) m.now at step 0 n }
+    requires some { 0 < N }
+    requires inside { at + step * n < length m.now + step }
+    requires within { shift < 32 }
+    ensures { result ≡ every_word (λ x. get_or t.now (x / 2 ^ shift % N) false) m.now at step 0 n }
 {
     let mut ok = true;
-    let mut k: usize = 0;
-    while k < n {
-        let field = (m[at + step * k] >> shift) % 32;
-        let i = field as usize;
+    for k in 0..n {
+        let i = (m[at + step * k] >> shift) as usize % N;
         ok = t[i] & ok;
-        k += 1;
-    }
-    ok
-}
-
-// One word of each of n units, by as many of its right bits as there are flags: each has its flag.
-pub fn words_flagged(t: &[bool], m: &[u32], at: usize, step: usize, n: usize) -> bool
-    requires { (0 < length t.now) × (at + step * n < length m.now + step) }
-    ensures { result ≡ every_word (λ x. get_or t.now (x % length t.now) false) m.now at step 0 n }
-{
-    let mut ok = true;
-    let mut k: usize = 0;
-    while k < n {
-        let i = m[at + step * k] as usize % t.len();
-        ok = t[i] & ok;
-        k += 1;
     }
     ok
 }

@@ -1,3 +1,2 @@
 pub mod Low
 pub mod Turns
-pub mod Functions

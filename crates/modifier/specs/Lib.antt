@@ -1,2 +1,3 @@
 pub mod Modifier
 pub mod Functions
+pub mod Coefficients

@@ -91,6 +91,10 @@ integer_m0 u x = integer_product (scale_aa u) x (coefficient u.m0)
 unfoldable pub whole_m0 : Modifier → ℕ → ℕ
 whole_m0 u x = whole_product (scale_aa u) x (coefficient u.m0)
 
+-- x*M1 as an integer product of the older text, first: no function of that text has it.
+unfoldable pub whole_m1 : Modifier → ℕ → ℕ
+whole_m1 u x = whole_product (scale_bb u) x (coefficient u.m1)
+
 -- What a turn gives: the registers afterwards, and S.
 abbrev pub gives : Modifier → ℕ → Turned
 gives u s = record { unit = u; s = s }

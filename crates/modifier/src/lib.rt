@@ -3,7 +3,19 @@
 
 ghost use Rattle.std.specs.Prelude.{◌≡◌, ◌≤◌, ◌<◌, ◌^◌, length};
 ghost use Rattle.base_words.specs.Words.{sum, Word};
-ghost use Rattle.modifier.specs.Modifier.{loaded, stored, Ranged, function_of, times_m1, times_m0, times_signal, integer_m1, integer_m0, whole_m0, gives};
+ghost use Rattle.modifier.specs.Modifier.{loaded, stored, Ranged, function_of, times_signal, gives};
+ghost use Rattle.modifier.specs.Coefficients.{times};
+
+use modifier_product::{Product, multiply};
+
+// A coefficient of a modifier.
+#[derive(Clone, Copy, PartialEq, Eq, Debug)]
+pub enum Coefficient {
+    // M0, the factor of the second multiplication.
+    M0,
+    // M1, the factor of the first.
+    M1,
+}
 
 #[derive(Clone, Copy)]
 pub struct Modifier {
@@ -29,36 +41,30 @@ pub fn added(x: u32, y: u32) -> u32
     requires { (x < 2 ^ 20) × (y < 2 ^ 20) }
     ensures { Word (sum 20 x y) result }
 {
-    base_words::add20(x, y)
+    base_words::add::<20>(x, y)
 }
 
 impl Modifier {
     // The modifier whose words a part of the machine starts with.
+    #[tactic(auto, unfolding(crate::specs::Modifier::loaded))]
     pub fn load(m: &[u32]) -> Modifier
         requires { 8 ≤ length m.now }
         ensures { result ≡ loaded m.now }
     {
-        let m0 = m[layout::M0] % layout::COEFFICIENT_LIMIT;
-        let m1 = m[layout::M1] % layout::COEFFICIENT_LIMIT;
-        let l0 = m[layout::L0] % layout::LATCH_LIMIT;
-        let l1 = m[layout::L1] % layout::LATCH_LIMIT;
-        let min = m[layout::MIN] % layout::ADDRESS_LIMIT;
-        let mrm = m[layout::MRM] % layout::ADDRESS_LIMIT;
-        let msum = m[layout::MSUM] % layout::MSUM_LIMIT;
-        let mmode = m[layout::MMODE] % layout::MMODE_LIMIT;
         Modifier {
-            m0,
-            m1,
-            l0,
-            l1,
-            min,
-            mrm,
-            msum,
-            mmode,
+            m0: m[layout::M0] % layout::COEFFICIENT_LIMIT,
+            m1: m[layout::M1] % layout::COEFFICIENT_LIMIT,
+            l0: m[layout::L0] % layout::LATCH_LIMIT,
+            l1: m[layout::L1] % layout::LATCH_LIMIT,
+            min: m[layout::MIN] % layout::ADDRESS_LIMIT,
+            mrm: m[layout::MRM] % layout::ADDRESS_LIMIT,
+            msum: m[layout::MSUM] % layout::MSUM_LIMIT,
+            mmode: m[layout::MMODE] % layout::MMODE_LIMIT,
         }
     }
 
     // The registers that a turn can change are written back.
+    #[tactic(auto, unfolding(crate::specs::Modifier::stored))]
     pub fn store(self, m: &mut [u32])
         requires { 8 ≤ length m.old }
         ensures { m.new ≡ stored m.old 0 self }
@@ -76,57 +82,24 @@ impl Modifier {
         self.mmode / 16 % 32
     }
 
-    // x*M1, a first multiplication.
-    pub fn times_m1(self, x: u32) -> u32
+    // The product of x and a coefficient: one with M1 is a first multiplication, one with M0 a second.
+    pub fn times(self, kind: Product, by: Coefficient, x: u32) -> u32
         requires ranged { Ranged self }
         requires x_bound { x < 2 ^ 20 }
-        ensures { Word (times_m1 self x) result }
+        ensures { Word (times kind by self x) result }
     {
-        modifier_product::multiply(self.mmode % 4, x, self.m1 / 1024)
+        match by {
+            Coefficient::M0 => multiply(kind, self.mmode / 4 % 4, x, self.m0 / 1024),
+            Coefficient::M1 => multiply(kind, self.mmode % 4, x, self.m1 / 1024),
+        }
     }
 
-    // x*M0, a second multiplication.
-    pub fn times_m0(self, x: u32) -> u32
-        requires ranged { Ranged self }
-        requires x_bound { x < 2 ^ 20 }
-        ensures { Word (times_m0 self x) result }
-    {
-        modifier_product::multiply(self.mmode / 4 % 4, x, self.m0 / 1024)
-    }
-
-    // x*y of two signals, a second multiplication.
+    // x*y of two signals, a second multiplication. It asks nothing of the registers, and so is no case of `times`.
     pub fn times_signal(self, x: u32, y: u32) -> u32
         requires { (x < 2 ^ 20) × (y < 2 ^ 20) }
         ensures { Word (times_signal self x y) result }
     {
-        modifier_product::multiply(self.mmode / 4 % 4, x, y)
-    }
-
-    // x*M1 as an integer product.
-    pub fn integer_m1(self, x: u32) -> u32
-        requires ranged { Ranged self }
-        requires x_bound { x < 2 ^ 20 }
-        ensures { Word (integer_m1 self x) result }
-    {
-        modifier_product::multiply_integer(self.mmode % 4, x, self.m1 / 1024)
-    }
-
-    // x*M0 as an integer product.
-    pub fn integer_m0(self, x: u32) -> u32
-        requires ranged { Ranged self }
-        requires x_bound { x < 2 ^ 20 }
-        ensures { Word (integer_m0 self x) result }
-    {
-        modifier_product::multiply_integer(self.mmode / 4 % 4, x, self.m0 / 1024)
-    }
-
-    // x*M0 as an integer product of the older text.
-    pub fn whole_m0(self, x: u32) -> u32
-        requires ranged { Ranged self }
-        requires x_bound { x < 2 ^ 20 }
-        ensures { Word (whole_m0 self x) result }
-    {
-        modifier_product::multiply_whole(self.mmode / 4 % 4, x, self.m0 / 1024)
+        multiply(Product::Rounded, self.mmode / 4 % 4, x, y)
     }
 
     // What a turn gives that leaves these registers.

@@ -5,7 +5,9 @@ ghost use Rattle.std.specs.Prelude.{◌≡◌, ◌<◌, ◌^◌, eqb};
 ghost use Rattle.modifier.specs.Modifier.{Ranged};
 ghost use Rattle.modifier_delay.specs.Invoke.{unit_of, invoke_delay};
 
+use modifier::Coefficient::{M0, M1};
 use modifier::{Modifier, Turned};
+use modifier_product::Product::Rounded;
 
 // Whether a function invokes a delay unit.
 pub fn invoking(f: u32) -> bool
@@ -22,15 +24,18 @@ pub fn unit_of(u: Modifier) -> usize
 }
 
 // Invoke delay unit: S := L0 + L1*M0; L0 := DM; L1 := A + DM*M1, which is also the word that goes to the unit.
+#[tactic(auto, unfolding(crate::specs::Invoke::invoke_delay))]
 pub fn invoke_delay(u: Modifier, a: u32, dm: u32) -> Turned
     requires ranged { Ranged u }
     requires a_bound { (a < 2 ^ 20) × (dm < 2 ^ 20) }
     ensures { result ≡ invoke_delay u a dm }
 {
-    let s = modifier::added(u.l0, u.times_m0(u.l1));
-    let temp0 = modifier::added(a, u.times_m1(dm));
-    let mut v = u;
-    v.l0 = dm;
-    v.l1 = temp0;
-    v.gives(s)
+    let s = modifier::added(u.l0, u.times(Rounded, M0, u.l1));
+    let temp0 = modifier::added(a, u.times(Rounded, M1, dm));
+    Modifier {
+        l0: dm,
+        l1: temp0,
+        ..u
+    }
+    .gives(s)
 }

@@ -2,6 +2,8 @@
 -- Assumes nothing.
 use Rattle.std.specs.Prelude.{ℕ}
 use Rattle.base_words.specs.Words.{sum}
+use Rattle.modifier.specs.declared.Coefficient.{Coefficient}
+use Rattle.modifier.specs.declared.Coefficient.TheVariants.{M0, M1}
 use Rattle.modifier.specs.declared.Modifier.{Modifier}
 use Rattle.modifier.specs.declared.Turned.{Turned}
 use Rattle.modifier.specs.Modifier.{times_m1, times_m0, times_signal, gives, with_l1, shifted, plus_m0, plus_m1}
@@ -54,3 +56,16 @@ two_zeros_m0_variable u x a b = m0_variable (two_zeros u x a) b
 -- Two zeros, M1 variable. As two zeros; M1 := M1 + B.
 unfoldable pub two_zeros_m1_variable : Modifier → ℕ → ℕ → ℕ → Turned
 two_zeros_m1_variable u x a b = m1_variable (two_zeros u x a) b
+
+-- Either coefficient variable, by its name: what is above.
+abbrev pub variable : Coefficient → Turned → ℕ → Turned
+variable M0 = m0_variable
+variable M1 = m1_variable
+
+abbrev pub two_poles_variable : Coefficient → Modifier → ℕ → ℕ → ℕ → Turned
+two_poles_variable M0 = two_poles_m0_variable
+two_poles_variable M1 = two_poles_m1_variable
+
+abbrev pub two_zeros_variable : Coefficient → Modifier → ℕ → ℕ → ℕ → Turned
+two_zeros_variable M0 = two_zeros_m0_variable
+two_zeros_variable M1 = two_zeros_m1_variable

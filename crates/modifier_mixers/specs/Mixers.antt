@@ -3,8 +3,11 @@
 use Rattle.std.specs.Prelude.{cond, ℕ, eqb, negsuc}
 use Rattle.base_words.specs.Words.{low_bits, sum}
 use Rattle.modifier_product.specs.Product.{less}
+use Rattle.modifier_product.specs.declared.Product.{Product}
+use Rattle.modifier.specs.declared.Coefficient.TheVariants.{M0, M1}
 use Rattle.modifier.specs.declared.Modifier.{Modifier}
 use Rattle.modifier.specs.declared.Turned.{Turned}
+use Rattle.modifier.specs.Coefficients.{times}
 use Rattle.modifier.specs.Modifier.{times_m1, times_m0, integer_m1, integer_m0, gives}
 
 -- Inactive. S := 0.
@@ -18,6 +21,10 @@ integer_mixing u a b = gives u (sum 20 (integer_m0 u a) (integer_m1 u b))
 -- Mixing. S := A*M0 + B*M1.
 unfoldable pub mixing : Modifier → ℕ → ℕ → Turned
 mixing u a b = gives u (sum 20 (times_m0 u a) (times_m1 u b))
+
+-- Either mixing, by the kind of product.
+unfoldable pub mixing_by : Product → Modifier → ℕ → ℕ → Turned
+mixing_by kind u a b = gives u (sum 20 (times kind M0 u a) (times kind M1 u b))
 
 -- Signum. If A*M0 is less than B*M1, S := -1; if A*M0 equals B*M1, S := 0; if A*M0 is greater than B*M1, S := 1.
 unfoldable pub signum : Modifier → ℕ → ℕ → Turned

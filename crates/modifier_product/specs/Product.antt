@@ -3,6 +3,8 @@
 use Rattle.std.specs.Prelude.{ℕ, ◌^◌, Bool, ℤ, pos, ◌+ℤ◌, ◌*ℤ◌}
 use Rattle.std.specs.Int.Signed.{shr_z, lt_z}
 use Rattle.base_words.specs.Words.{low_bits, signed}
+use Rattle.modifier_product.specs.declared.Product.{Product}
+use Rattle.modifier_product.specs.declared.Product.TheVariants.{Rounded, Integer, Whole}
 
 -- ab times 2^s.
 unfoldable pub scaled : ℕ → ℕ → ℕ → ℤ
@@ -19,6 +21,12 @@ integer_product s a b = low_bits 20 (shr_z (scaled s a b) 4)
 -- The integer product of the older text at scale s: ab times 2^s, reduced to 20 bits.
 unfoldable pub whole_product : ℕ → ℕ → ℕ → ℕ
 whole_product s a b = low_bits 20 (scaled s a b)
+
+-- The product of a kind.
+abbrev pub product_by : Product → ℕ → ℕ → ℕ → ℕ
+product_by Rounded = product
+product_by Integer = integer_product
+product_by Whole = whole_product
 
 -- Whether a is less than b.
 unfoldable pub less : ℕ → ℕ → Bool

@@ -3,14 +3,25 @@
 
 ghost use Rattle.std.specs.Prelude.{◌≡◌, ◌<◌, ◌≤◌, ◌^◌, nat_abs};
 ghost use Rattle.base_words.specs.Words.{signed, low_bits};
-ghost use Rattle.modifier_product.specs.Product.{scaled, product, integer_product, whole_product, less, opposite, half};
+ghost use Rattle.modifier_product.specs.Product.{scaled, product_by, less, opposite, half};
+
+// A product of two words: what is taken of ab times 2^s.
+#[derive(Clone, Copy, PartialEq, Eq, Debug)]
+pub enum Product {
+    // The product of fractions, rounded.
+    Rounded,
+    // The integer product.
+    Integer,
+    // The integer product of the older text.
+    Whole,
+}
 
 // The integer that a signed word of 20 bits stands for.
 fn value20(a: u32) -> i64
     requires { a < 2 ^ 20 }
     ensures { result ≡ signed 20 a }
 {
-    base_words::biased20(a) as i64 - 524288
+    base_words::biased::<20>(a) as i64 - 524288
 }
 
 // The low 20 bits of an integer.
@@ -30,28 +41,17 @@ fn multiplied(s: u32, a: u32, b: u32) -> i64
     value20(a) * value20(b) * k
 }
 
-// The product of two signed words of 20 bits at scale s, rounded and reduced to 20 bits.
-pub fn multiply(s: u32, a: u32, b: u32) -> u32
+// The product of two signed words of 20 bits at scale s, reduced to 20 bits.
+pub fn multiply(kind: Product, s: u32, a: u32, b: u32) -> u32
     requires { (s < 4) × (a < 2 ^ 20) × (b < 2 ^ 20) }
-    ensures { result ≡ product s a b }
+    ensures { result ≡ product_by kind s a b }
 {
-    low20((multiplied(s, a, b) + 262144) >> 19)
-}
-
-// The integer product of two signed words of 20 bits at scale s, reduced to 20 bits.
-pub fn multiply_integer(s: u32, a: u32, b: u32) -> u32
-    requires { (s < 4) × (a < 2 ^ 20) × (b < 2 ^ 20) }
-    ensures { result ≡ integer_product s a b }
-{
-    low20(multiplied(s, a, b) >> 2)
-}
-
-// The older text's integer product of two signed words of 20 bits at scale s, reduced to 20 bits.
-pub fn multiply_whole(s: u32, a: u32, b: u32) -> u32
-    requires { (s < 4) × (a < 2 ^ 20) × (b < 2 ^ 20) }
-    ensures { result ≡ whole_product s a b }
-{
-    low20(multiplied(s, a, b))
+    let z = multiplied(s, a, b);
+    match kind {
+        Product::Rounded => low20((z + 262144) >> 19),
+        Product::Integer => low20(z >> 2),
+        Product::Whole => low20(z),
+    }
 }
 
 // Whether a signed word of 20 bits is less than another.
@@ -59,7 +59,7 @@ pub fn less20(a: u32, b: u32) -> bool
     requires { (a < 2 ^ 20) × (b < 2 ^ 20) }
     ensures { result ≡ less a b }
 {
-    base_words::biased20(a) < base_words::biased20(b)
+    base_words::biased::<20>(a) < base_words::biased::<20>(b)
 }
 
 // Whether the exact product of two signed words of 20 bits is negative.
@@ -75,5 +75,5 @@ pub fn half20(b: u32) -> u32
     requires { b < 2 ^ 20 }
     ensures { result ≡ half b }
 {
-    base_words::biased20(b) / 2
+    base_words::biased::<20>(b) / 2
 }

@@ -4,6 +4,7 @@ use mathlib.Core.Path.{◌≡◌, refl, sym, ◌∙◌}
 use mathlib.Core.Logic.{◌≢◌}
 use mathlib.Core.Bool.{Bool, true, false, cond}
 use mathlib.Core.List.{[], ◌∷◌}
+use Rattle.std.specs.Prelude.{Option, None, Some}
 use Prim.Native.Nat.{ℕ, ◌≤◌, ◌<◌}
 use native.Mathlib.Omega.{arith}
 use borrow.Author.Tests.{eqb-true, eqb-false, eq-eqb, ne_eqb, leb-true, le-leb, lt-leb}
@@ -19,8 +20,11 @@ use Rattle.layout_modes.specs.Modes.{read_data}
 use Rattle.machine.specs.Questions.{question1, question2}
 use Rattle.machine.proofs.Asked.{machine-passes}
 use Rattle.pass_order.specs.Order.{question5, question6, question7, IsOrder, in_mode}
-use Rattle.compare_agreement.specs.Agreement.{settings_of}
+use Rattle.compare_agreement.specs.Agreement.{Settings, settings_of}
 use Rattle.compare_agreement.specs.Points.{Failing, first_point}
+use Rattle.compare_agreement.proofs.FirstPoint.{by-point}
+use Rattle.compare_first.specs.declared.Failing.{Failing as Found}
+use Rattle.compare_first.specs.Found.{found}
 use Rattle.base_fills.specs.Fills.{filled}
 use Rattle.parts_model.specs.Contents.{contents_for, item_for, items_for}
 use Rattle.compare_traces.specs.AsCoded.{Traceable}
@@ -28,6 +32,32 @@ use Rattle.compare.specs.Compare.{compare_refusal}
 use Rattle.compare.proofs.Answers.{compare-passes}
 use Rattle.compare.proofs.Asked.{is-comparable}
 use Rattle.parts.specs.Parts.{Parting, parts_refusal, parts_refused, shown, parts_of}
+
+-- What the first point's answer tells.
+pub record IsFound (p : Found) (f : Failing) : Type 0 where
+  pub is : f ≡ record { point = p.point; place = p.place; sounding = p.sounding }
+  pub named : p.point ≢ 0
+
+pub found_some : (f : Failing) {p : Found} → Some p ≡ found f → IsFound p f
+found_some f {p} e = go (eqb f.point 0) refl e
+  where
+    go : (b : Bool) → eqb f.point 0 ≡ b → Some p ≡ cond b None (Some (record { point = f.point; place = f.place; sounding = f.sounding })) → IsFound p f
+    go true q e = absurd (let z : ◌≡◌ {A = ℕ} 0 1 = cc in omega arith)
+    go false q e =
+        let i : p ≡ record { point = f.point; place = f.place; sounding = f.sounding } = cc in
+        record { is = rw i refl; named = rw i (eqb-false f.point 0 q) }
+
+found_none : (f : Failing) → ◌≡◌ {A = Option Found} None (found f) → f.point ≡ 0
+found_none f e = go (eqb f.point 0) refl e
+  where
+    go : (b : Bool) → eqb f.point 0 ≡ b → ◌≡◌ {A = Option Found} None (cond b None (Some (record { point = f.point; place = f.place; sounding = f.sounding }))) → f.point ≡ 0
+    go true q e = eqb-true f.point 0 q
+    go false q e = absurd (let z : ◌≡◌ {A = ℕ} 0 1 = cc in omega arith)
+
+-- Where no point fails no place is named.
+no_place : (s : Settings) (o₁ o₂ : Order) → (first_point s o₁ o₂).point ≡ 0 → (first_point s o₁ o₂).place ≡ 0
+no_place s o₁ o₂ =
+    by-point s o₁ o₂ (λ f. f.point ≡ 0 → f.place ≡ 0) (λ h e. absurd (omega arith)) (λ h e. absurd (omega arith)) (λ h e. absurd (omega arith)) (λ h e. absurd (omega arith)) (λ e. refl)
 
 module _ (text : Text) (m : Machine) (o₁ o₂ : Order) (contents : Machine) (items : Items) where
   -- The questions of a compare, then two more.
@@ -140,16 +170,21 @@ module _ (text : Text) (m : Machine) (o₁ o₂ : Order) (contents : Machine) (i
     unfolding parts_of
     says-refused h = rw (← is, ne_eqb number 0 h)
 
-    module _ (none : number ≡ 0) {f : Failing} (found : f ≡ first_point (settings_of text m) o₁ o₂) where
-      shown-is : shown text m f contents items ≡ parts_of text m o₁ o₂ contents items
-      shown-is = rw found (sym (parts-shown (sym is ∙ none)))
+    module _ (none : number ≡ 0) where
+      shown-is : shown text m (first_point (settings_of text m) o₁ o₂) contents items ≡ parts_of text m o₁ o₂ contents items
+      shown-is = sym (parts-shown (sym is ∙ none))
 
-      pub says-equal : f.point ≡ 0
-          → ◌≡◌ {A = Parting} (record { number = 0; point = f.point; place = f.place; contents = contents; items = items }) (parts_of text m o₁ o₂ contents items)
-      says-equal e = rw (← shown-is, e)
+      pub says-equal : ◌≡◌ {A = Option Found} None (found (first_point (settings_of text m) o₁ o₂))
+          → ◌≡◌ {A = Parting} (record { number = 0; point = 0; place = 0; contents = contents; items = items }) (parts_of text m o₁ o₂ contents items)
+      says-equal e =
+          let p = found_none (first_point (settings_of text m) o₁ o₂) e in
+          let q = no_place (settings_of text m) o₁ o₂ p in
+          rw (← shown-is, p, q)
 
-      pub says-parted : f.point ≢ 0 → {n : ℕ} → n ≡ in_mode text m read_data → {written : Machine} {listed : Items}
+      pub says-parted : {f : Found} → Some f ≡ found (first_point (settings_of text m) o₁ o₂) → {n : ℕ} → n ≡ in_mode text m read_data → {written : Machine} {listed : Items}
           → written ≡ contents_for text m f.point f.sounding → listed ≡ filled 0 1 n (item_for f.point f.sounding) items
           → ◌≡◌ {A = Parting} (record { number = 0; point = f.point; place = f.place; contents = written; items = listed }) (parts_of text m o₁ o₂ contents items)
       unfolding items_for
-      says-parted h en ew el = rw (← shown-is, ne_eqb f.point 0 h, ew, el, en)
+      says-parted {f} e en ew el =
+          let w = found_some (first_point (settings_of text m) o₁ o₂) e in
+          rw (← shown-is, w.is, ne_eqb f.point 0 w.named, ew, el, en)

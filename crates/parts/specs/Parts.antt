@@ -1,14 +1,17 @@
 -- The answer of the call that says what parts two orders (document 02, Q-8).
 -- Assumes nothing.
-use Rattle.std.specs.Prelude.{ℕ, cond, [], ◌∷◌, eqb}
+use Rattle.std.specs.Prelude.{ℕ, Option, None, Some, Result, Ok, Err, cond, [], ◌∷◌, eqb}
 use Rattle.layout.specs.Machine.{Machine, Order, Items, ticks_of}
 use Rattle.layout_texts.specs.declared.Text.{Text}
 use Rattle.base_questions.specs.Questions.{asked}
+use Rattle.base_questions.specs.declared.Refusal.{Refusal}
+use Rattle.base_questions.specs.Refusals.{number_of}
 use Rattle.machine.specs.Questions.{question1, question2}
 use Rattle.pass_order.specs.Order.{question5, question6, question7}
 use Rattle.compare_agreement.specs.Agreement.{settings_of}
 use Rattle.compare_agreement.specs.Points.{Failing, first_point}
 use Rattle.parts_model.specs.Contents.{contents_for, items_for}
+use Rattle.parts.specs.declared.Parted.{Parted}
 
 -- What the call answers: the number of the refusing question or 0; the first point that fails, 1 to 4, and the lowest place at which it fails, both 0 for equal orders
 -- and in a refusal; and what the run and the read list for the contents hold afterwards.
@@ -18,6 +21,12 @@ pub record Parting : Type 0 where
   pub place : ℕ
   pub contents : Machine
   pub items : Items
+
+-- What the call answers, as the number of the refusing question or 0 and the point or 0, beside what the run and the read list hold.
+abbrev pub parting_of : Result (Option Parted) Refusal → Machine → Items → Parting
+parting_of (Ok (Some p)) contents items = record { number = 0; point = p.point; place = p.place; contents = contents; items = items }
+parting_of (Ok None) contents items = record { number = 0; point = 0; place = 0; contents = contents; items = items }
+parting_of (Err refusal) contents items = record { number = number_of refusal; point = 0; place = 0; contents = contents; items = items }
 
 -- The questions of the call, in sequence: those of a compare, 1 of the run for the contents, and 7 of the read list, asked also where the orders are equal.
 unfoldable pub parts_refusal : Text → Machine → Order → Order → Machine → Items → ℕ

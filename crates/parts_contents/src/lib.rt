@@ -8,12 +8,22 @@ ghost use Rattle.parts_model.specs.Contents.{with_columns, inactive_modifiers, w
 
 use layout_texts::Text;
 
+// Copies a run into another of its length. By a loop: copy_from_slice would ask a host without a C library for memmove.
+fn copy(from: &[u32], run: &mut [u32])
+    requires { length run.old ≡ length from.now }
+    ensures { run.new ≡ from.now }
+{
+    for i in 0..from.len() {
+        run[i] = from[i];
+    }
+}
+
 // The machine, with every modifier inactive.
 fn inactive(m: &[u32], run: &mut [u32])
     requires { (length m.now ≡ machine_length) × (length run.old ≡ machine_length) }
     ensures { run.new ≡ inactive_modifiers m.now }
 {
-    base_fills::copy(m, run);
+    copy(m, run);
     base_fills::fill(
         run,
         layout::MODIFIERS_AT + layout::MMODE,

@@ -43,9 +43,7 @@ pub fn levels(text: Text, m: &[u32], s: usize, run: &mut [u32])
     requires { Reaches m.now × (length run.old ≡ machine_length) }
     ensures { run.new ≡ filled GL generator_words generators (sounding_level text m.now s) run.old }
 {
-    let mut g: usize = 0;
-    while g < layout::GENERATORS {
+    for g in 0..layout::GENERATORS {
         run[layout::GL + layout::GENERATOR_WORDS * g] = level(text, m, s, g);
-        g += 1;
     }
 }

@@ -8,7 +8,7 @@ ghost use Rattle.parts_shown.specs.Shown.{first_different, difference_shown};
 use layout_texts::Text;
 
 // By what two passes differ: a word of the machine, or an item of the written data.
-#[derive(Clone, Copy)]
+#[derive(Clone, Copy, PartialEq, Eq, Debug)]
 pub enum Difference {
     Word(usize),
     Written(usize),
@@ -18,20 +18,18 @@ pub enum Difference {
 fn first_different(first: &[u32], second: &[u32]) -> usize
     ensures { result ≡ first_different first.now second.now }
 {
-    let mut i: usize = 0;
-    while i < first.len() {
+    for i in 0..first.len() {
         if second.len() <= i {
             return i;
         }
         if first[i] != second[i] {
             return i;
         }
-        i += 1;
     }
-    i
+    first.len()
 }
 
-// A pass from contents by an order, over a delay memory of zeros: what it leaves of the machine and the places, and how many items it wrote.
+// A pass from contents by an order, over a delay memory of zeros: what it leaves of the machine and the places, and how many items it wrote, 0 where it is refused.
 fn pass_by(
     text: Text,
     contents: &[u32],
@@ -46,9 +44,11 @@ fn pass_by(
     ensures places_after { places.new ≡ (pass_of text contents.now (plain_call order.now items.now places.old)).places }
 {
     let mut memory = [0u32; layout::MEMORY_WORDS];
-    base_fills::copy(contents, m);
-    let done = pass::pass(text, m, order, items, places, &mut memory);
-    done.written
+    m.copy_from_slice(contents);
+    match pass::pass(text, m, order, items, places, &mut memory) {
+        Ok(passed) => passed.written,
+        Err(_) => 0,
+    }
 }
 
 // By what passes from contents by two orders differ: the first word of the machine, and where none does the first written item.

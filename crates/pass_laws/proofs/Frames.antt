@@ -102,7 +102,7 @@ module _ (of : Generators) (items : Items) (s : State) (g : ℕ) where
   step-triggered : length (step of items s g).triggered ≡ length s.triggered
   unfolding step
   step-triggered =
-      of-cond (λ (l : List ℕ). length l ≡ length s.triggered) (contribution_at of s g).triggers (length-set s.triggered g 1) refl
+      of-cond (λ (l : List Bool). length l ≡ length s.triggered) (contribution_at of s g).triggers (length-set s.triggered g true) refl
 
 -- Words apart from the four registers that the turn of g changes: those past the generators, those of another generator, and settings.
 pub apart-past : (g i : ℕ) → g < 256 → 2816 ≤ i → Apart i g

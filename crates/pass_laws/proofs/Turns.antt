@@ -53,31 +53,31 @@ turn-registers of items a b s g h reach behind =
     (registers-stay of items b (step of items t g) g u h behind (step-registers of items t g h (rw (steps-length of items a s) reach)))
 
 -- Who has triggered: a generator that is not taken has not, and one that is taken has if its turn triggers.
-step-triggered-other : (of : Generators) (items : Items) (s : State) (g k : ℕ) → k ≢ g → get_or (step of items s g).triggered k 0 ≡ get_or s.triggered k 0
+step-triggered-other : (of : Generators) (items : Items) (s : State) (g k : ℕ) → k ≢ g → get_or (step of items s g).triggered k false ≡ get_or s.triggered k false
 unfolding step
 step-triggered-other of items s g k n =
-    of-cond (λ (l : List ℕ). get_or l k 0 ≡ get_or s.triggered k 0) (contribution_at of s g).triggers (get_or-set_other s.triggered g k 1 0 n) refl
+    of-cond (λ (l : List Bool). get_or l k false ≡ get_or s.triggered k false) (contribution_at of s g).triggers (get_or-set_other s.triggered g k true false n) refl
 
 pub steps-triggered-other : (of : Generators) (items : Items) (order : Order) (s : State) (k : ℕ) → count k order ≡ 0
-    → get_or (steps of items s order).triggered k 0 ≡ get_or s.triggered k 0
+    → get_or (steps of items s order).triggered k false ≡ get_or s.triggered k false
 steps-triggered-other of items order s k n =
-    steps-keep of items (λ g. k ≢ g) (λ t. get_or t.triggered k 0 ≡ get_or s.triggered k 0)
+    steps-keep of items (λ g. k ≢ g) (λ t. get_or t.triggered k false ≡ get_or s.triggered k false)
     (λ t g c e. step-triggered-other of items t g k c ∙ e) order (not_there k order n) s refl
 
 step-triggered-own : (of : Generators) (items : Items) (s : State) (g : ℕ) → g < length s.triggered
-    → get_or (step of items s g).triggered g 0 ≡ cond (contribution_at of s g).triggers 1 (get_or s.triggered g 0)
+    → get_or (step of items s g).triggered g false ≡ cond (contribution_at of s g).triggers true (get_or s.triggered g false)
 unfolding step
 step-triggered-own of items s g l = go (contribution_at of s g).triggers
   where
-    go : (b : Bool) → get_or (cond b (set s.triggered g 1) s.triggered) g 0 ≡ cond b 1 (get_or s.triggered g 0)
-    go true = get_or-set_same s.triggered g 1 0 l
+    go : (b : Bool) → get_or (cond b (set s.triggered g true) s.triggered) g false ≡ cond b true (get_or s.triggered g false)
+    go true = get_or-set_same s.triggered g true false l
     go false = refl
 
 pub turn-triggered : (of : Generators) (items : Items) (a b : Order) (s : State) (g : ℕ) → g < length s.triggered → count g a ≡ 0 → count g b ≡ 0
-    → get_or (steps of items s (a ++ (g ∷ b))).triggered g 0 ≡ cond (contribution_at of (steps of items s a) g).triggers 1 (get_or s.triggered g 0)
+    → get_or (steps of items s (a ++ (g ∷ b))).triggered g false ≡ cond (contribution_at of (steps of items s a) g).triggers true (get_or s.triggered g false)
 unfolding steps
 turn-triggered of items a b s g l before behind =
-    ap (λ (t : State). get_or t.triggered g 0) (steps-append of items a (g ∷ b) s)
+    ap (λ (t : State). get_or t.triggered g false) (steps-append of items a (g ∷ b) s)
     ∙ steps-triggered-other of items b (step of items (steps of items s a) g) g behind
     ∙ step-triggered-own of items (steps of items s a) g (rw (steps-triggered of items a s) l)
     ∙ rw (steps-triggered-other of items a s g before)

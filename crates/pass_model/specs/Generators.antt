@@ -1,7 +1,6 @@
 -- The generators of a pass, taken in an order (document 01, "A generator" and "A pass, and two orders of it").
 -- Assumes nothing.
-use Rattle.std.specs.Prelude.{ℕ, suc, ◌-◌, ◌%◌, ◌^◌, Bool, cond, ◌&&◌, List, [], ◌∷◌, eqb, leb, get_or, set, drop}
-use Rattle.base_lists.specs.Lists.{zeros}
+use Rattle.std.specs.Prelude.{ℕ, suc, ◌-◌, ◌%◌, ◌^◌, Bool, true, false, cond, ◌&&◌, List, [], ◌∷◌, eqb, leb, get_or, set, drop, replicate}
 use Rattle.base_words.specs.Words.{sum}
 use Rattle.layout_modes.specs.Modes.{adds, replaces, write_data, write_dac}
 use Rattle.generator.specs.declared.Generator.{Generator}
@@ -84,18 +83,18 @@ generator_turn Old = turn_old
 abbrev pub generators_of : Text → Generators
 generators_of text = record { turn = generator_turn text; distance = distance_of text }
 
--- A pass under way: the machine's words, sum memory, a 1 for each generator that was taken and triggered, the places for written items, and how many items were read and written.
+-- A pass under way: the machine's words, sum memory, whether each generator was taken and triggered, the places for written items, and how many items were read and written.
 pub record State : Type 0 where
   pub words : Machine
   pub sums : Sums
-  pub triggered : List ℕ
+  pub triggered : List Bool
   pub places : Places
   pub reads : ℕ
   pub writes : ℕ
 
 -- Whether the lower neighbour of g was taken before and triggered. The lowest generators have none.
-unfoldable pub triggered_below : ℕ → List ℕ → ℕ → Bool
-triggered_below distance triggered g = leb distance g && eqb (get_or triggered (g - distance) 0) 1
+unfoldable pub triggered_below : ℕ → List Bool → ℕ → Bool
+triggered_below distance triggered g = leb distance g && get_or triggered (g - distance) false
 
 -- What is sent to a DAC is put there.
 unfoldable pub fed : Machine → Contribution → Machine
@@ -119,7 +118,7 @@ step of items s g =
     record {
       words = fed (stored s.words (generator_at g) b.unit) b;
       sums = summed s.sums b (get_or items s.reads 0);
-      triggered = cond b.triggers (set s.triggered g 1) s.triggered;
+      triggered = cond b.triggers (set s.triggered g true) s.triggered;
       places = cond b.writes (set s.places s.writes b.sends) s.places;
       reads = cond b.replaces (suc s.reads) s.reads;
       writes = cond b.writes (suc s.writes) s.writes;
@@ -133,7 +132,7 @@ steps of items s (g ∷ order) = steps of items (step of items s g) order
 -- A pass begins: nothing has triggered, been read or written.
 unfoldable pub begun : Machine → Sums → Places → State
 begun words sums places =
-    record { words = words; sums = sums; triggered = zeros 256; places = places; reads = 0; writes = 0 }
+    record { words = words; sums = sums; triggered = replicate 256 false; places = places; reads = 0; writes = 0 }
 
 -- What the generators leave: all of the state but who triggered, which acts in no later stage.
 pub record Taken : Type 0 where

@@ -10,32 +10,29 @@ use lib.ListN.{length, get_or, set, take, length-append}
 use lib.Seq.{take_all, take-append-le, set-get_or, set-set}
 use Rattle.pass_model.specs.Modifiers.{Write, with_write, with_writes, early_view, late_view, turn_seen, Stage, modifier_of, Held, modify, modified, modified_by}
 use Rattle.pass_model.proofs.Views.{writes-snoc, this-at, turn-set}
-use Rattle.pass_views.specs.AsCoded.{word_left, caught_up}
+use Rattle.pass_views.specs.declared.Written.{Written}
+use Rattle.pass_views.specs.AsCoded.{word_left, first_written, caught_up, unwritten}
 use Rattle.pass_modifiers.specs.AsCoded.{Lagging, lag_step, lagged}
 use Rattle.pass_modifiers.proofs.Ring.{Ring, oldest, ring-on, ring-start}
 use Rattle.layout_texts.specs.declared.Text.{Text}
 
+-- What a read past the ring's end would give.
+abbrev none : Written
+none = first_written 0
+
 -- Of each write MSUM, and the word that it left.
-abbrev msums_of : List Write → List ℕ
-msums_of [] = []
-msums_of (w ∷ ws) = w.msum ∷ msums_of ws
+abbrev written_of : List ℕ → List Write → List Written
+written_of q [] = []
+written_of q (w ∷ ws) = record { msum = w.msum; left = word_left q w } ∷ written_of (with_write q w) ws
 
-abbrev lefts_of : List ℕ → List Write → List ℕ
-lefts_of q [] = []
-lefts_of q (w ∷ ws) = word_left q w ∷ lefts_of (with_write q w) ws
-
-msums-snoc : (ws : List Write) (x : Write) → msums_of (ws ++ (x ∷ [])) ≡ msums_of ws ++ (x.msum ∷ [])
-msums-snoc [] x = refl
-msums-snoc (w ∷ ws) x = ap (λ (l : List ℕ). w.msum ∷ l) (msums-snoc ws x)
-
-lefts-snoc : (q : List ℕ) (ws : List Write) (x : Write) → lefts_of q (ws ++ (x ∷ [])) ≡ lefts_of q ws ++ (word_left (with_writes q ws) x ∷ [])
+written-snoc : (q : List ℕ) (ws : List Write) (x : Write) → written_of q (ws ++ (x ∷ [])) ≡ written_of q ws ++ (record { msum = x.msum; left = word_left (with_writes q ws) x } ∷ [])
 unfolding with_writes
-lefts-snoc q [] x = refl
-lefts-snoc q (w ∷ ws) x = ap (λ (l : List ℕ). word_left q w ∷ l) (lefts-snoc (with_write q w) ws x)
+written-snoc q [] x = refl
+written-snoc q (w ∷ ws) x = ap (λ (l : List Written). record { msum = w.msum; left = word_left q w } ∷ l) (written-snoc (with_write q w) ws x)
 
 -- A view goes on by write k where the word that it left is put at its place.
 write-next : (q : List ℕ) (ws : List Write) (k : ℕ) → k < length ws →
-    set (with_writes q (take k ws)) (get_or (msums_of ws) k 0 % 64) (get_or (lefts_of q ws) k 0) ≡ with_writes q (take (suc k) ws)
+    set (with_writes q (take k ws)) ((get_or (written_of q ws) k none).msum % 64) (get_or (written_of q ws) k none).left ≡ with_writes q (take (suc k) ws)
 unfolding with_writes with_write word_left
 write-next q [] k h = absurd (not-suc-le-zero h)
 write-next q (w ∷ ws) zero h = refl
@@ -46,16 +43,15 @@ same-many : (q : List ℕ) (ws : List Write) (a b : ℕ) → a ≡ b → with_wr
 same-many q ws a b e = rw e
 
 -- What the ring holds: four writes that change nothing, and those of the stage.
-abbrev ring_msums : List Write → List ℕ
-ring_msums ws = 0 ∷ 0 ∷ 0 ∷ 0 ∷ msums_of ws
-
-abbrev ring_lefts : List ℕ → List Write → List ℕ
-ring_lefts q ws = get_or q 0 0 ∷ get_or q 0 0 ∷ get_or q 0 0 ∷ get_or q 0 0 ∷ lefts_of q ws
+abbrev ring_of : List ℕ → List Write → List Written
+ring_of q ws =
+    let first = first_written (get_or q 0 0) in
+    first ∷ first ∷ first ∷ first ∷ written_of q ws
 
 -- By the oldest of the ring the view of n-4 writes becomes the early view of modifier n.
 module _ (q : List ℕ) (ws : List Write) where
   next-seen : (n : ℕ) → length ws ≡ n →
-      set (with_writes q (take (n - 4) ws)) (get_or (ring_msums ws) n 0 % 64) (get_or (ring_lefts q ws) n 0) ≡ with_writes q (take (n + 1 - 4) ws)
+      set (with_writes q (take (n - 4) ws)) ((get_or (ring_of q ws) n none).msum % 64) (get_or (ring_of q ws) n none).left ≡ with_writes q (take (n + 1 - 4) ws)
   unfolding with_writes
   next-seen zero h = set-get_or q 0 0
   next-seen (suc zero) h = set-get_or q 0 0
@@ -65,10 +61,10 @@ module _ (q : List ℕ) (ws : List Write) where
       rw (same-many q ws (suc (suc (suc (suc k))) - 4) k (omega arith))
       (write-next q ws k (omega arith) ∙ same-many q ws (suc k) (suc (suc (suc (suc k))) + 1 - 4) (omega arith))
 
-  caught : (n : ℕ) (msums lefts : List ℕ) → length ws ≡ n → Ring msums (ring_msums ws) n → Ring lefts (ring_lefts q ws) n
-      → caught_up (with_writes q (take (n - 4) ws)) msums lefts (n % 4) ≡ early_view q n ws
+  caught : (n : ℕ) (writes : List Written) → length ws ≡ n → Ring none writes (ring_of q ws) n
+      → caught_up (with_writes q (take (n - 4) ws)) writes (n % 4) ≡ early_view q n ws
   unfolding caught_up early_view
-  caught n msums lefts h rm rl = rw (oldest msums (ring_msums ws) n rm, oldest lefts (ring_lefts q ws) n rl) (next-seen n h)
+  caught n writes h r = rw (oldest none writes (ring_of q ws) n r) (next-seen n h)
 
   -- With one write more it is the view of as many writes less one.
   early-before : (n : ℕ) (x : Write) → length ws ≡ n → early_view q n ws ≡ with_writes q (take (suc n - 4) (ws ++ (x ∷ [])))
@@ -84,10 +80,9 @@ module _ (q : List ℕ) (ws : List Write) where
 record Bridge (s : List (List ℕ)) (v : Lagging) (w : Stage) (n : ℕ) : Type 0 where
   same-held : v.held ≡ w.held
   same-sums : v.sums ≡ set s 2 (with_writes (get_or s 2 []) w.writes)
-  same-early : v.early ≡ with_writes (get_or s 2 []) (take (n - 4) w.writes)
+  same-early : v.lag.early ≡ with_writes (get_or s 2 []) (take (n - 4) w.writes)
   count : length w.writes ≡ n
-  same-msums : Ring v.msums (ring_msums w.writes) n
-  same-lefts : Ring v.lefts (ring_lefts (get_or s 2 []) w.writes) n
+  same-ring : Ring none v.lag.writes (ring_of (get_or s 2 []) w.writes) n
 
 bridge-on : (text : Text) (t : ℕ) (s : List (List ℕ)) (v : Lagging) (w : Stage) (n : ℕ) → Bridge s v w n → Bridge s (lag_step text t v n) (modify text t s w n) (suc n)
 unfolding lag_step modify
@@ -96,32 +91,30 @@ bridge-on text t s v w n b =
     let l = with_writes q w.writes in
     let e = early_view q n w.writes in
     let this : get_or v.sums 2 [] ≡ l = rw b.same-sums (this-at s w.writes) in
-    let early : caught_up v.early v.msums v.lefts (n % 4) ≡ e
-    = rw b.same-early (caught q w.writes n v.msums v.lefts b.count b.same-msums b.same-lefts) in
+    let early : caught_up v.lag.early v.lag.writes (n % 4) ≡ e
+    = rw b.same-early (caught q w.writes n v.lag.writes b.count b.same-ring) in
     let words = w.held.words in
     let u = modifier_of words n in
     let done = turn_seen text t words s e (late_view q n w.writes) u in
     let x : Write = record { msum = u.msum; s = done.s } in
-    let turn : turn_seen text t v.held.words v.sums (caught_up v.early v.msums v.lefts (n % 4)) (get_or v.sums 2 []) (modifier_of v.held.words n) ≡ done
+    let turn : turn_seen text t v.held.words v.sums (caught_up v.lag.early v.lag.writes (n % 4)) (get_or v.sums 2 []) (modifier_of v.held.words n) ≡ done
     = rw (early, this, b.same-sums, b.same-held, late-all q w.writes n b.count) (turn-set text t words s l e l u) in
     record {
       same-held = rw (turn, b.same-held);
       same-sums = rw (turn, this, b.same-sums, b.same-held, set-set s 2 l (with_write l x), writes-snoc q w.writes x);
       same-early = rw early (early-before q w.writes n x b.count);
       count = omega (arith, length-append w.writes (x ∷ []), b.count);
-      same-msums = rw (b.same-held, msums-snoc w.writes x) (ring-on v.msums (ring_msums w.writes) n x.msum b.same-msums);
-      same-lefts = rw (turn, this, b.same-held, lefts-snoc q w.writes x) (ring-on v.lefts (ring_lefts q w.writes) n (word_left l x) b.same-lefts);
+      same-ring = rw (turn, this, b.same-held, written-snoc q w.writes x) (ring-on none v.lag.writes (ring_of q w.writes) n (record { msum = x.msum; left = word_left l x }) b.same-ring);
     }
 
 bridge : (text : Text) (t : ℕ) (h : Held) (s : List (List ℕ)) (n : ℕ) → Bridge s (lagged text t h s n) (modified text t h s n) n
-unfolding lagged modified with_writes
+unfolding lagged modified with_writes unwritten
 bridge text t h s zero = record {
   same-held = refl;
   same-sums = sym (set-get_or s 2 []);
   same-early = refl;
   count = refl;
-  same-msums = ring-start 0 0 0 0;
-  same-lefts = ring-start _ _ _ _;
+  same-ring = ring-start none _ _ _ _;
 }
 bridge text t h s (suc n) = bridge-on text t s (lagged text t h s n) (modified text t h s n) n (bridge text t h s n)
 

@@ -13,7 +13,7 @@ ghost use Rattle.pass_modifiers.specs.AsCoded.{lag_step};
 use layout_texts::Text;
 use modifier::Modifier;
 use pass_sums::{Quadrant, Sums};
-use pass_views::Ring;
+use pass_views::{Lag, Written};
 
 // Modifier k, which invokes no delay unit, is taken; the answer is S.
 fn plain(text: Text, m: &mut [u32], s: &Sums, early: &Quadrant, k: usize, u: Modifier) -> u32
@@ -69,23 +69,20 @@ fn step(
     m: &mut [u32],
     s: &mut Sums,
     memory: &mut [u32],
-    early: &mut Quadrant,
-    msums: &mut Ring,
-    lefts: &mut Ring,
+    lag: &mut Lag,
     t: usize,
     k: usize,
 )
     requires reaches { Reaches m.old }
     requires k_bound { k < 128 }
-    ensures { record { held = record { words = m.new; memory = memory.new }; sums = s.new; early = early.new; msums = msums.new; lefts = lefts.new } ≡ lag_step text t (record { held = record { words = m.old; memory = memory.old }; sums = s.old; early = early.old; msums = msums.old; lefts = lefts.old }) k }
+    ensures { record { held = record { words = m.new; memory = memory.new }; sums = s.new; lag = lag.new } ≡ lag_step text t (record { held = record { words = m.old; memory = memory.old }; sums = s.old; lag = lag.old }) k }
 {
     let j = k % 4;
-    pass_views::catch_up(early, msums, lefts, j);
+    lag.catch_up(j);
     let u = pass_registers::modifier_at(m, k);
-    let value = taken(text, m, s, memory, early, t, k, u);
+    let value = taken(text, m, s, memory, &lag.early, t, k, u);
     let left = pass_views::put(s, u.msum, value);
-    msums[j] = u.msum;
-    lefts[j] = left;
+    lag.writes[j] = Written { msum: u.msum, left };
 }
 
 // Modifiers 0 to n-1 are taken in a pass of t processing ticks, on the machine's words, on modifier-this in sum memory and on delay memory.
@@ -94,13 +91,8 @@ pub fn modifiers(text: Text, m: &mut [u32], s: &mut Sums, memory: &mut [u32], t:
     requires n_bound { n ≤ 128 }
     ensures { (record { words = m.new; memory = memory.new } ≡ (modified_by text t (record { words = m.old; memory = memory.old }) s.old n).held) × (s.new ≡ set s.old modifier_this (modified_by text t (record { words = m.old; memory = memory.old }) s.old n).this) }
 {
-    let mut early = s[pass_sums::MODIFIER_THIS];
-    let first = early[0];
-    let mut msums = [0u32; 4];
-    let mut lefts = [first, first, first, first];
-    let mut k: usize = 0;
-    while k < n {
-        step(text, m, s, memory, &mut early, &mut msums, &mut lefts, t, k);
-        k += 1;
+    let mut lag = Lag::new(&s[pass_sums::MODIFIER_THIS]);
+    for k in 0..n {
+        step(text, m, s, memory, &mut lag, t, k);
     }
 }

@@ -1,4 +1,3 @@
 pub mod Blocks
-pub mod Copies
 pub mod Memory
 pub mod Closing

@@ -12,7 +12,7 @@ pub type Quadrant = [u32; layout::QUADRANT_WORDS];
 
 pub type Sums = [Quadrant; layout::QUADRANTS];
 
-// A mark for each word of generator-this: 1 where a signed sum in it left its range in a pass, else 0.
+// A mark for each word of generator-this: 1 where a signed sum in it left its range in a pass, else 0. The marks are bytes, and not bools, for the C interface, which hands them out.
 pub type Clipped = [u8; layout::QUADRANT_WORDS];
 
 pub const GENERATOR_THIS: usize = 0;
@@ -58,9 +58,9 @@ pub fn add(s: &mut Sums, gsum: u32, p: u32) -> bool
 {
     let i = (gsum % 64) as usize;
     let word = quadrant_word(s, GENERATOR_THIS, i);
-    let sum = base_words::add20(word, p);
+    let sum = base_words::add::<20>(word, p);
     s[GENERATOR_THIS][i] = sum;
-    base_words::leaves20(word, p)
+    base_words::leaves_range::<20>(word, p)
 }
 
 // Generator-this word gsum is replaced.
@@ -72,26 +72,14 @@ pub fn replace(s: &mut Sums, gsum: u32, v: u32)
     s[GENERATOR_THIS][i] = v;
 }
 
-// The 64 words that a part of the machine starts with.
-fn quadrant(m: &[u32]) -> Quadrant
-    requires { 64 ≤ length m.now }
-    ensures { result ≡ take 64 m.now }
-{
-    let mut w = [0u32; layout::QUADRANT_WORDS];
-    let mut i: usize = 0;
-    while i < layout::QUADRANT_WORDS {
-        w[i] = m[i];
-        i += 1;
-    }
-    w
-}
-
 // The 64 words of the machine from a place on.
-fn quadrant_at(m: &[u32], at: usize) -> Quadrant
+fn quadrant(m: &[u32], at: usize) -> Quadrant
     requires { at + 64 ≤ length m.now }
     ensures { result ≡ take 64 (drop at m.now) }
 {
-    quadrant(&m[at..])
+    let mut words = [0u32; layout::QUADRANT_WORDS];
+    words.copy_from_slice(&m[at..at + layout::QUADRANT_WORDS]);
+    words
 }
 
 // The sum memory of a machine.
@@ -99,31 +87,19 @@ pub fn load(m: &[u32]) -> Sums
     requires { Reaches m.now }
     ensures { result ≡ sums_of m.now }
 {
-    let generator_this = quadrant_at(m, layout::GENERATOR_THIS_AT);
-    let generator_last = quadrant_at(m, layout::GENERATOR_LAST_AT);
-    let modifier_this = quadrant_at(m, layout::MODIFIER_THIS_AT);
-    let modifier_last = quadrant_at(m, layout::MODIFIER_LAST_AT);
+    let generator_this = quadrant(m, layout::GENERATOR_THIS_AT);
+    let generator_last = quadrant(m, layout::GENERATOR_LAST_AT);
+    let modifier_this = quadrant(m, layout::MODIFIER_THIS_AT);
+    let modifier_last = quadrant(m, layout::MODIFIER_LAST_AT);
     [generator_this, generator_last, modifier_this, modifier_last]
 }
 
-// A quadrant is written at the start of a part of the machine.
-fn put_quadrant(m: &mut [u32], w: &[u32])
-    requires { (64 ≤ length m.old) × (length w.now ≡ 64) }
-    ensures { m.new ≡ sets m.old 0 w.now }
-{
-    let mut k: usize = 0;
-    while k < layout::QUADRANT_WORDS {
-        m[k] = w[k];
-        k += 1;
-    }
-}
-
 // A quadrant is written from a place of the machine on.
-fn put_quadrant_at(m: &mut [u32], at: usize, w: &Quadrant)
+fn put_quadrant(m: &mut [u32], at: usize, words: &Quadrant)
     requires { at + 64 ≤ length m.old }
-    ensures { m.new ≡ sets m.old at w.now }
+    ensures { m.new ≡ sets m.old at words.now }
 {
-    put_quadrant(&mut m[at..], w);
+    m[at..at + layout::QUADRANT_WORDS].copy_from_slice(words);
 }
 
 // The end of a pass: both this-pass quadrants are copied to last, and cleared.
@@ -132,8 +108,8 @@ pub fn close(m: &mut [u32], s: &Sums)
     ensures { m.new ≡ closed m.old s.now }
 {
     let zeros = [0u32; layout::QUADRANT_WORDS];
-    put_quadrant_at(m, layout::GENERATOR_THIS_AT, &zeros);
-    put_quadrant_at(m, layout::GENERATOR_LAST_AT, &s[GENERATOR_THIS]);
-    put_quadrant_at(m, layout::MODIFIER_THIS_AT, &zeros);
-    put_quadrant_at(m, layout::MODIFIER_LAST_AT, &s[MODIFIER_THIS]);
+    put_quadrant(m, layout::GENERATOR_THIS_AT, &zeros);
+    put_quadrant(m, layout::GENERATOR_LAST_AT, &s[GENERATOR_THIS]);
+    put_quadrant(m, layout::MODIFIER_THIS_AT, &zeros);
+    put_quadrant(m, layout::MODIFIER_LAST_AT, &s[MODIFIER_THIS]);
 }

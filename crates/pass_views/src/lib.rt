@@ -6,27 +6,63 @@ ghost use Rattle.base_words.specs.Words.{Word};
 ghost use Rattle.modifier.specs.Modifier.{Ranged};
 ghost use Rattle.pass_sums.specs.Sums.{modifier_this};
 ghost use Rattle.pass_model.specs.Modifiers.{with_write, modifier_turn, modifier_reads_late, seen};
-ghost use Rattle.pass_views.specs.AsCoded.{turn_with_b, word_left, caught_up};
+ghost use Rattle.pass_views.specs.AsCoded.{turn_with_b, word_left, unwritten, caught_up};
 
 use layout_texts::Text;
 use modifier::{Modifier, Turned};
 use pass_sums::{Quadrant, Sums};
 
-// One of the last four writes in each slot: its MSUM, or the word that it left.
-pub type Ring = [u32; 4];
+// A modifier's write: its MSUM, and the word that it left in modifier-this.
+#[derive(Clone, Copy, PartialEq, Eq)]
+pub struct Written {
+    pub msum: u32,
+    pub left: u32,
+}
+
+// The early view of modifier-this, and the last four writes, that of modifier k in slot k mod 4.
+#[derive(Drop)]
+pub struct Lag {
+    pub early: Quadrant,
+    pub writes: [Written; 4],
+}
+
+impl Lag {
+    // As the stage begins, by modifier-this: four writes that change nothing, word 0 as it is.
+    #[tactic(auto, unfolding(crate::specs::AsCoded::unwritten))]
+    pub fn new(this: &Quadrant) -> Lag
+        ensures { result ≡ unwritten this.now }
+    {
+        let first = Written {
+            msum: 0,
+            left: this[0],
+        };
+        Lag {
+            early: *this,
+            writes: [first; 4],
+        }
+    }
+
+    // The write in slot j goes into the early view, as the word that it left in modifier-this.
+    pub fn catch_up(&mut self, j: usize)
+        requires { j < 4 }
+        ensures { self.new ≡ record { early = caught_up self.old.early self.old.writes j; writes = self.old.writes } }
+    {
+        let write = self.writes[j];
+        let i = (write.msum % 64) as usize;
+        self.early[i] = write.left;
+    }
+}
 
 // The word that MIN or MRM names, with a view of modifier-this.
 pub fn look(s: &Sums, view: &Quadrant, address: u32) -> u32
     ensures { Word (seen s.now view.now address) result }
 {
     let i = (address % 64) as usize;
-    if address / 64 == 0 {
-        return pass_sums::quadrant_word(s, pass_sums::GENERATOR_LAST, i);
+    match address / 64 {
+        0b00 => pass_sums::quadrant_word(s, pass_sums::GENERATOR_LAST, i),
+        0b01 => pass_sums::quadrant_word(s, pass_sums::MODIFIER_LAST, i),
+        _ => pass_sums::word_at(view, i),
     }
-    if address / 64 == 1 {
-        return pass_sums::quadrant_word(s, pass_sums::MODIFIER_LAST, i);
-    }
-    pass_sums::word_at(view, i)
 }
 
 // Whether a function reads A late, by a text.
@@ -72,7 +108,7 @@ pub fn put(s: &mut Sums, msum: u32, value: u32) -> u32
 {
     let i = (msum % 64) as usize;
     if msum / 64 == 0 {
-        let v = base_words::add20(
+        let v = base_words::add::<20>(
             pass_sums::quadrant_word(s, pass_sums::MODIFIER_THIS, i),
             value,
         );
@@ -81,13 +117,4 @@ pub fn put(s: &mut Sums, msum: u32, value: u32) -> u32
     }
     s[pass_sums::MODIFIER_THIS][i] = value;
     value
-}
-
-// The write in slot j goes into the early view, as the word that it left in modifier-this.
-pub fn catch_up(early: &mut Quadrant, msums: &Ring, lefts: &Ring, j: usize)
-    requires { j < 4 }
-    ensures { early.new ≡ caught_up early.old msums.now lefts.now j }
-{
-    let i = (msums[j] % 64) as usize;
-    early[i] = lefts[j];
 }

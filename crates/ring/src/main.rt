@@ -3,123 +3,76 @@
 // A read or a write that fails, and a second argument, end it with a line on standard error.
 #![tactic(auto)]
 
-ghost use Rattle.std.specs.Prelude.{◌≡◌};
-ghost use Rattle.ring_pass.specs.BenchPass.{ordering_of};
+ghost use Rattle.std.specs.Prelude.{◌≡◌, IfOk};
+ghost use Rattle.ring_pass.specs.Benches.{ordering_in};
 ghost use Rattle.ring_steps.specs.AsCoded.{ringing_at};
 ghost use Rattle.ring_steps.specs.declared.Output.TheVariants.{Lines};
 ghost use Rattle.ring_gathering.specs.AsCoded.{gathered};
 
-use layout_texts::Text;
 use ring_order::By;
+use ring_pass::{Bench, Numbers, Tables};
 use ring_steps::{Output, Progress};
+use std::io;
 
-// The buffer for lines that are printed together.
-const OUTPUT_BYTES: usize = 65536;
+// The buffer for lines that are printed together. With the files, the machine, its memory and the tables it has room in a stack of 512 kB.
+const OUTPUT_BYTES: usize = 49152;
 
-// What is left to ring after a part, and whether the part was written.
-#[derive(Clone, Copy)]
-struct Part {
-    next: Progress,
-    written: bool,
-}
-
-// Rings as many passes as the buffer has room for, and prints them; says whether they were written.
+// Rings as many passes as the buffer has room for, and prints them; answers what is left to ring.
 fn ring_part(
     rt: HostRuntime,
-    text: Text,
+    bench: Bench,
     at: Progress,
     m: &mut [u32],
-    commands: &[u32],
     memory: &mut [u32],
-    given: bool,
-    order: &[u32],
-) -> Part
-    ensures { ringing_at result.next m.new memory.new commands.now ≡ (gathered text (ordering_of given order.now) Lines 65536 (ringing_at at m.old memory.old commands.now)).next }
+) -> io::Result<Progress>
+    ensures { IfOk result (λ next. ringing_at next m.new memory.new bench.entry.commands.now ≡ (gathered bench.entry.text (ordering_in bench.entry) Lines 49152 (ringing_at at m.old memory.old bench.entry.commands.now)).next) }
 {
     let mut out = [0u8; OUTPUT_BYTES];
-    let next = ring_gathering::gather(
-        text,
-        Output::Lines,
-        at,
-        m,
-        commands,
-        memory,
-        given,
-        order,
-        &mut out,
-    );
-    let length = next.length;
-    let written = rt.write_all(&out[0..length]).is_ok();
-    Part { next, written }
+    let next = ring_gathering::gather(bench, Output::Lines, at, m, memory, &mut out);
+    rt.write_all(&out[..next.length])?;
+    Ok(next)
 }
 
-// Rings until no pass is left or a write fails; says whether all was written.
+// Rings until no pass is left or a write fails.
 fn ring_all(
     rt: HostRuntime,
-    text: Text,
+    bench: Bench,
     start: Progress,
     m: &mut [u32],
-    commands: &[u32],
     memory: &mut [u32],
-    given: bool,
-    order: &[u32],
-) -> bool {
+) -> io::Result<()> {
     let mut at = start;
     while at.passes != 0 {
-        let part = ring_part(rt, text, at, m, commands, memory, given, order);
-        if !part.written {
-            return false;
-        }
-        let next = part.next;
-        at = next;
+        at = ring_part(rt, bench, at, m, memory)?;
     }
-    true
+    Ok(())
 }
 
-// Rings a file from its beginning, or prints what is refused; says whether all was written.
-fn ring(rt: HostRuntime, file: &[u8], by: By, listing: &[u8]) -> bool {
+// Rings a file from its beginning, or prints what is refused.
+fn ring(rt: HostRuntime, file: &[u8], by: By, listing: &[u8]) -> io::Result<()> {
     let mut m = [0u32; layout::MACHINE_LENGTH];
     let mut room = [0u32; file_bench::COMMAND_PLACES];
     let mut memory = [0u32; layout::MEMORY_WORDS];
-    let start = ring_begin::begin(file, by, listing, &mut m, &mut room, &mut memory);
-    let length = start.length;
-    let line = start.line;
-    if length != 0 {
-        return rt.write_all(&line[0..length]).is_ok();
-    }
-    let text = start.text;
-    let at = start.at;
-    let count = start.count;
-    let given = start.given;
-    let entries = start.entries;
-    let order = start.order;
-    ring_all(
-        rt,
-        text,
-        at,
-        &mut m,
-        &room[0..count],
-        &mut memory,
-        given,
-        &order[0..entries],
-    )
+    let start = match ring_begin::begin(file, by, listing, &mut m, &mut room, &mut memory) {
+        Ok(start) => start,
+        Err(line) => return rt.write_all(line.bytes()),
+    };
+    let bench = Bench {
+        text: start.text,
+        commands: &room[..start.count],
+        order: start.order(),
+        numbers: &Numbers::new(),
+        tables: &Tables::new(),
+    };
+    let at = Progress {
+        passes: start.passes,
+        taken: 0,
+        length: 0,
+        end: Ok(()),
+    };
+    ring_all(rt, bench, at, &mut m, &mut memory)
 }
 
 fn main(rt: HostRuntime) {
-    let mut order = [0u8; ring_streams::FILE_ROOM];
-    let request = ring_streams::read_arguments(rt, b"ring", &mut order);
-    if !request.good {
-        return;
-    }
-    let by = request.by;
-    let length = request.length;
-    let mut file = [0u8; ring_streams::FILE_ROOM];
-    let read = ring_streams::read_bench(rt, b"ring", &mut file);
-    if !read.good {
-        return;
-    }
-    let n = read.length;
-    if !ring(rt, &file[..n], by, &order[..length]) {
-        ring_streams::complain(rt, b"ring", b": cannot write\n");
-    }
+    ring_streams::run(rt, b"ring", |file, by, listing| ring(rt, file, by, listing));
 }

@@ -9,7 +9,6 @@ use native.Mathlib.Omega.{arith}
 use borrow.Author.Tests.{eqb-true, eqb-false, eq-eqb, ne_eqb}
 use lib.Dec.{eqb}
 use lib.ListN.{length, take, length-append}
-use lib.Seq.{sets, length-sets}
 use Rattle.base_lists.specs.Lists.{zeros}
 use Rattle.base_lists.proofs.Zeros.{zeros-length}
 use Rattle.layout.specs.Layout.{generators}
@@ -19,6 +18,13 @@ use Rattle.base_questions.specs.Questions.{asked}
 use Rattle.machine.specs.Questions.{question1, question2}
 use Rattle.pass_model.proofs.Asked.{few-ticks}
 use Rattle.file_bytes.proofs.Puts.{first_part}
+use Rattle.std.specs.Prelude.{Option, option_map}
+use Rattle.layout.specs.Layout.{memory_words}
+use Rattle.file_order.specs.declared.Entries.{Entries}
+use Rattle.ring_pass.specs.BenchPass.{ordering_of}
+use Rattle.ring_order.specs.Filled.{filled_part, InRoom}
+use Rattle.ring_begin.specs.Begun.{Begins}
+use lib.ListN.{replicate}
 use Rattle.file_printed.specs.Text.{line_bytes, named, newline, refused_text, order_refused_text, refusal_line, order_refusal_line}
 use Rattle.file_printed.proofs.Lines.{refusal-line-length, order-refusal-line-length}
 use Rattle.file_bench.specs.BenchFile.{file_of, text_of, file_refusal, command_places, BenchAnswer, read_of}
@@ -35,8 +41,8 @@ use Rattle.ring_steps.proofs.Printing.{lines-given}
 use Rattle.ring_steps.proofs.RungFile.{read-within}
 use Rattle.ring_gathering.specs.AsCoded.{printed_by}
 use Rattle.ring_gathering.proofs.Gatherings.{gatherings-are-given}
-use Rattle.ring_begin.specs.AsCoded.{refusals_line, refused_line, printed_on}
-use Rattle.ring_begin.proofs.Clearing.{line_first, line_second, line-none}
+use Rattle.ring_begin.specs.AsCoded.{refusals_line, refused_line}
+use Rattle.ring_begin.proofs.Refused.{line_first, line_second, line-none}
 use Rattle.ring_begin.proofs.AnyOrdering.{any-ordering}
 
 -- The line of a refusal is never empty, and fits its buffer.
@@ -67,15 +73,6 @@ module _ (number other : ℕ) where
   pub none-refused : length line ≡ 0 → (number ≡ 0) × (other ≡ 0)
   none-refused =
       by-numbers (λ l. length l ≡ 0 → (number ≡ 0) × (other ≡ 0)) (λ h e. absurd (some-line number e)) (λ z h e. absurd (some-order-line other e)) (λ z y e. (z, y))
-
--- What is printed where something is refused, and where nothing is.
-printed-refused : (size : ℕ) (line : List ℕ) (text : Text) (by : Ordering) (r : Ringing) → length line ≢ 0 → printed_on size line text by r ≡ line
-unfolding printed_on
-printed-refused size line text by r h = rw (ne_eqb (length line) 0 h)
-
-printed-on : (size : ℕ) (text : Text) (by : Ordering) (r : Ringing) → printed_on size [] text by r ≡ printed_by text by Lines size r.passes r
-unfolding printed_on
-printed-on size text by r = refl
 
 -- An ordering that is another one where T is in its range is so heard.
 pub heard-alike : (text : Text) (by₁ by₂ : Ordering) (n : ℕ) (m : Machine) (memory : Memory) (commands : Commands) → (ticks_of m ≤ generators → by₁ ≡ by₂)
@@ -134,74 +131,103 @@ module _ (by : By) (order_file file : List ℕ) where
           (subst Asked (read-machine z) same)
 
       -- So is what is printed from there.
-      pub printed-output : (size : ℕ) → line_bytes ≤ size → (order_refusal by order_file ≡ 0 → Asked (read_of file m room).machine)
-          → printed_on size (refused_line by order_file file) (read_of file m room).text used (ringing_begun (read_of file m room)) ≡ output_of by order_file file
-      printed-output size h same =
-          let text = (read_of file m room).text in
+      pub printed-lines : (size : ℕ) → line_bytes ≤ size → file_refusal file ≡ 0 → order_refusal by order_file ≡ 0 → Asked (read_of file m room).machine → let r = ringing_begun (read_of file m room) in
+          printed_by (read_of file m room).text used Lines size r.passes r ≡ output_of by order_file file
+      printed-lines size h z y same =
           let r = ringing_begun (read_of file m room) in
-          by-numbers (file_refusal file) (order_refusal by order_file) (λ line. printed_on size line text used r ≡ output_of by order_file file)
-          (λ n. printed-refused size (refusal_line (file_refusal file)) text used r (some-line (file_refusal file)) ∙ sym (output-refused n))
-          (λ z n. printed-refused size (order_refusal_line (order_refusal by order_file)) text used r (some-order-line (order_refusal by order_file)) ∙ sym (output-other z n))
-          (λ z y.
-          printed-on size text used r
-          ∙ gatherings-are-given text used Lines size r.passes r h (omega arith)
-          ∙ lines-given (heard text used r.passes r.machine r.memory r.commands)
-          ∙ ap lines_heard (heard-begun (same y) z)
-          ∙ sym (output-lines z y))
+          gatherings-are-given (read_of file m room).text used Lines size r.passes r h (omega arith)
+          ∙ lines-given (heard (read_of file m room).text used r.passes r.machine r.memory r.commands)
+          ∙ ap lines_heard (heard-begun same z)
+          ∙ sym (output-lines z y)
 
--- What a beginning promises, by what was read, cleared, filled and put.
-module _ (by : By) (order_file file m line : List ℕ) {room : List ℕ} (ez : room ≡ zeros command_places) (long : length line ≡ line_bytes)
-    {number : ℕ} {text : Text} {passes count : ℕ} {m' room' : List ℕ}
-    (read : record { number = number; text = text; passes = passes; count = count; machine = m'; room = room' } ≡ read_of file m room)
-    {memory' : List ℕ} (cleared : memory' ≡ memory_at_first)
-    {other entries : ℕ} (order : List ℕ) {used : Ordering} (filled : (other ≡ order_refusal by order_file) × (entries ≤ length order))
-    (same : other ≡ 0 → ticks_of m' ≤ generators → used ≡ ordering_by by order_file m')
-    {size : ℕ} {line' : List ℕ} (put : (size ≡ length (refusals_line number other)) × (line' ≡ sets line 0 (refusals_line number other))) where
-  abbrev ringing : Ringing
-  ringing = record { passes = passes; machine = m'; memory = memory'; commands = take count room'; number = 0 }
+-- What a beginning promises, by what reading the bench file answers and leaves.
+module _ (by : By) (order_file file m : List ℕ) where
+  abbrev answer : BenchAnswer
+  answer = read_of file m (zeros command_places)
 
-  as_read : record { number = number; text = text; passes = passes; count = count; machine = m'; room = room' } ≡ read_of file m (zeros command_places)
-  as_read = read ∙ ap (λ (z : List ℕ). read_of file m z) ez
+  abbrev other : ℕ
+  other = order_refusal by order_file
 
-  line-is : refusals_line number other ≡ refused_line by order_file file
-  line-is = ap (λ (n : ℕ). refusals_line n other) (ap (λ (a : BenchAnswer). a.number) as_read ∙ read_number file m (zeros command_places)) ∙ ap (refusals_line (file_refusal file)) filled.0
+  told : answer.number ≡ file_refusal file
+  told = read_number file m (zeros command_places)
 
-  ringing-is : ringing ≡ ringing_begun (read_of file m (zeros command_places))
-  ringing-is = ap (λ (y : Memory). record { passes = passes; machine = m'; memory = y; commands = take count room'; number = 0 }) cleared ∙ ap ringing_begun as_read
+  module _ {number : ℕ} {text : Text} {passes count : ℕ} {m' room room' : List ℕ} (cleared : room ≡ zeros command_places)
+      (read : record { number = number; text = text; passes = passes; count = count; machine = m'; room = room' } ≡ read_of file m room) where
+    as_read : record { number = number; text = text; passes = passes; count = count; machine = m'; room = room' } ≡ answer
+    as_read = read ∙ ap (read_of file m) cleared
 
-  text-is : text ≡ (read_of file m (zeros command_places)).text
-  text-is = ap (λ (a : BenchAnswer). a.text) as_read
+    pub machine-read : m' ≡ answer.machine
+    machine-read = ap (λ (a : BenchAnswer). a.machine) as_read
 
-  machine-is : m' ≡ (read_of file m (zeros command_places)).machine
-  machine-is = ap (λ (a : BenchAnswer). a.machine) as_read
+    pub room-read : room' ≡ answer.room
+    room-read = ap (λ (a : BenchAnswer). a.room) as_read
 
-  line_read : take size line' ≡ refused_line by order_file file
-  line_read =
-      let fits : length (refusals_line number other) ≤ length line = omega (arith, long, line-fits number other) in
-      rw (put.0, put.1) (first_part (refusals_line number other) line fits ∙ line-is)
+    number-read : number ≡ file_refusal file
+    number-read = ap (λ (a : BenchAnswer). a.number) as_read ∙ told
 
-  output-is : (room-size : ℕ) → line_bytes ≤ room-size → printed_on room-size (take size line') text used ringing ≡ output_of by order_file file
-  output-is n h =
-      let asked-for = subst (λ (k : Machine). other ≡ 0 → ticks_of k ≤ generators → used ≡ ordering_by by order_file k) machine-is same in
-      ap (λ (b : List ℕ). printed_on n b text used ringing) line_read
-      ∙ ap (λ (t : Text). printed_on n (refused_line by order_file file) t used ringing) text-is
-      ∙ ap (λ (r : Ringing). printed_on n (refused_line by order_file file) (read_of file m (zeros command_places)).text used r) ringing-is
-      ∙ printed-output by order_file file m (zeros command_places) (zeros-length command_places) used n h (λ y. asked-for (filled.0 ∙ y))
+    -- The bench file is refused.
+    module _ (h : number ≢ 0) where
+      pub file-line : {line : List ℕ} → line ≡ refusal_line number → line ≡ refused_line by order_file file
+      file-line {line} e = e ∙ ap refusal_line number-read ∙ sym (line_first (file_refusal file) other (λ z. h (number-read ∙ z)))
 
-  pub begins : (size ≡ length (refused_line by order_file file))
-      × ((take size line' ≡ refused_line by order_file file)
-      × (((size ≤ length line') × ((count ≤ length room') × (entries ≤ length order)))
-      × ((text ≡ (read_of file m (zeros command_places)).text)
-      × ((ringing ≡ ringing_begun (read_of file m (zeros command_places)))
-      × ((size ≡ 0 → ticks_of m' ≤ generators → used ≡ ordering_by by order_file m')
-      × ((n : ℕ) → line_bytes ≤ n → printed_on n (take size line') text used ringing ≡ output_of by order_file file))))))
-  begins = (
-    put.0 ∙ ap length line-is,
-    (
-      line_read,
-      (
-        (omega (arith, put.0, ap length put.1, length-sets line 0 (refusals_line number other), long, line-fits number other), (read-within file m (zeros command_places) (zeros-length command_places) as_read, filled.1)),
-        (text-is, (ringing-is, (λ z. same (none-refused number other (sym put.0 ∙ z)).1, output-is))),
-      ),
-    ),
-  )
+      pub file-some : refused_line by order_file file ≢ []
+      file-some e = some-line number (ap length (file-line refl ∙ e))
+
+      pub file-output : {line : List ℕ} → line ≡ refusal_line number → line ≡ output_of by order_file file
+      file-output e = e ∙ ap refusal_line number-read ∙ sym (output-refused by order_file file (λ z. h (number-read ∙ z)))
+
+    -- It is not; the order file is.
+    module _ (z : number ≡ 0) where
+      good : file_refusal file ≡ 0
+      good = sym number-read ∙ z
+
+      module _ {n : ℕ} (eo : n ≡ other) where
+        pub order-line : n ≢ 0 → {line : List ℕ} → line ≡ order_refusal_line n → line ≡ refused_line by order_file file
+        order-line h e = e ∙ ap order_refusal_line eo ∙ sym (line_second (file_refusal file) other good (λ y. h (eo ∙ y)))
+
+        pub order-some : n ≢ 0 → refused_line by order_file file ≢ []
+        order-some h e = some-order-line n (ap length (order-line h refl ∙ e))
+
+        pub order-output : n ≢ 0 → {line : List ℕ} → line ≡ order_refusal_line n → line ≡ output_of by order_file file
+        order-output h e = e ∙ ap order_refusal_line eo ∙ sym (output-other by order_file file good (λ y. h (eo ∙ y)))
+
+        -- Neither is.
+        module _ (y : n ≡ 0) where
+          pub no-line : [] ≡ refused_line by order_file file
+          no-line = sym (line-none (file_refusal file) other good (sym eo ∙ y))
+
+          module _ (order : Option Entries) (within : InRoom order) (same : ticks_of m' ≤ generators → ordering_of (option_map filled_part order) ≡ ordering_by by order_file m') where
+            used-is : ticks_of answer.machine ≤ generators → ordering_of (option_map filled_part order) ≡ ordering_by by order_file answer.machine
+            used-is = subst (λ (k : Machine). ticks_of k ≤ generators → ordering_of (option_map filled_part order) ≡ ordering_by by order_file k) machine-read same
+
+            pub begins : Begins (record { text = text; passes = passes; count = count; order = order }) by order_file answer
+            begins =
+                record {
+                  text = ap (λ (a : BenchAnswer). a.text) as_read;
+                  passes = ap (λ (a : BenchAnswer). a.passes) as_read;
+                  count = ap (λ (a : BenchAnswer). a.count) as_read;
+                  commands = rw room-read at (read-within file m (zeros command_places) (zeros-length command_places) as_read);
+                  entries = within;
+                  ordering = used-is;
+                }
+
+            ringing-is : {memory' : List ℕ} → memory' ≡ memory_at_first → record { passes = passes; machine = m'; memory = memory'; commands = take count room'; number = 0 } ≡ ringing_begun answer
+            ringing-is e = ap (λ (l : Memory). record { passes = passes; machine = m'; memory = l; commands = take count room'; number = 0 }) e ∙ ap ringing_begun as_read
+
+            pub output-is : {memory' : List ℕ} → memory' ≡ memory_at_first → (size : ℕ) → line_bytes ≤ size
+                → printed_by text (ordering_of (option_map filled_part order)) Lines size passes (record { passes = passes; machine = m'; memory = memory'; commands = take count room'; number = 0 }) ≡ output_of by order_file file
+            output-is e size h =
+                let used = ordering_of (option_map filled_part order) in
+                ap (λ (r : Ringing). printed_by text used Lines size r.passes r) (ringing-is e)
+                ∙ ap (λ (t : Text). printed_by t used Lines size answer.passes (ringing_begun answer)) (ap (λ (a : BenchAnswer). a.text) as_read)
+                ∙ printed-lines by order_file file m (zeros command_places) (zeros-length command_places) used size h good (sym eo ∙ y) used-is
+
+-- A delay memory that was cleared is that of a ringing as it begins.
+pub memory-cleared : {memory : List ℕ} (before : List ℕ) → length before ≡ memory_words → memory ≡ replicate (length before) 0 → memory ≡ memory_at_first
+unfolding memory_at_first zeros
+memory-cleared before l e = e ∙ ap (λ (n : ℕ). replicate n 0) l
+
+-- So is the room for commands that was.
+pub room-cleared : {room : List ℕ} (before : List ℕ) → length before ≡ command_places → room ≡ replicate (length before) 0 → room ≡ zeros command_places
+unfolding zeros
+room-cleared before l e = e ∙ ap (λ (n : ℕ). replicate n 0) l

@@ -1,4 +1,4 @@
-pub mod Clearing
+pub mod Refused
 pub mod AnyOrdering
 pub mod Begun
 pub mod Lengths

@@ -2,7 +2,7 @@
 -- Assumes nothing.
 use mathlib.Core.Path.{◌≡◌, refl, sym, ap, ◌∙◌}
 use mathlib.Core.Logic.{◌≢◌}
-use mathlib.Core.Bool.{Bool, true, false, cond, not, true≢false}
+use mathlib.Core.Bool.{Bool, true, false, cond, true≢false}
 use mathlib.Core.List.{List, [], ◌∷◌, ◌++◌, append_assoc, append-nil}
 use Prim.Native.Nat.{ℕ, suc, ◌+◌, ◌*◌, ◌-◌, ◌≤◌}
 use native.Mathlib.Nat.{zero-add, suc-mul}
@@ -11,16 +11,20 @@ use borrow.Author.Tests.{eq-eqb, ne_eqb, eqb-true, eqb-false}
 use lib.Dec.{eqb}
 use lib.ListN.{length, drop, length-append, length-drop}
 use lib.Seq.{sets, length-sets}
-use Rattle.layout.specs.Machine.{Machine, Memory, Commands, Order}
+use Rattle.layout.specs.Machine.{Machine, Memory, Commands}
 use Rattle.layout_texts.specs.declared.Text.{Text}
+use Rattle.std.specs.Prelude.{Result, Ok, Err, is_err}
 use Rattle.base_questions.specs.Questions.{asked}
+use Rattle.base_questions.specs.Refusals.{refused}
+use Rattle.base_questions.specs.declared.Refusal.{Refusal}
+use Rattle.base_questions.proofs.Refusals.{numbered}
 use Rattle.machine.specs.Questions.{question1, question2}
 use Rattle.machine.proofs.ValidMachine.{reaches, valid-dac}
 use Rattle.pass_model.specs.Pass.{Outcome as Pass}
 use Rattle.pass_model.proofs.Asked.{is-valid, is_whole}
 use Rattle.command_update.specs.Update.{UpdateOutcome}
 use Rattle.file_bytes.proofs.Puts.{sets-append}
-use Rattle.ring_pass.specs.BenchPass.{Ordering, ordering_of, passed}
+use Rattle.ring_pass.specs.BenchPass.{Ordering, passed}
 use Rattle.ring_steps.specs.Heard.{update_after}
 use Rattle.ring_steps.specs.AsCoded.{Ringing, Step, step_of, commands_taken}
 use Rattle.ring_steps.specs.declared.Output.TheVariants.{Frames}
@@ -159,18 +163,27 @@ pub stage-goes : (done place n : ℕ) (dacs frames : List ℕ) (m : Machine) →
 stage-goes done place n dacs frames m z (ea, ef) =
     ((omega (arith, done-one z), rw (frame-one dacs m z) (omega (arith, ea, dacs-length dacs m))), rw (frame-one dacs m z) ef)
 
+-- What the code asks of an answer is whether its number is one of a refusal.
+pub errs : {A : Type 0} (r : Result A Refusal) {b : Bool} → b ≡ is_err r → b ≡ true → refused r ≢ 0
+errs (Ok a) e t = absurd (true≢false (sym t ∙ e))
+errs (Err refusal) e t = numbered refusal
+
+pub errs-not : {A : Type 0} (r : Result A Refusal) {b : Bool} → b ≡ is_err r → b ≡ false → refused r ≡ 0
+errs-not (Ok a) e f = refl
+errs-not (Err refusal) e f = absurd (true≢false (sym e ∙ f))
+
 -- What is left to ring from a stage; after a refusal nothing.
 module _ (text : Text) (by : Ordering) (here : Stage) (m : Machine) (memory : Memory) (commands : Commands) where
   abbrev onwards : Rung
-  onwards = cond (eqb here.refused 0) (from text by (ringing_at here m memory commands)) (ended here.refused m memory (drop here.taken commands))
+  onwards = cond (eqb (refused here.end) 0) (from text by (ringing_at here m memory commands)) (ended (refused here.end) m memory (drop here.taken commands))
 
-  onwards-none : here.passes ≡ 0 → onwards ≡ ended here.refused m memory (drop here.taken commands)
+  onwards-none : here.passes ≡ 0 → onwards ≡ ended (refused here.end) m memory (drop here.taken commands)
   unfolding rung
-  onwards-none e = go (eqb here.refused 0) refl
+  onwards-none e = go (eqb (refused here.end) 0) refl
     where
-      go : (b : Bool) → eqb here.refused 0 ≡ b
-          → cond b (from text by (ringing_at here m memory commands)) (ended here.refused m memory (drop here.taken commands)) ≡ ended here.refused m memory (drop here.taken commands)
-      go true eb = rw (e, eqb-true here.refused 0 eb)
+      go : (b : Bool) → eqb (refused here.end) 0 ≡ b
+          → cond b (from text by (ringing_at here m memory commands)) (ended (refused here.end) m memory (drop here.taken commands)) ≡ ended (refused here.end) m memory (drop here.taken commands)
+      go true eb = rw (e, eqb-true (refused here.end) 0 eb)
       go false eb = refl
 
 -- The loop's invariant: from the frames put so far and the stage that it is at, the block ends as from its start.
@@ -178,7 +191,7 @@ pub record Going (text : Text) (by : Ordering) (dacs : List ℕ) (n : ℕ) (m₀
   pub machines : List Machine
   pub done-is : here.done ≡ length machines
   pub bound : here.done + here.passes ≤ n
-  pub ends : here.refused ≢ 0 → here.passes ≡ 0
+  pub ends : refused here.end ≢ 0 → here.passes ≡ 0
   pub rest : rung_after machines (onwards text by here m memory commands) ≡ rung text by n m₀ memory₀ commands
   pub within : here.taken ≤ length commands
   pub place_is : here.place ≡ length (frames_of dacs machines)
@@ -188,7 +201,7 @@ pub record Going (text : Text) (by : Ordering) (dacs : List ℕ) (n : ℕ) (m₀
 
 -- It begins with nothing done.
 pub going-begins : (text : Text) (by : Ordering) (dacs : List ℕ) (n : ℕ) (m : Machine) (memory : Memory) (commands : Commands) (frames : List ℕ) → n * length dacs ≤ length frames
-    → Going text by dacs n m memory commands frames (record { passes = n; done = 0; taken = 0; place = 0; refused = 0 }) m memory frames
+    → Going text by dacs n m memory commands frames (record { passes = n; done = 0; taken = 0; place = 0; end = Ok tt }) m memory frames
 unfolding frames_of
 going-begins text by dacs n m memory commands frames h =
     record {
@@ -208,22 +221,22 @@ module _ (text : Text) (by : Ordering) {dacs : List ℕ} {n : ℕ} {m₀ : Machi
     (g : Going text by dacs n m₀ memory₀ commands frames₀ here m memory frames) where
   -- At its end the block is that of the whole.
   pub going-ends : here.passes ≡ 0
-      → ◌≡◌ {A = Block} (record { number = here.refused; done = here.done; taken = here.taken; machine = m; memory = memory; frames = frames })
+      → ◌≡◌ {A = Block} (record { number = refused here.end; done = here.done; taken = here.taken; machine = m; memory = memory; frames = frames })
       (block_from commands dacs frames₀ (rung text by n m₀ memory₀ commands))
   going-ends e =
-      let last : rung_after g.machines (ended here.refused m memory (drop here.taken commands)) ≡ rung text by n m₀ memory₀ commands =
+      let last : rung_after g.machines (ended (refused here.end) m memory (drop here.taken commands)) ≡ rung text by n m₀ memory₀ commands =
       ap (rung_after g.machines) (sym (onwards-none text by here m memory commands e)) ∙ g.rest in
       let taken : length commands - length (drop here.taken commands) ≡ here.taken = omega (arith, length-drop here.taken commands, g.within) in
       rw (← last, append-nil g.machines, taken, ← g.done-is, ← g.put)
 
   module _ (some : here.passes ≢ 0) where
     -- A stage with passes left was not refused, and has room for a frame.
-    unrefused : here.refused ≡ 0
-    unrefused = go (eqb here.refused 0) refl
+    unrefused : refused here.end ≡ 0
+    unrefused = go (eqb (refused here.end) 0) refl
       where
-        go : (b : Bool) → eqb here.refused 0 ≡ b → here.refused ≡ 0
-        go true e = eqb-true here.refused 0 e
-        go false e = absurd (some (g.ends (eqb-false here.refused 0 e)))
+        go : (b : Bool) → eqb (refused here.end) 0 ≡ b → refused here.end ≡ 0
+        go true e = eqb-true (refused here.end) 0 e
+        go false e = absurd (some (g.ends (eqb-false (refused here.end) 0 e)))
 
     pub frame-fits : here.place + length dacs ≤ length frames
     frame-fits =
@@ -232,24 +245,24 @@ module _ (text : Text) (by : Ordering) {dacs : List ℕ} {n : ℕ} {m₀ : Machi
         omega (arith, e, g.room, g.kept)
 
     rest-here : rung_after g.machines (from text by (ringing_at here m memory commands)) ≡ rung text by n m₀ memory₀ commands
-    rest-here = rw (eq-eqb here.refused 0 unrefused) at g.rest
+    rest-here = rw (eq-eqb (refused here.end) 0 unrefused) at g.rest
 
     -- One step more.
-    module _ {next : Stage} {m' : Machine} {memory' : Memory} {frames' : List ℕ}
+    module _ (next : Stage) {m' : Machine} {memory' : Memory} {frames' : List ℕ}
         (e : ringing_at next m' memory' commands ≡ (step_of text by Frames (ringing_at here m memory commands)).next)
         (et : next.taken ≡ here.taken + commands_taken (ringing_at here m memory commands) (step_of text by Frames (ringing_at here m memory commands)))
-        (ed : next.done ≡ here.done + done_by next.refused) (ep : next.place ≡ here.place + length (frame_by next.refused dacs m'))
-        (ef : frames' ≡ sets frames here.place (frame_by next.refused dacs m')) where
+        (ed : next.done ≡ here.done + done_by (refused next.end)) (ep : next.place ≡ here.place + length (frame_by (refused next.end) dacs m'))
+        (ef : frames' ≡ sets frames here.place (frame_by (refused next.end) dacs m')) where
       within-still : next.taken ≤ length commands
       within-still = omega (arith, et, g.within, length-drop here.taken commands)
 
       kept-still : length frames' ≡ length frames₀
-      kept-still = ap length ef ∙ length-sets frames here.place (frame_by next.refused dacs m') ∙ g.kept
+      kept-still = ap length ef ∙ length-sets frames here.place (frame_by (refused next.end) dacs m') ∙ g.kept
 
-      goes_on : next.refused ≡ 0 → Going text by dacs n m₀ memory₀ commands frames₀ next m' memory' frames'
+      goes_on : refused next.end ≡ 0 → Going text by dacs n m₀ memory₀ commands frames₀ next m' memory' frames'
       goes_on z =
           let t = turn-goes text by (ringing_at here m memory commands) some e z in
-          let one : frame_by next.refused dacs m' ≡ dacs_of dacs m' = frame-one dacs m' z in
+          let one : frame_by (refused next.end) dacs m' ≡ dacs_of dacs m' = frame-one dacs m' z in
           let more : frames_of dacs (g.machines ++ m' ∷ []) ≡ frames_of dacs g.machines ++ dacs_of dacs m' = frames-more dacs g.machines m' in
           let place : next.place ≡ here.place + length dacs = ep ∙ ap (λ (l : List ℕ). here.place + length l) one ∙ ap (λ (i : ℕ). here.place + i) (dacs-length dacs m') in
           let product : here.passes * length dacs ≡ next.passes * length dacs + length dacs = ap (λ (i : ℕ). i * length dacs) t.fewer ∙ suc-mul next.passes (length dacs) in
@@ -258,7 +271,7 @@ module _ (text : Text) (by : Ordering) {dacs : List ℕ} {n : ℕ} {m₀ : Machi
             done-is = omega (arith, ed, done-one z, g.done-is, length-append g.machines (m' ∷ []));
             bound = omega (arith, ed, done-one z, g.bound, t.fewer);
             ends = λ h. absurd (h z);
-            rest = rw (eq-eqb next.refused 0 z, append_assoc g.machines (m' ∷ []) (from text by (ringing_at next m' memory' commands)).machines) (ap (rung_after g.machines) (sym t.onward) ∙ rest-here);
+            rest = rw (eq-eqb (refused next.end) 0 z, append_assoc g.machines (m' ∷ []) (from text by (ringing_at next m' memory' commands)).machines) (ap (rung_after g.machines) (sym t.onward) ∙ rest-here);
             within = within-still;
             place_is = omega (arith, place, g.place_is, ap length more, length-append (frames_of dacs g.machines) (dacs_of dacs m'), dacs-length dacs m');
             room = omega (arith, place, product, g.room);
@@ -266,16 +279,16 @@ module _ (text : Text) (by : Ordering) {dacs : List ℕ} {n : ℕ} {m₀ : Machi
             put = rw (ef, one, more, g.place_is, g.put) (rw (zero-add (length (frames_of dacs g.machines))) at (sets-append frames₀ 0 (frames_of dacs g.machines) (dacs_of dacs m')));
           }
 
-      ends-here : next.refused ≢ 0 → Going text by dacs n m₀ memory₀ commands frames₀ next m' memory' frames'
+      ends-here : refused next.end ≢ 0 → Going text by dacs n m₀ memory₀ commands frames₀ next m' memory' frames'
       ends-here h =
           let t = turn-ends text by (ringing_at here m memory commands) some e h in
-          let none : frame_by next.refused dacs m' ≡ [] = frame-none dacs m' h in
+          let none : frame_by (refused next.end) dacs m' ≡ [] = frame-none dacs m' h in
           record {
             machines = g.machines;
             done-is = omega (arith, ed, done_none h, g.done-is);
             bound = omega (arith, ed, done_none h, g.bound, t.none);
             ends = λ z. t.none;
-            rest = rw (ne_eqb next.refused 0 h) (ap (rung_after g.machines) (sym t.onward) ∙ rest-here);
+            rest = rw (ne_eqb (refused next.end) 0 h) (ap (rung_after g.machines) (sym t.onward) ∙ rest-here);
             within = within-still;
             place_is = rw none at ep ∙ omega (arith, g.place_is);
             room = let place : next.place ≡ here.place = ep ∙ ap (λ (l : List ℕ). here.place + length l) none ∙ omega arith in rw t.none (omega (arith, place, g.room));
@@ -284,21 +297,11 @@ module _ (text : Text) (by : Ordering) {dacs : List ℕ} {n : ℕ} {m₀ : Machi
           }
 
       pub going-goes : Going text by dacs n m₀ memory₀ commands frames₀ next m' memory' frames'
-      going-goes = go (eqb next.refused 0) refl
+      going-goes = go (eqb (refused next.end) 0) refl
         where
-          go : (b : Bool) → eqb next.refused 0 ≡ b → Going text by dacs n m₀ memory₀ commands frames₀ next m' memory' frames'
-          go true q = goes_on (eqb-true next.refused 0 q)
-          go false q = ends-here (eqb-false next.refused 0 q)
-
--- The ordering of a call as the code asks for it.
-pub given-for : (order : Order) → ordering_for order ≡ ordering_of (not (eqb (length order) 0)) order
-given-for [] = refl
-given-for (g ∷ gs) = rw (ne_eqb (suc (length gs)) 0 (omega arith))
-
--- Where none is given it is by number, whichever run stands in its place.
-pub none-given : (given : Bool) (numbers order : Order) → given ≡ false → ordering_of given numbers ≡ ordering_of given order
-none-given true numbers order e = absurd (true≢false e)
-none-given false numbers order e = refl
+          go : (b : Bool) → eqb (refused next.end) 0 ≡ b → Going text by dacs n m₀ memory₀ commands frames₀ next m' memory' frames'
+          go true q = goes_on (eqb-true (refused next.end) 0 q)
+          go false q = ends-here (eqb-false (refused next.end) 0 q)
 
 -- A block with the call's ordering and as many passes as fit is the call's.
 pub as_called : (text : Text) (m : Machine) (call : Call) {by : Ordering} {n : ℕ} → by ≡ ordering_for call.order → n ≡ fitting (length call.dacs) (length call.frames) call.passes

@@ -1,6 +1,7 @@
 -- A block as the code goes: the stages that it comes through. Readers need only `block_of`.
 -- Assumes nothing.
 use Rattle.std.specs.Prelude.{ℕ, ◌^◌, ◌<◌, cond, List, [], eqb, get_or, drop}
+use Rattle.base_questions.specs.Refusals.{refused}
 use Rattle.layout.specs.Layout.{dac_at}
 use Rattle.layout.specs.Machine.{Machine, Memory, Commands, Reaches}
 use Rattle.ring_steps.specs.AsCoded.{Ringing}
@@ -14,7 +15,7 @@ pub record Sounding (m : Machine) : Type 0 where
 
 -- A stage with its machine, delay memory and all its commands as a ringing under way.
 abbrev pub ringing_at : Stage → Machine → Memory → Commands → Ringing
-ringing_at at m memory commands = record { passes = at.passes; machine = m; memory = memory; commands = drop at.taken commands; number = at.refused }
+ringing_at at m memory commands = record { passes = at.passes; machine = m; memory = memory; commands = drop at.taken commands; number = refused at.end }
 
 -- After a step that ended with the number of a refusal or 0: the passes that it did, and its frame. A refused one has none.
 unfoldable pub done_by : ℕ → ℕ

@@ -10,12 +10,11 @@ use borrow.Author.Tests.{not-true, not-false, eq-eqb, ne_eqb, eqb-true, eqb-fals
 use lib.Dec.{eqb, ltb}
 use lib.ListN.{length, take, length-append}
 use lib.Seq.{sets, length-sets}
-use Rattle.layout.specs.Machine.{Order}
 use Rattle.file_bytes.proofs.Puts.{done, then, first_part}
 use Rattle.file_printed.specs.Text.{line_bytes, refusal_line, order_refusal_line}
 use Rattle.file_bench.specs.BenchFile.{command_places, read_of}
 use Rattle.ring_steps.specs.Ringing.{output_of}
-use Rattle.ring_pass.specs.BenchPass.{Ordering, ordering_of, passed}
+use Rattle.ring_pass.specs.BenchPass.{Ordering, passed}
 use Rattle.ring_order.specs.RungOrder.{ordering_by, order_refusal}
 use Rattle.ring_order.specs.declared.By.{By}
 use Rattle.ring_steps.specs.AsCoded.{Known, Ringing, Step, step_of, commands_taken, ringing_begun, rung_from}
@@ -74,12 +73,6 @@ abbrev pub Gathered : Text → Ordering → Output → List ℕ → Ringing → 
 Gathered text by o out₀ r₀ from out size r taken =
     let g = gathered text by o (length out₀) r₀ in
     (size ≡ length g.bytes) × ((out ≡ sets out₀ 0 g.bytes) × ((r ≡ g.next) × (taken ≡ from + commands_taken r₀ g)))
-
--- Where no order is given it is by number, whichever run stands in its place.
-pub numbered-instead : (text : Text) (given : Bool) (numbers order : Order) (o : Output) (out₀ : List ℕ) (r₀ : Ringing) (from : ℕ) {out : List ℕ} {size : ℕ} {r : Ringing} {taken : ℕ} → given ≡ false
-    → Gathered text (ordering_of given numbers) o out₀ r₀ from out size r taken → Gathered text (ordering_of given order) o out₀ r₀ from out size r taken
-numbered-instead text true numbers order o out₀ r₀ from e g = absurd (true≢false e)
-numbered-instead text false numbers order o out₀ r₀ from e g = g
 
 -- Where nothing more is gathered.
 stays-none : (text : Text) (by : Ordering) (o : Output) (room k : ℕ) (bytes : List ℕ) (r : Ringing) → r.passes ≡ 0 → gathered_after text by o room k bytes r ≡ record { bytes = bytes; next = r }
@@ -148,16 +141,17 @@ module _ (text : Text) (by : Ordering) (o : Output) (r : Ringing) (line : List �
   pub part-within : size ≤ length after
   part-within = omega (arith, es, ap length ea, length-sets line 0 bytes, step-length text by o r)
 
-  part-is : take (size - 0) after ≡ bytes
-  part-is =
-      let k : size - 0 ≡ length bytes = omega arith in
-      rw (k, ea) (first_part bytes line (omega (arith, step-length text by o r)))
+  part-is : take size after ≡ bytes
+  part-is = rw (es, ea) (first_part bytes line (omega (arith, step-length text by o r)))
 
-  pub part-fits : (at n : ℕ) → at + line_bytes ≤ n → at + length (take (size - 0) after) ≤ n
+  pub part-length : size ≡ length (take size after)
+  part-length = es ∙ sym (ap length part-is)
+
+  pub part-fits : (at n : ℕ) → at + line_bytes ≤ n → at + length (take size after) ≤ n
   part-fits at n h = rw part-is (omega (arith, step-length text by o r))
 
   pub part-put : (at : ℕ) (out : List ℕ) (from : ℕ) {i : ℕ} {out' : List ℕ} {next : Ringing} {taken : ℕ}
-      → (i ≡ at + length (take (size - 0) after)) × (out' ≡ sets out at (take (size - 0) after)) → (next ≡ (step_of text by o r).next) × (taken ≡ from + commands_taken r (step_of text by o r))
+      → (i ≡ at + length (take size after)) × (out' ≡ sets out at (take size after)) → (next ≡ (step_of text by o r).next) × (taken ≡ from + commands_taken r (step_of text by o r))
       → (i ≡ at + length bytes) × ((out' ≡ sets out at bytes) × ((next ≡ (step_of text by o r).next) × (taken ≡ from + commands_taken r (step_of text by o r))))
   part-put at out from (ei, eo) en = (rw part-is at ei, (rw part-is at eo, en))
 

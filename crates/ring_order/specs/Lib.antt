@@ -1,1 +1,2 @@
 pub mod RungOrder
+pub mod Filled

@@ -4,9 +4,9 @@ use mathlib.Core.Path.{◌≡◌, refl, sym, ◌∙◌, ap}
 use mathlib.Core.Logic.{◌≢◌}
 use mathlib.Core.Bool.{Bool, true, false, cond}
 use mathlib.Core.List.{List, [], ◌∷◌}
-use Prim.Native.Nat.{ℕ, ◌-◌, ◌≤◌, ◌<◌}
+use Rattle.std.specs.Prelude.{Option, None, Some}
+use Prim.Native.Nat.{ℕ, ◌≤◌, ◌<◌}
 use native.Mathlib.Omega.{arith}
-use native.Mathlib.Nat.{sub-zero}
 use borrow.Author.Tests.{le-leb, lt-leb, leb-true, leb-false, eqb-true, eqb-false}
 use lib.Dec.{leb, eqb}
 use lib.ListN.{length, take}
@@ -28,6 +28,7 @@ use Rattle.base_sequences.specs.Sequences.{by_number}
 use Rattle.base_sequences.proofs.ByNumber.{by-number-length, first-entries}
 use Rattle.base_questions.proofs.Asked.{asked-first, asked-later}
 use Rattle.ring_pass.specs.BenchPass.{Ordering, ordering_of, bench_call, passed, order_asked, refused_again}
+use Rattle.ring_pass.specs.Benches.{entries_in}
 use Rattle.ring_pass.proofs.ByNumber.{by-number-passes}
 
 -- Questions 7 and 8 by the counts, with no items and no places.
@@ -146,35 +147,36 @@ module _ (text : Text) (by : Ordering) (m : Machine) (memory : Memory) where
     ticks-most = few-ticks text m [] answered.whole
 
 -- The entries that such a pass goes by: the first T of a run.
-module _ (text : Text) (given : Bool) (order : Order) (m : Machine) (memory : Memory) (numbered : given ≡ false → order ≡ by_number 256) where
+module _ (text : Text) (o : Option Order) (m : Machine) (memory : Memory) where
   abbrev by : Ordering
-  by = ordering_of given order
+  by = ordering_of o
 
   module _ (n : (passed text by m memory).number ≡ 0) {t : ℕ} (et : t ≡ ticks_of m) where
     -- Question 5 says that a given order has T entries; that by number has 256.
-    first_t : (t ≤ length order) × (take (t - 0) order ≡ by (ticks_of m))
-    first_t = go given refl (answered text by m memory n).ordered numbered
+    first_t : (t ≡ length (take t (entries_in o))) × (take t (entries_in o) ≡ by (ticks_of m))
+    first_t = go o refl (answered text by m memory n).ordered
       where
-        go : (b : Bool) → given ≡ b → order_asked (ordering_of b order) m ≡ 0 → (b ≡ false → order ≡ by_number 256) → (t ≤ length order) × (take (t - 0) order ≡ ordering_of b order (ticks_of m))
-        go true e o f =
-            let l = (order-passes (ticks_of m) order o).entries in
-            (omega (arith, et, l), take_all (t - 0) order (omega (arith, et, l)))
-        go false e o f =
-            let q = f refl in
+        go : (p : Option Order) → o ≡ p → order_asked (ordering_of p) m ≡ 0 → (t ≡ length (take t (entries_in p))) × (take t (entries_in p) ≡ ordering_of p (ticks_of m))
+        go (Some order) e q =
+            let l = (order-passes (ticks_of m) order q).entries in
+            let f : take t order ≡ order = take_all t order (omega (arith, et, l)) in
+            (omega (arith, et, l, ap length f), f)
+        go None e q =
             let few = ticks-most text by m memory n in
-            (omega (arith, et, few, by-number-length 256, ap length q), rw (sub-zero, q, et) (first-entries (ticks_of m) 256 few))
+            let f : take t (by_number 256) ≡ by_number (ticks_of m) = rw et (first-entries (ticks_of m) 256 few) in
+            (omega (arith, et, ap length f, by-number-length (ticks_of m)), f)
 
-    pub entries-there : t ≤ length order
+    pub entries-there : t ≡ length (take t (entries_in o))
     entries-there = first_t.0
 
-    pub numbers : Numbers (take (t - 0) order)
+    pub numbers : Numbers (take t (entries_in o))
     numbers = rw first_t.1 (are-numbers text m (by (ticks_of m)) (answered text by m memory n).whole (answered text by m memory n).ordered)
 
     pub passed-so : {number read written : ℕ} {clipped after places memory' : List ℕ}
         → record { number = number; read = read; written = written; clipped = clipped; machine = after; places = places; memory = memory' }
-        ≡ ran text m (record { order = take (t - 0) order; items = []; places = []; memory = memory })
+        ≡ ran text m (record { order = take t (entries_in o); items = []; places = []; memory = memory })
         → (after ≡ (passed text by m memory).machine) × (memory' ≡ (passed text by m memory).memory)
     passed-so {number} {read} {written} {clipped} {after} {places} {memory'} e =
         let whole : record { number = number; read = read; written = written; clipped = clipped; machine = after; places = places; memory = memory' } ≡ passed text by m memory =
-        e ∙ ap (λ (o : Order). ran text m (record { order = o; items = []; places = []; memory = memory })) first_t.1 ∙ sym (let_through text m (bench_call by m memory) (let_by text by m memory n)) in
-        (ap (λ (o : Outcome). o.machine) whole, ap (λ (o : Outcome). o.memory) whole)
+        e ∙ ap (λ (l : Order). ran text m (record { order = l; items = []; places = []; memory = memory })) first_t.1 ∙ sym (let_through text m (bench_call by m memory) (let_by text by m memory n)) in
+        (ap (λ (r : Outcome). r.machine) whole, ap (λ (r : Outcome). r.memory) whole)

@@ -1,6 +1,6 @@
 -- The pass of the bench (document 01, "Bench file"; document 02, Q-1).
 -- Assumes nothing.
-use Rattle.std.specs.Prelude.{ℕ, Bool, cond, [], ◌∷◌}
+use Rattle.std.specs.Prelude.{ℕ, Option, None, Some, [], ◌∷◌}
 use Rattle.base_sequences.specs.Sequences.{by_number}
 use Rattle.layout.specs.Machine.{Machine, Memory, Order, ticks_of}
 use Rattle.layout_texts.specs.declared.Text.{Text}
@@ -17,8 +17,9 @@ abbrev pub throughout : Order → Ordering
 throughout order = λ t. order
 
 -- An order that is given, used throughout; else by number.
-abbrev pub ordering_of : Bool → Order → Ordering
-ordering_of given order = cond given (throughout order) by_number
+abbrev pub ordering_of : Option Order → Ordering
+ordering_of (Some order) = throughout order
+ordering_of None = by_number
 
 -- A call by an ordering, with no read items and no written places, over a delay memory.
 abbrev pub bench_call : Ordering → Machine → Memory → Call

@@ -1,1 +1,2 @@
 pub mod BenchPass
+pub mod Benches

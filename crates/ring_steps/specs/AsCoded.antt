@@ -5,6 +5,7 @@ use Rattle.layout.specs.Layout.{dac_at}
 use Rattle.layout.specs.Machine.{Machine, Memory, Commands, Reaches}
 use Rattle.layout_texts.specs.declared.Text.{Text}
 use Rattle.base_questions.specs.Questions.{asked}
+use Rattle.base_questions.specs.Refusals.{refused}
 use Rattle.machine.specs.Questions.{question1, question2}
 use Rattle.delay_questions.specs.Questions.{memory_good}
 use Rattle.file_printed.specs.Text.{refusal_line, order_refusal_line}
@@ -43,7 +44,7 @@ pub record Ringing : Type 0 where
 
 -- A progress with its machine, delay memory and all its commands as a ringing under way.
 abbrev pub ringing_at : Progress → Machine → Memory → Commands → Ringing
-ringing_at at m memory commands = record { passes = at.passes; machine = m; memory = memory; commands = drop at.taken commands; number = at.refused }
+ringing_at at m memory commands = record { passes = at.passes; machine = m; memory = memory; commands = drop at.taken commands; number = refused at.end }
 
 -- A step: the bytes that it gives out, and what is left to ring.
 pub record Step : Type 0 where

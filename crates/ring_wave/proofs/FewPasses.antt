@@ -12,10 +12,9 @@ use Rattle.base_lists.proofs.Choices.{of-cond}
 use Rattle.base_lists.proofs.Tests.{and_right, passes}
 use Rattle.file_bytes.specs.Bytes.{starts_with}
 use Rattle.file_numbers.specs.Numbers.{all_digits, written_after, number_in, leading_zero, decimal_in, hexadecimal_in}
-use Rattle.file_numbers.specs.declared.Number.{Number}
-use Rattle.file_numbers.specs.declared.Number.TheVariants.{Is, No}
+use Rattle.std.specs.Prelude.{Option, Some, None}
+use Rattle.layout_texts.specs.declared.Text.{Text}
 use Rattle.file_lines.specs.Lines.{most_passes, passes_start, word_start, command_start, text_start, after_start, line_by, title_of, line_of, lines_of}
-use Rattle.file_lines.specs.declared.Title.{Title}
 use Rattle.file_lines.specs.declared.Line.{Line}
 use Rattle.file_lines.specs.declared.Line.TheVariants.{Titled, Passes, Word, Command, Other}
 use Rattle.file_lines.proofs.LineKinds.{word-kind}
@@ -30,7 +29,7 @@ unfolding Few number_in
 few-number file = go (all_digits 10 file && ltb (written_after 10 0 file) (most_passes + 1)) refl
   where
     go : (b : Bool) → (all_digits 10 file && ltb (written_after 10 0 file) (most_passes + 1)) ≡ b
-        → with_passes 0 (line_by (cond b (Is (written_after 10 0 file)) No) (λ n. Passes n)) ≤ most_passes
+        → with_passes 0 (line_by (cond b (Some (written_after 10 0 file)) None) (λ n. Passes n)) ≤ most_passes
     go true e =
         let t : T (all_digits 10 file && ltb (written_after 10 0 file) (most_passes + 1)) = subst T (sym e) tt in
         let l = ltb-true (written_after 10 0 file) (most_passes + 1) (passes (ltb (written_after 10 0 file) (most_passes + 1)) (and_right (all_digits 10 file) (ltb (written_after 10 0 file) (most_passes + 1)) t)) in
@@ -40,14 +39,14 @@ few-number file = go (all_digits 10 file && ltb (written_after 10 0 file) (most_
 few-decimal : (file : List ℕ) → Few (line_by (decimal_in (most_passes + 1) file) (λ n. Passes n))
 unfolding Few decimal_in
 few-decimal file =
-    of-cond (λ (a : Number). with_passes 0 (line_by a (λ n. Passes n)) ≤ most_passes) (eqb (length file) 0 || leading_zero file) {x = No} {y = number_in 10 (most_passes + 1) file} (omega arith) (few-number file)
+    of-cond (λ (a : Option ℕ). with_passes 0 (line_by a (λ n. Passes n)) ≤ most_passes) (eqb (length file) 0 || leading_zero file) {x = None} {y = number_in 10 (most_passes + 1) file} (omega arith) (few-number file)
 
-few-command : (a : Number) → Few (line_by a (λ c. Command c))
+few-command : (a : Option ℕ) → Few (line_by a (λ c. Command c))
 unfolding Few
-few-command (Is c) = omega arith
-few-command No = omega arith
+few-command (Some c) = omega arith
+few-command None = omega arith
 
-few-titled : (t : Title) → Few (Titled t)
+few-titled : (t : Option Text) → Few (Titled t)
 unfolding Few
 few-titled t = omega arith
 

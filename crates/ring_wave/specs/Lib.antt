@@ -1,1 +1,2 @@
 pub mod Wave
+pub mod AsCoded

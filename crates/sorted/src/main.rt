@@ -4,29 +4,17 @@
 #![tactic(auto)]
 
 use ring_order::By;
+use std::io;
 
-// Prints what is found of a bench file, and of an order file if one is asked for; says whether all was written.
-fn print(rt: HostRuntime, file: &[u8], by: By, order: &[u8]) -> bool {
+// Prints what is found of a bench file, and of an order file if one is asked for.
+fn print(rt: HostRuntime, file: &[u8], by: By, listing: &[u8]) -> io::Result<()> {
     let mut out = [0u8; sorted_findings::FINDINGS_ROOM];
-    let length = sorted_findings::findings(file, by, order, &mut out);
-    rt.write_all(&out[0..length]).is_ok()
+    let length = sorted_findings::findings(file, by, listing, &mut out);
+    rt.write_all(&out[..length])
 }
 
 fn main(rt: HostRuntime) {
-    let mut order = [0u8; ring_streams::FILE_ROOM];
-    let request = ring_streams::read_arguments(rt, b"sorted", &mut order);
-    if !request.good {
-        return;
-    }
-    let by = request.by;
-    let length = request.length;
-    let mut file = [0u8; ring_streams::FILE_ROOM];
-    let read = ring_streams::read_bench(rt, b"sorted", &mut file);
-    if !read.good {
-        return;
-    }
-    let n = read.length;
-    if !print(rt, &file[..n], by, &order[..length]) {
-        ring_streams::complain(rt, b"sorted", b": cannot write\n");
-    }
+    ring_streams::run(rt, b"sorted", |file, by, listing| {
+        print(rt, file, by, listing)
+    });
 }

@@ -1,6 +1,6 @@
 -- What is printed of a machine and two orders, by what the code finds.
 -- Assumes nothing.
-use mathlib.Core.Path.{◌≡◌, sym, ap, ◌∙◌}
+use mathlib.Core.Path.{◌≡◌, refl, sym, ap, ◌∙◌}
 use mathlib.Core.Logic.{◌≢◌}
 use mathlib.Core.List.{List, [], ◌∷◌, ◌++◌}
 use Prim.Native.Nat.{ℕ, ◌+◌, ◌*◌, ◌-◌, ◌≤◌}
@@ -10,25 +10,40 @@ use borrow.Author.Tests.{eqb-true, eq-eqb, ne_eqb}
 use lib.Dec.{eqb}
 use lib.ListN.{length, take, replicate, length-append}
 use lib.Seq.{sets}
+use Rattle.std.specs.Prelude.{Option, Some, None, Ok}
 use Rattle.base_lists.specs.Lists.{zeros}
 use Rattle.base_lists.proofs.Choices.{of-cond, of_test}
 use Rattle.layout.specs.Layout.{machine_length, generators}
-use Rattle.layout.specs.Machine.{Machine, Order, ticks_of}
+use Rattle.layout.specs.Machine.{Machine, Order, Items, ticks_of}
 use Rattle.layout_texts.specs.declared.Text.{Text}
 use Rattle.base_questions.specs.Questions.{asked}
+use Rattle.base_questions.specs.Refusals.{number_of}
+use Rattle.sorted_findings.specs.declared.Refused.{Refused}
+use Rattle.sorted_findings.specs.declared.Refused.TheVariants.{Bench, OrderFile}
 use Rattle.machine.specs.Questions.{question1, question2}
 use Rattle.base_sequences.specs.Sequences.{by_number}
 use Rattle.base_sequences.proofs.ByNumber.{by-number-length, first-entries}
 use Rattle.compare.proofs.Asked.{refused-first}
-use Rattle.parts.specs.Parts.{Parting, parts_of}
+use Rattle.parts.specs.Parts.{Parting, parting_of, parts_of}
+use Rattle.parts.specs.declared.Parted.{Parted}
 use Rattle.parts.proofs.Answers.{is-ready, refused-compare, parts-number}
 use Rattle.parts_shown.specs.Shown.{difference_shown}
 use Rattle.file_bytes.proofs.Puts.{done, then}
 use Rattle.file_printed.specs.Text.{line_bytes, refusal_line}
-use Rattle.file_printed.proofs.Lines.{refusal-line-length}
+use Rattle.file_printed.proofs.Lines.{refusal-line-length, order-refusal-line-length}
 use Rattle.sorted_lines.specs.SortedLines.{order_lines, equal_line, failing_line, entry_bytes}
 use Rattle.sorted_lines.proofs.Lines.{order-lines-length, failing-line-length}
-use Rattle.sorted_findings.specs.Findings.{parting_from, found_line, compared_lines, findings_room}
+use Rattle.sorted_findings.specs.Findings.{refused_line, parting_from, found_line, compared_lines, findings_room}
+
+-- The line of what is refused has room in its buffer.
+pub refused-line-length : (r : Refused) → length (refused_line r) ≤ line_bytes
+refused-line-length (Bench refusal) = omega (arith, refusal-line-length (number_of refusal))
+refused-line-length (OrderFile refusal) = omega (arith, order-refusal-line-length (number_of refusal))
+
+-- No question refuses what the call answers.
+pub none-number : (parted : Option Parted) (contents : Machine) (items : Items) → (parting_of (Ok parted) contents items).number ≡ 0
+none-number (Some p) contents items = refl
+none-number None contents items = refl
 
 -- The line of what was found: that of equal orders, or of a point.
 module _ (text : Text) (o₁ o₂ : Order) (p : Parting) where

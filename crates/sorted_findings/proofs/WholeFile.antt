@@ -1,7 +1,7 @@
 -- What is printed of a file, by what reading it and an order file answers.
 -- Assumes nothing.
 use mathlib.Core.Path.{◌≡◌, refl, sym, ap, ◌∙◌}
-use mathlib.Core.Logic.{◌≢◌}
+use mathlib.Core.Logic.{◌≢◌, ◌⊎◌, inl, inr}
 use mathlib.Core.Bool.{true}
 use mathlib.Core.List.{List}
 use Prim.Native.Nat.{ℕ, ◌-◌, ◌≤◌}
@@ -93,6 +93,11 @@ module _ (file m room : List ℕ) {a : FileAnswer} (read : a ≡ file_read_of fi
     pub bench-found : (by : By) (order_file : List ℕ) → findings_of file by order_file ≡ second_lines by a.text a.machine order_file
     unfolding findings_of
     bench-found by order_file = rw (none, as_read.0, as_read.1)
+
+-- By number or by pitch it is the order by pitch that is printed.
+pub pitch-lines : {by : By} (text : Text) (m : Machine) (order_file : List ℕ) → (by ≡ Number) ⊎ (by ≡ Pitch) → second_lines by text m order_file ≡ compared_lines text m (by_pitch m)
+pitch-lines text m order_file (inl e) = rw e refl
+pitch-lines text m order_file (inr e) = rw e refl
 
 -- All that is printed has room in its buffer.
 by-file-length : (text : Text) (m : Machine) (file : List ℕ) → length (by_file_lines text m file) ≤ findings_room

@@ -5,6 +5,7 @@ use Rattle.base_lists.specs.Lists.{zeros}
 use Rattle.layout.specs.Layout.{machine_length, generators}
 use Rattle.layout.specs.Machine.{Machine, Order, ticks_of}
 use Rattle.layout_texts.specs.declared.Text.{Text}
+use Rattle.base_questions.specs.Refusals.{number_of}
 use Rattle.base_sequences.specs.Sequences.{by_number}
 use Rattle.pass_pitch.specs.Pitch.{by_pitch}
 use Rattle.file_order.specs.OrderFile.{is_order_file, order_of}
@@ -14,11 +15,18 @@ use Rattle.parts.specs.Parts.{Parting, parts_of}
 use Rattle.parts_shown.specs.Shown.{difference_shown}
 use Rattle.file_printed.specs.Text.{line_bytes, refusal_line, order_refusal_line}
 use Rattle.file_bench.specs.BenchFile.{file_of, text_of, file_refusal}
+use Rattle.sorted_findings.specs.declared.Refused.{Refused}
+use Rattle.sorted_findings.specs.declared.Refused.TheVariants.{Bench, OrderFile}
 use Rattle.sorted_lines.specs.SortedLines.{order_lines, equal_line, failing_line, entry_bytes}
 
 -- What parts the order by number from a second one. The run and the read list for the contents are zeros, and long enough.
 abbrev pub parting_from : Text → Machine → Order → Parting
 parting_from text m order = parts_of text m (by_number (ticks_of m)) order (zeros machine_length) (zeros generators)
+
+-- The line of what is refused: of a bench file with its machine and orders, or of a file that is no order file.
+abbrev pub refused_line : Refused → List ℕ
+refused_line (Bench refusal) = refusal_line (number_of refusal)
+refused_line (OrderFile refusal) = order_refusal_line (number_of refusal)
 
 -- The line of what was found of two orders.
 unfoldable pub found_line : Text → Order → Order → Parting → List ℕ

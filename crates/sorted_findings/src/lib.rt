@@ -1,7 +1,7 @@
 // What program sorted prints for a bench file: its generators in a second order, and by what that order and the one by number differ.
 #![tactic(auto)]
 
-ghost use Rattle.std.specs.Prelude.{◌≡◌, [], ◌∷◌, ◌+◌, ◌^◌, ◌≤◌, ◌<◌, length};
+ghost use Rattle.std.specs.Prelude.{◌≡◌, [], ◌∷◌, ◌+◌, ◌^◌, ◌≤◌, ◌<◌, length, Ok, IfSome};
 ghost use Rattle.std.proofs.lemmas.List.Edits.{sets};
 ghost use Rattle.layout.specs.Layout.{machine_length};
 ghost use Rattle.layout.specs.Machine.{ticks_of};
@@ -9,10 +9,12 @@ ghost use Rattle.base_questions.specs.Questions.{asked};
 ghost use Rattle.machine.specs.Questions.{question1, question2};
 ghost use Rattle.base_sequences.specs.Sequences.{by_number};
 ghost use Rattle.pass_pitch.specs.Pitch.{by_pitch};
-ghost use Rattle.file_printed.specs.Text.{line_bytes, refusal_line, order_refusal_line};
+ghost use Rattle.file_printed.specs.Text.{line_bytes};
+ghost use Rattle.parts.specs.Parts.{parting_of};
 ghost use Rattle.sorted_lines.specs.SortedLines.{difference_place, failing_line};
-ghost use Rattle.sorted_findings.specs.Findings.{found_line, compared_lines, by_file_lines, findings_of, findings_room};
+ghost use Rattle.sorted_findings.specs.Findings.{refused_line, found_line, compared_lines, by_file_lines, findings_of, findings_room};
 
+use base_questions::Refusal;
 use file_printed::LINE_BYTES;
 use layout_texts::Text;
 use parts::Parted;
@@ -22,23 +24,31 @@ use ring_order::By;
 // The room for all that is printed: 17 bytes for each of 256 entries of an order, and a line of 64.
 pub const FINDINGS_ROOM: usize = 4416;
 
-// A refusal is all that is printed. Answers its length.
-fn put_refusal(n: u32, out: &mut [u8; FINDINGS_ROOM]) -> usize
-    ensures value { result ≡ length (refusal_line n) }
-    ensures out_after { out.new ≡ sets out.old 0 (refusal_line n) }
-{
-    let mut line = [0u8; LINE_BYTES];
-    let size = file_printed::refusal_line(&mut line, n);
-    file_bytes::put(out, 0, &line[0..size])
+// What is refused, which its line names: a bench file with its machine and orders, or a file that is no order file.
+#[derive(Clone, Copy, PartialEq, Eq, Debug)]
+enum Refused {
+    Bench(Refusal),
+    OrderFile(Refusal),
 }
 
-// So is the line of a file that is no order file.
-fn put_order_refusal(n: u32, out: &mut [u8; FINDINGS_ROOM]) -> usize
-    ensures value { result ≡ length (order_refusal_line n) }
-    ensures out_after { out.new ≡ sets out.old 0 (order_refusal_line n) }
+// The line of a refusal. Answers its length.
+fn refusal_line(line: &mut [u8; LINE_BYTES], refused: Refused) -> usize
+    ensures value { result ≡ length (refused_line refused) }
+    ensures line_after { line.new ≡ sets line.old 0 (refused_line refused) }
+{
+    match refused {
+        Refused::Bench(refusal) => file_printed::refusal_line(line, u32::from(refusal)),
+        Refused::OrderFile(refusal) => file_printed::order_refusal_line(line, u32::from(refusal)),
+    }
+}
+
+// A refusal is all that is printed. Answers its length.
+fn put_refusal(refused: Refused, out: &mut [u8; FINDINGS_ROOM]) -> usize
+    ensures value { result ≡ length (refused_line refused) }
+    ensures out_after { out.new ≡ sets out.old 0 (refused_line refused) }
 {
     let mut line = [0u8; LINE_BYTES];
-    let size = file_printed::order_refusal_line(&mut line, n);
+    let size = refusal_line(&mut line, refused);
     file_bytes::put(out, 0, &line[0..size])
 }
 
@@ -62,7 +72,7 @@ fn put_failing(
 // Puts the line of what was found of two orders after the bytes that a buffer has. Answers the place after it.
 fn put_found(
     text: Text,
-    parted: Parted,
+    parted: Option<Parted>,
     contents: &[u32; layout::MACHINE_LENGTH],
     items: &[u32],
     first: &[u32],
@@ -72,14 +82,17 @@ fn put_found(
 ) -> usize
     requires line_bytes_bound { at + line_bytes ≤ findings_room }
     requires contents_len { length contents.now ≡ machine_length }
-    ensures value { result ≡ at + length (found_line text first.now second.now (record { number = parted.number; point = parted.point; place = parted.place; contents = contents.now; items = items.now })) }
-    ensures out_after { out.new ≡ sets out.old at (found_line text first.now second.now (record { number = parted.number; point = parted.point; place = parted.place; contents = contents.now; items = items.now })) }
+    requires some_point { IfSome parted (λ p. 0 < p.point) }
+    ensures value { result ≡ at + length (found_line text first.now second.now (parting_of (Ok parted) contents.now items.now)) }
+    ensures out_after { out.new ≡ sets out.old at (found_line text first.now second.now (parting_of (Ok parted) contents.now items.now)) }
 {
-    if parted.point == 0 {
-        return file_bytes::put(out, at, b"equal\n");
+    match parted {
+        None => file_bytes::put(out, at, b"equal\n"),
+        Some(point) => {
+            let difference = parts_shown::differ_by(text, contents, items, first, second);
+            put_failing(point, difference, out, at)
+        }
     }
-    let difference = parts_shown::differ_by(text, contents, items, first, second);
-    put_failing(parted, difference, out, at)
 }
 
 // What is printed of a machine, the order by number and a second one. Answers its length.
@@ -96,12 +109,13 @@ fn put_compared(
 {
     let mut contents = [0u32; layout::MACHINE_LENGTH];
     let mut items = [0u32; layout::GENERATORS];
-    let parted = parts::parts(text, m, first, second, &mut contents, &mut items);
-    if parted.number != 0 {
-        return put_refusal(parted.number, out);
+    match parts::parts(text, m, first, second, &mut contents, &mut items) {
+        Err(refusal) => put_refusal(Refused::Bench(refusal), out),
+        Ok(parted) => {
+            let at = sorted_lines::order_lines(out, second);
+            put_found(text, parted, &contents, &items, first, second, out, at)
+        }
     }
-    let at = sorted_lines::order_lines(out, second);
-    put_found(text, parted, &contents, &items, first, second, out, at)
 }
 
 // The same of a machine that passes questions 1 and 2, whose T the order by number needs.
@@ -121,14 +135,15 @@ fn by_pitch(text: Text, m: &[u32], out: &mut [u8; FINDINGS_ROOM]) -> usize
     ensures value { result ≡ length (compared_lines text m.now (by_pitch m.now)) }
     ensures out_after { out.new ≡ sets out.old 0 (compared_lines text m.now (by_pitch m.now)) }
 {
-    let refused = machine::refusal(text, m);
-    if refused != 0 {
-        return put_refusal(refused, out);
+    match machine::refusal(text, m) {
+        Err(refusal) => put_refusal(Refused::Bench(refusal), out),
+        Ok(()) => {
+            let mut order = [0u32; layout::GENERATORS];
+            pass_pitch::by_pitch(m, &mut order);
+            let t = layout::ticks(m);
+            compared(text, m, &order[0..t], out)
+        }
     }
-    let mut order = [0u32; layout::GENERATORS];
-    pass_pitch::by_pitch(m, &mut order);
-    let t = layout::ticks(m);
-    compared(text, m, &order[0..t], out)
 }
 
 // What is printed of a machine and an order file. Answers its length.
@@ -136,17 +151,14 @@ fn by_file(text: Text, m: &[u32], file: &[u8], out: &mut [u8; FINDINGS_ROOM]) ->
     ensures value { result ≡ length (by_file_lines text m.now file.now) }
     ensures out_after { out.new ≡ sets out.old 0 (by_file_lines text m.now file.now) }
 {
-    let read = file_order::read(file);
-    let count = read.count;
-    let order = read.entries;
-    if read.number != 0 {
-        return put_order_refusal(read.number, out);
+    let read = match file_order::read(file) {
+        Ok(read) => read,
+        Err(refusal) => return put_refusal(Refused::OrderFile(refusal), out),
+    };
+    if let Err(refusal) = machine::refusal(text, m) {
+        return put_refusal(Refused::Bench(refusal), out);
     }
-    let refused = machine::refusal(text, m);
-    if refused != 0 {
-        return put_refusal(refused, out);
-    }
-    compared(text, m, &order[0..count], out)
+    compared(text, m, &read.entries[0..read.count], out)
 }
 
 // What is printed of a bench file, and of an order file if one is asked for: the first bytes of the buffer. Answers its length.
@@ -156,14 +168,11 @@ pub fn findings(file: &[u8], by: By, order: &[u8], out: &mut [u8; FINDINGS_ROOM]
 {
     let mut m = [0u32; layout::MACHINE_LENGTH];
     let mut room = [0u32; file_bench::COMMAND_PLACES];
-    let reading = file_bench::read(file, &mut m, &mut room);
-    if reading.number != 0 {
-        return put_refusal(reading.number, out);
-    }
-    let text = reading.text;
-    match by {
-        By::Number => by_pitch(text, &m, out),
-        By::Pitch => by_pitch(text, &m, out),
-        By::File => by_file(text, &m, order, out),
+    match file_bench::read(file, &mut m, &mut room) {
+        Err(refusal) => put_refusal(Refused::Bench(refusal), out),
+        Ok(contents) => match by {
+            By::Number | By::Pitch => by_pitch(contents.text, &m, out),
+            By::File => by_file(contents.text, &m, order, out),
+        },
     }
 }

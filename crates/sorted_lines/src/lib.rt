@@ -66,10 +66,8 @@ pub fn order_lines(out: &mut [u8], order: &[u32]) -> usize
     ensures out_after { out.new ≡ sets out.old 0 (order_lines order.now) }
 {
     let mut at: usize = 0;
-    let mut i: usize = 0;
-    while i < order.len() {
-        at = put_entry(out, at, order[i]);
-        i += 1;
+    for entry in order {
+        at = put_entry(out, at, *entry);
     }
     at
 }

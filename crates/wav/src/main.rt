@@ -4,35 +4,17 @@
 #![tactic(auto)]
 
 use ring_order::By;
+use std::io;
 
-// Writes the sound of a bench file, or its refusal; says whether all was written.
-fn sound(rt: HostRuntime, file: &[u8], by: By, order: &[u8]) -> bool {
+// Writes the sound of a bench file, or its refusal.
+fn sound(rt: HostRuntime, file: &[u8], by: By, listing: &[u8]) -> io::Result<()> {
     let mut out = [0u8; ring_wave::WAVE_ROOM];
-    let made = ring_wave::wave(file, by, order, &mut out);
-    let length = made.length;
-    let error = made.error;
-    let line = made.line;
-    if rt.stderr().write_all(&line[0..error]).is_err() {
-        return false;
+    match ring_wave::wave(file, by, listing, &mut out) {
+        Ok(length) => rt.write_all(&out[..length]),
+        Err(line) => rt.stderr().write_all(line.bytes()),
     }
-    rt.write_all(&out[0..length]).is_ok()
 }
 
 fn main(rt: HostRuntime) {
-    let mut order = [0u8; ring_streams::FILE_ROOM];
-    let request = ring_streams::read_arguments(rt, b"wav", &mut order);
-    if !request.good {
-        return;
-    }
-    let by = request.by;
-    let length = request.length;
-    let mut file = [0u8; ring_streams::FILE_ROOM];
-    let read = ring_streams::read_bench(rt, b"wav", &mut file);
-    if !read.good {
-        return;
-    }
-    let n = read.length;
-    if !sound(rt, &file[..n], by, &order[..length]) {
-        ring_streams::complain(rt, b"wav", b": cannot write\n");
-    }
+    ring_streams::run(rt, b"wav", |file, by, listing| sound(rt, file, by, listing));
 }

@@ -1,14 +1,18 @@
 -- `any_order::any_order` meets its contract: a refused call says no, another what the rule says.
 -- Assumes nothing.
-use mathlib.Core.Path.{sym, ◌∙◌}
+use mathlib.Core.Path.{refl, sym}
+use Rattle.std.proofs.lemmas.Result.{err_from_is_err_and}
+use Rattle.base_questions.proofs.Refusals.{numbered}
 use Rattle.any_order.proofs.Answers.{is-countable, says-no, says-rule}
 use Rattle.any_order.proofs.any_order.Goals as goal
 
-pub returns-then-number-ne0 : goal.returns-then-number-ne0
-returns-then-number-ne0 c = says-no c.args.m.now c.refusal-number.ensures c.if-number-ne0.true
+pub returns-in_err-refusal : goal.returns-in_err-refusal
+returns-in_err-refusal c =
+    let p = err_from_is_err_and c.from_residual.result c.from_residual.ensures.1 in
+    rw (p.1, p.2) (says-no c.args.m.now c.in_err-refusal.ensures (numbered c.in_err-refusal.field-0.0))
 
-pub holds-alike-requires : goal.holds-alike-requires
-holds-alike-requires c = is-countable c.args.m.now (sym c.refusal-number.ensures ∙ c.if-number-ne0.false)
+pub holds-requires : goal.holds-requires
+holds-requires c = is-countable c.args.m.now (sym c.in_ok-refusal.ensures)
 
 pub returns : goal.returns
-returns c = says-rule c.args.m.now c.refusal-number.ensures c.if-number-ne0.false c.holds-alike.ensures
+returns c = says-rule c.args.m.now c.in_ok-refusal.ensures refl c.holds.ensures

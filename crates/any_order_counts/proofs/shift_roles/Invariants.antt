@@ -7,6 +7,3 @@ use Rattle.any_order_counts.proofs.shift_roles.Given as goal
 
 abbrev pub invariant-loop-g : goal.invariant-loop-g
 invariant-loop-g l = (l.from ≤ l.g) × (l.g - l.from ≤ l.end - l.from) × (l.kept ≡ roles_moved l.up l.m l.initial.kept l.from (l.g - l.from))
-
-abbrev pub decreases-loop-g : goal.decreases-loop-g
-decreases-loop-g l = l.end - l.g

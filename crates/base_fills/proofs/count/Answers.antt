@@ -1,11 +1,10 @@
 -- `base_fills::count` meets its contract: the words passed are filled, and the next one is counted.
 -- Assumes nothing.
-use mathlib.Core.Path.{◌≡◌, refl, ◌∙◌}
+use mathlib.Core.Path.{◌≡◌}
 use Prim.Native.Nat.{ℕ, ◌+◌, ◌*◌}
 use native.Mathlib.Omega.{arith}
 use native.Mathlib.Nat.{mul-zero, mul-suc}
 use native.Mathlib.Numerals.{add-one}
-use lib.ListN.{length-set}
 use Rattle.base_fills.proofs.Filled.{steps_apart, filled_none, filled_next}
 use Rattle.base_fills.proofs.count.Goals as goal
 
@@ -15,7 +14,7 @@ next by k = rw (add-one k) (mul-suc by k)
 pub loop-k-init : goal.loop-k-init
 loop-k-init c =
     let a = c.args in
-    (omega arith, filled_none a.at a.step (λ k. a.first + a.by * k) a.run.now, refl, omega (arith, mul-zero a.by))
+    (filled_none a.at a.step (λ k. a.first + a.by * k) a.run.now, omega (arith, mul-zero a.by))
 
 pub overflow_mul-run : goal.overflow_mul-run
 overflow_mul-run c =
@@ -27,34 +26,19 @@ overflow_add-run c =
     let a = c.args in
     omega (arith, c.requires.0, steps_apart a.step c.loop-k.k a.n (omega arith))
 
-pub offset_bounds-run-at : goal.offset_bounds-run-at
-offset_bounds-run-at c =
-    let a = c.args in
-    omega (arith, c.requires.0, c.loop-k.invariant.2, steps_apart a.step c.loop-k.k a.n (omega arith))
-
 pub bounds-run-at : goal.bounds-run-at
 bounds-run-at c =
     let a = c.args in
-    omega (arith, c.requires.0, c.loop-k.invariant.2, steps_apart a.step c.loop-k.k a.n (omega arith))
+    omega (arith, c.requires.0, steps_apart a.step c.loop-k.k a.n (omega arith))
 
 pub overflow_add-word : goal.overflow_add-word
 overflow_add-word c =
     let a = c.args in
-    omega (arith, c.requires.1, c.loop-k.invariant.3, steps_apart a.by c.loop-k.k a.n (omega arith))
+    omega (arith, c.requires.1, c.loop-k.invariant.1, steps_apart a.by c.loop-k.k a.n (omega arith))
 
 pub loop-k-preserved : goal.loop-k-preserved
 loop-k-preserved c =
     let a = c.args in (
-      omega arith,
-      rw c.loop-k.invariant.3 (filled_next a.at a.step c.loop-k.k (λ k. a.first + a.by * k) a.run.now c.loop-k.invariant.1),
-      length-set c.loop-k.run (a.at + a.step * c.loop-k.k) c.loop-k.word ∙ c.loop-k.invariant.2,
-      omega (arith, c.loop-k.invariant.3, next a.by c.loop-k.k),
+      rw c.loop-k.invariant.1 (filled_next a.at a.step c.loop-k.k (λ k. a.first + a.by * k) a.run.now c.loop-k.invariant.0),
+      omega (arith, c.loop-k.invariant.1, next a.by c.loop-k.k),
     )
-
-pub returns : goal.returns
-returns c =
-    let e : c.loop-k.k ≡ c.args.n = omega arith in
-    rw (← e) c.loop-k.invariant.1
-
-pub shape_of-run : goal.shape_of-run
-shape_of-run c = c.loop-k.invariant.2

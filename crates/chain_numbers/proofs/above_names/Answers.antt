@@ -1,9 +1,8 @@
 -- `chain_numbers::above_names` meets its contract: the names passed are above_names on.
 -- Assumes nothing.
-use mathlib.Core.Path.{◌≡◌, ap, ◌∙◌}
-use Prim.Native.Nat.{ℕ, ◌≤◌, ◌+◌}
+use mathlib.Core.Path.{◌≡◌, ap}
+use Prim.Native.Nat.{ℕ, ◌+◌, ◌≤◌}
 use lib.ListN.{get_or}
-use Rattle.chain_numbers.specs.Earliest.{highest}
 use Rattle.chain_numbers.proofs.Loops.{highest-none, highest-next}
 use native.Mathlib.Omega.{arith}
 use Rattle.chain_numbers.proofs.above_names.Goals as goal
@@ -11,7 +10,7 @@ use Rattle.chain_numbers.proofs.above_names.Goals as goal
 pub loop-k-init : goal.loop-k-init
 loop-k-init c =
     let a = c.args in
-    (omega arith, highest-none (λ j. get_or a.numbers.now j 0 + a.lag) a.names.now a.at a.least)
+    highest-none (λ j. get_or a.numbers.now j 0 + a.lag) a.names.now a.at a.least
 
 pub overflow_add-at : goal.overflow_add-at
 overflow_add-at c = omega (arith, c.requires.waiting.within)
@@ -35,14 +34,12 @@ overflow_add-numbers c =
 
 pub loop-k-preserved : goal.loop-k-preserved
 loop-k-preserved c =
-    let a = c.args in (
-      omega arith,
-      highest-next (λ j. get_or a.numbers.now j 0 + a.lag) a.names.now a.at c.loop-k.k a.least c.loop-k.invariant.1
-          (ap (λ (j : ℕ). get_or a.numbers.now j 0 + a.lag) c.wide-j.ensures) c.higher-number.ensures,
-    )
+    let a = c.args in
+    highest-next (λ j. get_or a.numbers.now j 0 + a.lag) a.names.now a.at c.loop-k.k a.least c.loop-k.invariant
+    (ap (λ (j : ℕ). get_or a.numbers.now j 0 + a.lag) c.wide-j.ensures) c.max-number.ensures
 
 pub returns : goal.returns
 returns c =
     let a = c.args in
     let e : c.loop-k.k ≡ a.n = omega arith in
-    c.loop-k.invariant.1 ∙ ap (λ (k : ℕ). highest (λ j. get_or a.numbers.now j 0 + a.lag) a.names.now a.at k a.least) e
+    rw (← e) c.loop-k.invariant

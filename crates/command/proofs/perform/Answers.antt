@@ -1,34 +1,35 @@
 -- `command::perform` meets its contract: its arms by the code.
 -- Assumes nothing.
+use native.Mathlib.Omega.{arith}
 use Rattle.command.proofs.Turns.{does-misc, does-delay, does-timer, does-ticks, does-generator-load, does-modifier-load}
 use Rattle.command.proofs.perform.Goals as goal
 
-pub returns-then-code-eq0 : goal.returns-then-code-eq0
-returns-then-code-eq0 c =
+pub returns-in-0 : goal.returns-in-0
+returns-in-0 c =
     let a = c.args in
-    does-misc a.m.now a.c c.field-code.ensures c.if-code-eq0.true c.miscellany.ensures
+    does-misc a.m.now a.c c.field.ensures c.in-0.is c.miscellany.ensures
 
-pub returns-then-code-eq1 : goal.returns-then-code-eq1
-returns-then-code-eq1 c =
+pub returns-in-1 : goal.returns-in-1
+returns-in-1 c =
     let a = c.args in
-    does-delay a.m.now a.c c.field-code.ensures c.if-code-eq1.true c.load.ensures
+    does-delay a.m.now a.c c.field.ensures c.in-1.is c.load.ensures
 
-pub returns-then-code-eq2 : goal.returns-then-code-eq2
-returns-then-code-eq2 c =
+pub returns-in-2 : goal.returns-in-2
+returns-in-2 c =
     let a = c.args in
-    does-timer a.m.now a.c c.field-code.ensures c.if-code-eq2.true c.timer.ensures
+    does-timer a.m.now a.c c.field.ensures c.in-2.is c.timer.ensures
 
-pub returns-then-code-eq3 : goal.returns-then-code-eq3
-returns-then-code-eq3 c =
+pub returns-in-3 : goal.returns-in-3
+returns-in-3 c =
     let a = c.args in
-    does-ticks a.m.now a.c c.field-code.ensures c.if-code-eq3.true c.ticks.ensures
+    does-ticks a.m.now a.c c.field.ensures c.in-3.is c.ticks.ensures
 
-pub returns-then-code-lt24 : goal.returns-then-code-lt24
-returns-then-code-lt24 c =
+pub returns-in-4-to-23 : goal.returns-in-4-to-23
+returns-in-4-to-23 c =
     let a = c.args in
-    does-generator-load a.m.now a.c c.field-code.ensures c.if-code-eq0.false c.if-code-eq1.false c.if-code-eq2.false c.if-code-eq3.false c.if-code-lt24.true c.load-then-code-lt24.ensures
+    does-generator-load a.m.now a.c c.field.ensures (omega arith) (omega arith) (omega arith) (omega arith) (omega arith) c.load-in-4-to-23.ensures
 
-pub returns : goal.returns
-returns c =
+pub returns-in_default : goal.returns-in_default
+returns-in_default c =
     let a = c.args in
-    does-modifier-load a.m.now a.c c.field-code.ensures c.if-code-eq0.false c.if-code-eq1.false c.if-code-eq2.false c.if-code-eq3.false c.if-code-lt24.false c.load-2.ensures
+    does-modifier-load a.m.now a.c c.field.ensures (omega arith) (omega arith) (omega arith) (omega arith) (omega arith) c.load-in_default.ensures

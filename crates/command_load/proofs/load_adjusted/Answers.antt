@@ -19,7 +19,7 @@ pub nonzero_rem-m : goal.nonzero_rem-m
 nonzero_rem-m c = one-shifted-positive _ (omega arith)
 
 pub returns : goal.returns
-returns c = adjusted-right c.args.width c.requires.at_in_bounds.1 c.requires.at_in_bounds.2 c.args.c c.field-data.ensures c.args.m.now c.args.at c.flag.ensures c.if-flag.false c.extend20.ensures
+returns c = adjusted-right c.args.width c.requires.at_in_bounds.1 c.requires.at_in_bounds.2 c.args.c c.field-data.ensures c.args.m.now c.args.at c.flag.ensures c.if-flag.false c.extend.ensures
 
 pub bounds-m-4112-then-flag : goal.bounds-m-4112-then-flag
 bounds-m-4112-then-flag c = simp length-set (omega arith)

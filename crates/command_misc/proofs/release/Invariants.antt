@@ -1,13 +1,9 @@
 -- `command_misc::release` meets its contract: the generators passed are released.
 -- Assumes nothing.
 use mathlib.Core.Path.{◌≡◌}
-use Prim.Native.Nat.{◌-◌, ◌≤◌}
 use lib.ListN.{length}
 use Rattle.command_misc.specs.Misc.{released_below}
 use Rattle.command_misc.proofs.release.Given as goal
 
 abbrev pub invariant-loop-g : goal.invariant-loop-g
-invariant-loop-g l = (l.g ≤ 256) × (length l.m ≡ length l.initial.m) × (l.m ≡ released_below l.run l.initial.m l.g)
-
-abbrev pub decreases-loop-g : goal.decreases-loop-g
-decreases-loop-g l = 256 - l.g
+invariant-loop-g l = (length l.m ≡ length l.initial.m) × (l.m ≡ released_below l.run l.initial.m l.g)

@@ -8,6 +8,3 @@ returns c = c.requires.runs_of.at c.args.g c.requires.g_bound.0
 
 pub overflow_cast-result : goal.overflow_cast-result
 overflow_cast-result c = omega (arith, c.requires.runs_of.low c.args.g c.requires.g_bound.0)
-
-pub bounds-runs-g : goal.bounds-runs-g
-bounds-runs-g c = omega (arith, c.requires.g_bound.0, c.requires.g_bound.1)

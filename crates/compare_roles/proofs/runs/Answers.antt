@@ -7,14 +7,8 @@ use lib.ListN.{length-set}
 use Rattle.compare_roles.proofs.Filled.{run-low, filled_none, filled_next, filled-all}
 use Rattle.compare_roles.proofs.runs.Goals as goal
 
-pub ticks-t-requires : goal.ticks-t-requires
-ticks-t-requires c = c.requires.reaches.0
-
 pub loop-g-init : goal.loop-g-init
-loop-g-init c = let a = c.args in (omega arith, refl, filled_none a.text a.m.now _)
-
-pub run_mode-run-requires : goal.run_mode-run-requires
-run_mode-run-requires c = record { reaches = c.requires.reaches.0; g_bound = omega (arith, c.ticks-t.ensures, c.requires.reaches.1) }
+loop-g-init c = let a = c.args in (refl, filled_none a.text a.m.now _)
 
 pub overflow_cast-runs : goal.overflow_cast-runs
 overflow_cast-runs c =
@@ -22,19 +16,15 @@ overflow_cast-runs c =
     let low : c.loop-g.g < 256 = omega (arith, c.ticks-t.ensures, c.requires.reaches.1) in
     omega (arith, c.run_mode-run.ensures, run-low a.text a.m.now c.loop-g.g (c.requires.within.gmodes c.loop-g.g low))
 
-pub bounds-runs-g : goal.bounds-runs-g
-bounds-runs-g c = omega (arith, c.ticks-t.ensures, c.requires.reaches.1)
-
 pub loop-g-preserved : goal.loop-g-preserved
 loop-g-preserved c =
     let a = c.args in
     let low : c.loop-g.g < 256 = omega (arith, c.ticks-t.ensures, c.requires.reaches.1) in (
-      omega arith,
-      length-set c.loop-g.runs c.loop-g.g _ ∙ c.loop-g.invariant.1,
-      filled_next a.text a.m.now c.loop-g.runs c.loop-g.g c.loop-g.invariant.1 low c.run_mode-run.ensures (run-low a.text a.m.now c.loop-g.g (c.requires.within.gmodes c.loop-g.g low)) c.loop-g.invariant.2,
+      length-set c.loop-g.runs c.loop-g.g _ ∙ c.loop-g.invariant.0,
+      filled_next a.text a.m.now c.loop-g.runs c.loop-g.g c.loop-g.invariant.0 low c.run_mode-run.ensures (run-low a.text a.m.now c.loop-g.g (c.requires.within.gmodes c.loop-g.g low)) c.loop-g.invariant.1,
     )
 
 pub returns : goal.returns
 returns c =
     let a = c.args in
-    filled-all a.text a.m.now c.loop-g.runs (omega (arith, c.ticks-t.ensures)) c.loop-g.invariant.2
+    filled-all a.text a.m.now c.loop-g.runs (omega (arith, c.ticks-t.ensures)) c.loop-g.invariant.1

@@ -2,13 +2,9 @@
 -- Assumes nothing.
 use mathlib.Core.Path.{◌≡◌}
 use mathlib.Core.Bool.{true}
-use Prim.Native.Nat.{◌≤◌, ◌-◌}
 use Rattle.base_lists.specs.Lists.{all_below}
 use Rattle.delay_questions.proofs.Named.{fresh, Marks}
 use Rattle.delay_questions.proofs.named_once.Given as goal
 
 abbrev pub invariant-loop-k : goal.invariant-loop-k
-invariant-loop-k l = (l.k ≤ l.n) × (Marks l.m l.marks l.k) × (all_below (fresh l.m) l.k ≡ true)
-
-abbrev pub decreases-loop-k : goal.decreases-loop-k
-decreases-loop-k l = l.n - l.k
+invariant-loop-k l = (Marks l.m l.marks l.k) × (all_below (fresh l.m) l.k ≡ true)

@@ -4,11 +4,11 @@ use native.Mathlib.Omega.{arith}
 use Rattle.file_bytes.proofs.Searches as searches
 use Rattle.file_bytes.proofs.find.Goals as goal
 
-pub returns-then-bytes-i : goal.returns-then-bytes-i
-returns-then-bytes-i c = omega (arith, c.loop-i.invariant.1, searches.before-hit c.args.bytes.now c.loop-i.i _ c.loop-i-test.true c.if-bytes-i.true)
+pub returns-then-b-x : goal.returns-then-b-x
+returns-then-b-x c = omega (arith, c.loop-i.invariant, searches.before-hit c.args.bytes.now c.loop-i.i c.args.x c.loop-i-test.true c.if-b-x.true)
 
 pub loop-i-preserved : goal.loop-i-preserved
-loop-i-preserved c = omega (arith, c.loop-i.invariant.1, searches.before-miss c.args.bytes.now c.loop-i.i c.args.x c.loop-i-test.true c.if-bytes-i.false)
+loop-i-preserved c = omega (arith, c.loop-i.invariant, searches.before-miss c.args.bytes.now c.loop-i.i c.args.x c.loop-i-test.true c.if-b-x.false)
 
 pub returns : goal.returns
-returns c = omega (arith, c.loop-i.invariant.1, searches.before-none c.args.bytes.now c.loop-i.i c.args.x c.loop-i-test.false)
+returns c = omega (arith, c.loop-i.invariant, searches.before-none c.args.bytes.now c.loop-i.i c.args.x c.loop-i-test.false)

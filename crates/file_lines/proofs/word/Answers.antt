@@ -1,8 +1,10 @@
 -- `file_lines::word` meets its contract: the colon, then a number on each side of it.
 -- Assumes nothing.
 use mathlib.Core.Path.{sym}
+use Prim.Native.Nat.{◌+◌}
 use native.Mathlib.Omega.{arith}
 use lib.Seq.{length-take-le}
+use Rattle.file_bytes.proofs.Searches.{rest_of}
 use Rattle.file_lines.proofs.LineKinds as kinds
 use Rattle.file_lines.proofs.word.Goals as goal
 
@@ -22,8 +24,8 @@ returns-in_default-decimal c =
     c.find-k.ensures
     c.if-file-k.false
     c.decimal.ensures
-    c.in-Is.is
-    c.after-after.ensures
+    c.in-Some.is
+    (rest_of c.args.file.now (c.find-k.result + 1))
     c.decimal-2.ensures
     c.in_default-decimal.is
 
@@ -34,7 +36,7 @@ returns c =
     c.find-k.ensures
     c.if-file-k.false
     c.decimal.ensures
-    c.in-Is.is
-    c.after-after.ensures
+    c.in-Some.is
+    (rest_of c.args.file.now (c.find-k.result + 1))
     c.decimal-2.ensures
-    c.in-Is-decimal.is
+    c.in-Some-decimal.is

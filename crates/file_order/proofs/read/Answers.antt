@@ -6,7 +6,7 @@ use Rattle.file_order.proofs.read.Goals as goal
 
 pub returns-then-not-ended : goal.returns-then-not-ended
 returns-then-not-ended c =
-    c.no_order_file.ensures
+    lines.none-told
     ∙ lines.unended c.args.file.now (sym c.ended.ensures ∙ c.if-not-ended.true)
 
 pub read_lines-requires : goal.read_lines-requires

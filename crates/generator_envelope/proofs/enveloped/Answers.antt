@@ -15,4 +15,4 @@ overflow_add-magnitude c = omega (arith, product-fits c.requires.1 c.requires.2)
 
 pub returns : goal.returns
 unfolding rounded
-returns c = c.word20.ensures ∙ ap (low_bits 20) (signed-last _ _ _)
+returns c = c.word.ensures ∙ ap (low_bits 20) (signed-last _ _ _)

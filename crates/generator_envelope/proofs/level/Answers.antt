@@ -5,7 +5,7 @@ use Rattle.generator_envelope.proofs.Levels.{q-low}
 use Rattle.generator_envelope.proofs.level.Goals as goal
 
 pub level_by-requires : goal.level_by-requires
-level_by-requires c = (c.requires.gl_bound.0, rw c.q-q.ensures (q-low _ _ c.requires.gl_bound.1))
+level_by-requires c = (c.requires.0, rw c.q-q.ensures (q-low _ _ c.requires.1))
 
 pub returns : goal.returns
 unfolding level

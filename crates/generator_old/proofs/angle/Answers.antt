@@ -4,4 +4,4 @@ use Rattle.generator_old.proofs.OldTurns.{e-is}
 use Rattle.generator_old.proofs.angle.Goals as goal
 
 pub returns : goal.returns
-returns c = e-is _ _ c.phase.ensures c.low20-j.ensures.0 c.angle_by.ensures
+returns c = e-is _ _ c.phase.ensures c.low-j.ensures.is c.angle_by.ensures

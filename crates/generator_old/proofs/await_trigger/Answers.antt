@@ -8,8 +8,8 @@ use Rattle.generator_old.proofs.await_trigger.Goals as goal
 
 pub returns-then-below : goal.returns-then-below
 unfolding oscillated
-returns-then-below c = rw (old-turn-waits c.args.unit c.args.f c.args.below c.requires.unit_value.0, c.if-below.true, ← (low-is-j _ _ c.phase.ensures c.low20-j.ensures.0)) (c.with_run.ensures ∙ rw c.oscillate-turned.ensures)
+returns-then-below c = rw (old-turn-waits c.args.unit c.args.f c.args.below c.requires.unit_value.0, c.if-below.true, ← (low-is-j _ _ c.phase.ensures c.low-j.ensures.is)) (c.with_run.ensures ∙ rw c.oscillate-turned.ensures)
 
-pub returns : goal.returns
+pub returns-else-below : goal.returns-else-below
 unfolding oscillated
-returns c = rw (old-turn-waits c.args.unit c.args.f c.args.below c.requires.unit_value.0, c.if-below.false, ← (low-is-j _ _ c.phase.ensures c.low20-j.ensures.0)) c.oscillate-turned.ensures
+returns-else-below c = rw (old-turn-waits c.args.unit c.args.f c.args.below c.requires.unit_value.0, c.if-below.false, ← (low-is-j _ _ c.phase.ensures c.low-j.ensures.is)) c.oscillate-turned.ensures

@@ -8,7 +8,7 @@ use Rattle.generator_old.proofs.Levels.{q-is}
 use Rattle.generator_old.proofs.level.Goals as goal
 
 pub level_by-requires : goal.level_by-requires
-level_by-requires c = (c.requires.gl_bound.0, rw c.q-q.ensures (q-low _ _ (omega (arith, c.requires.gl_bound.1))))
+level_by-requires c = (c.requires.0, rw c.q-q.ensures (q-low _ _ (omega (arith, c.requires.1))))
 
 pub returns : goal.returns
 unfolding old_level

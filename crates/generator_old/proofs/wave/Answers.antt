@@ -7,13 +7,13 @@ use Rattle.generator_old.proofs.OldTurns.{e-by-low}
 use Rattle.generator_old.proofs.wave.Goals as goal
 
 pub square-requires : goal.square-requires
-square-requires c = omega (arith, c.angle_by-k.ensures, e-by-low c.args.unit c.args.j c.requires.ranged c.requires.sine_value.1)
+square-requires c = omega (arith, c.angle_by-k.ensures, e-by-low c.args.unit c.args.j c.requires.ranged c.requires.j_bound)
 
 pub sawtooth-requires : goal.sawtooth-requires
-sawtooth-requires c = omega (arith, c.angle_by-k.ensures, e-by-low c.args.unit c.args.j c.requires.ranged c.requires.sine_value.1)
+sawtooth-requires c = omega (arith, c.angle_by-k.ensures, e-by-low c.args.unit c.args.j c.requires.ranged c.requires.j_bound)
 
 pub cosine-requires : goal.cosine-requires
-cosine-requires c = record { table_value = c.requires.sine_value.0; k_bound = (omega (arith, c.angle_by-k.ensures, e-by-low c.args.unit c.args.j c.requires.ranged c.requires.sine_value.1), c.requires.ranged.gm-low) }
+cosine-requires c = (omega (arith, c.angle_by-k.ensures, e-by-low c.args.unit c.args.j c.requires.ranged c.requires.j_bound), c.requires.ranged.gm-low)
 
 pub returns-in-1 : goal.returns-in-1
 unfolding old_wave

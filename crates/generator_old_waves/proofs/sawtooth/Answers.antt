@@ -9,6 +9,6 @@ pub returns-then-k-lt2048 : goal.returns-then-k-lt2048
 unfolding value_of
 returns-then-k-lt2048 c = record { is = word_low 12 _ c.if-k-lt2048.true; bit = omega arith; low = omega arith }
 
-pub returns : goal.returns
+pub returns-else-k-lt2048 : goal.returns-else-k-lt2048
 unfolding value_of
-returns c = record { is = word-high 12 _ c.if-k-lt2048.false c.requires; bit = omega arith; low = omega arith }
+returns-else-k-lt2048 c = record { is = word-high 12 _ c.if-k-lt2048.false c.requires; bit = omega arith; low = omega arith }

@@ -9,6 +9,6 @@ pub returns-then-k-lt4096 : goal.returns-then-k-lt4096
 unfolding value_of
 returns-then-k-lt4096 c = record { is = saw-low _ c.requires c.if-k-lt4096.true; bit = omega arith; low = omega arith }
 
-pub returns : goal.returns
+pub returns-else-k-lt4096 : goal.returns-else-k-lt4096
 unfolding value_of
-returns c = record { is = saw-high _ c.requires c.if-k-lt4096.false; bit = omega arith; low = omega arith }
+returns-else-k-lt4096 c = record { is = saw-high _ c.requires c.if-k-lt4096.false; bit = omega arith; low = omega arith }

@@ -2,10 +2,10 @@
 use Rattle.generator_turn.proofs.turn_playing.Goals as goal
 
 pub play-requires : goal.play-requires
-play-requires c = record { ranged = c.requires.ranged; sine_value = c.requires.sine_value; on_value = rw c.in-Of1978.is at c.requires.on_value; f_bound = c.requires.f_bound }
+play-requires c = record { ranged = c.requires.ranged; on_value = rw c.in-Of1978.is at c.requires.on_value; f_bound = c.requires.f_bound }
 
 pub play-requires-in-Old : goal.play-requires-in-Old
-play-requires-in-Old c = record { ranged = c.requires.ranged; sine_value = c.requires.sine_value; on_value = rw c.in-Old.is at c.requires.on_value; f_bound = c.requires.f_bound }
+play-requires-in-Old c = record { ranged = c.requires.ranged; on_value = rw c.in-Old.is at c.requires.on_value; f_bound = c.requires.f_bound }
 
 pub returns-in-Of1978 : goal.returns-in-Of1978
 returns-in-Of1978 c = rw c.in-Of1978.is c.play.ensures

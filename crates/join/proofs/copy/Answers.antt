@@ -9,35 +9,22 @@ use Rattle.join.proofs.Storing.{copy-next}
 use Rattle.join.proofs.copy.Goals as goal
 
 pub loop-k-init : goal.loop-k-init
-loop-k-init c = let a = c.args in (omega arith, filled_none a.at 1 (λ k. get_or a.words.now k 0) a.m.now, refl)
+loop-k-init c = let a = c.args in (filled_none a.at 1 (λ k. get_or a.words.now k 0) a.m.now, refl)
 
 pub bounds-words-k : goal.bounds-words-k
 bounds-words-k c = omega (arith, c.requires.1)
 
-pub overflow_add-m : goal.overflow_add-m
-overflow_add-m c = omega (arith, c.requires.0)
-
-pub offset_bounds-m-at : goal.offset_bounds-m-at
-offset_bounds-m-at c = omega (arith, c.requires.0, c.loop-k.invariant.2)
-
 pub bounds-m-at : goal.bounds-m-at
-bounds-m-at c = omega (arith, c.requires.0, c.loop-k.invariant.2)
+bounds-m-at c = omega (arith, c.requires.0, c.loop-k.invariant.1)
 
 pub loop-k-preserved : goal.loop-k-preserved
 loop-k-preserved c =
     let a = c.args in (
-      omega arith,
-      copy-next a.at c.loop-k.k (λ k. get_or a.words.now k 0) a.m.now c.loop-k.invariant.1,
-      length-set c.loop-k.m (a.at + c.loop-k.k) _ ∙ c.loop-k.invariant.2,
+      copy-next a.at c.loop-k.k (λ k. get_or a.words.now k 0) a.m.now c.loop-k.invariant.0,
+      length-set c.loop-k.m (a.at + c.loop-k.k) _ ∙ c.loop-k.invariant.1,
     )
 
 pub returns : goal.returns
 returns c =
     let e : c.loop-k.k ≡ c.args.n = omega arith in
-    rw (← e) c.loop-k.invariant.1
-
-pub offset_bounds-words-k : goal.offset_bounds-words-k
-offset_bounds-words-k c = omega (arith, c.requires.1)
-
-pub shape_of-m : goal.shape_of-m
-shape_of-m c = c.loop-k.invariant.2
+    rw (← e) c.loop-k.invariant.0

@@ -1,21 +1,16 @@
 -- `join_questions::machines_refusal` meets its contract: the second machine is asked where the first is let through.
 -- Assumes nothing.
+use mathlib.Core.Path.{refl, ◌∙◌}
+use Rattle.base_questions.proofs.Refusals.{numbered, handed_on}
 use Rattle.join_questions.proofs.Answers.{first-refuses, second-asked}
-use borrow.Author.Rules.{rules}
 use Rattle.join_questions.proofs.machines_refusal.Goals as goal
 
-pub refusal-number-requires : goal.refusal-number-requires
-refusal-number-requires c = search rules
-
-pub returns-then-number-ne0 : goal.returns-then-number-ne0
-returns-then-number-ne0 c =
+pub returns-in_err-refusal : goal.returns-in_err-refusal
+returns-in_err-refusal c =
     let a = c.args in
-    first-refuses a.m.now a.second.now c.refusal-number.ensures c.if-number-ne0.true
-
-pub refusal-requires : goal.refusal-requires
-refusal-requires c = search rules
+    handed_on _ _ c.from_residual.ensures.1 ∙ first-refuses a.m.now a.second.now c.in_err-refusal.ensures (numbered _)
 
 pub returns : goal.returns
 returns c =
     let a = c.args in
-    second-asked a.m.now a.second.now c.refusal-number.ensures c.if-number-ne0.false c.refusal.ensures
+    second-asked a.m.now a.second.now c.in_ok-refusal.ensures refl c.refusal-2.ensures

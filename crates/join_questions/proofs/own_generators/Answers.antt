@@ -1,28 +1,26 @@
 -- `join_questions::own_generators` meets its contract: the generators passed are such ones.
 -- Assumes nothing.
-use mathlib.Core.Path.{◌≡◌, refl, ap, ◌∙◌}
+use mathlib.Core.Path.{◌≡◌, refl}
 use native.Mathlib.Omega.{arith}
 use native.Mathlib.Numerals.{add-one}
-use Rattle.base_lists.specs.Lists.{all_below}
 use Rattle.layout.specs.Machine.{ticks_of}
-use Rattle.join_model.specs.Join.{own_generator, own_generators}
+use Rattle.join_model.specs.Join.{own_generators}
 use Rattle.join_questions.proofs.own_generators.Goals as goal
 
 pub ticks-below-requires : goal.ticks-below-requires
 ticks-below-requires c = c.requires.reaches
 
-pub own_generator-own-requires : goal.own_generator-own-requires
-own_generator-own-requires c = record { usable = c.requires; g_lt_generators = omega (arith, c.ticks-below.ensures, c.requires.ticks) }
+pub own_generator-ok-requires : goal.own_generator-ok-requires
+own_generator-ok-requires c = record { usable = c.requires; g_lt_generators = omega (arith, c.ticks-below.ensures, c.requires.ticks) }
+
+pub loop-g-init : goal.loop-g-init
+loop-g-init c = refl
 
 pub loop-g-preserved : goal.loop-g-preserved
-loop-g-preserved c = (omega arith, rw (add-one c.loop-g.g, ← c.loop-g.invariant.1, c.own_generator-own.ensures))
+loop-g-preserved c = rw (add-one c.loop-g.g, ← c.loop-g.invariant, c.own_generator-ok.ensures) refl
 
 pub returns : goal.returns
 unfolding own_generators
 returns c =
-    let a = c.args in
-    let e : c.loop-g.g ≡ ticks_of a.m.now = omega (arith, c.ticks-below.ensures) in
-    c.loop-g.invariant.1 ∙ ap (all_below (own_generator a.m.now)) e
-
-pub loop-g-init : goal.loop-g-init
-loop-g-init c = (omega arith, refl)
+    let e : c.loop-g.g ≡ ticks_of c.args.m.now = omega (arith, c.ticks-below.ensures) in
+    rw (← e) c.loop-g.invariant

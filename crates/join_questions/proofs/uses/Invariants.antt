@@ -1,12 +1,8 @@
 -- `join_questions::uses` meets its contract: the generators passed are marked.
 -- Assumes nothing.
 use mathlib.Core.Path.{◌≡◌}
-use Prim.Native.Nat.{◌≤◌, ◌-◌}
 use Rattle.join_questions.specs.AsCoded.{marked_to}
 use Rattle.join_questions.proofs.uses.Given as goal
 
 abbrev pub invariant-loop-g : goal.invariant-loop-g
-invariant-loop-g l = (l.g ≤ l.t) × (l.used ≡ marked_to l.m l.g)
-
-abbrev pub decreases-loop-g : goal.decreases-loop-g
-decreases-loop-g l = l.t - l.g
+invariant-loop-g l = l.used ≡ marked_to l.m l.g

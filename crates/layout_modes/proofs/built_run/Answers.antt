@@ -1,5 +1,6 @@
 -- `layout_modes::built_run` meets its contract: one test over the 16 numbers.
 -- Assumes nothing.
+use mathlib.Core.Path.{◌∙◌}
 use Rattle.base_lists.specs.Lists.{is_one_of}
 use Rattle.base_lists.proofs.Masks.{tells, bit-tells}
 use Rattle.layout_modes.specs.Modes.{built_runs, built_run}
@@ -7,4 +8,4 @@ use Rattle.layout_modes.proofs.built_run.Goals as goal
 
 pub returns : goal.returns
 unfolding built_run tells is_one_of
-returns c = bit-tells _ built_runs 16 tt c.args.r c.requires
+returns c = c.bit.ensures ∙ bit-tells _ built_runs 16 tt _ c.requires

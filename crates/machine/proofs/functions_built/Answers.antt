@@ -1,6 +1,8 @@
 -- `machine::functions_built` meets its contract: the flags are those of the built functions.
 -- Assumes nothing.
+use mathlib.Core.Path.{refl}
 use Prim.Native.Nat.{◌+◌}
+use lib.Dec.{lit<}
 use Rattle.base_lists.specs.Lists.{is_one_of}
 use Rattle.layout.specs.Layout.{modifier_at, modifier_words, MMODE}
 use Rattle.layout_codes.specs.BuiltCodes.{built_functions, built_function, old_built_functions, old_built_function}
@@ -11,13 +13,11 @@ use Rattle.machine.proofs.functions_built.Goals as goal
 pub returns-in-Of1978 : goal.returns-in-Of1978
 unfolding functions_built built_function built_functions is_one_of
 returns-in-Of1978 c =
-    let m = c.args.m.now in
     rw c.in-Of1978.is
-    (fields-tested c.flags-functions.result built_function (flags-tell _ _ c.flags-functions.ensures built_function tt) 4 m (modifier_at 0 + MMODE) modifier_words 128 c.fields_flagged.result c.fields_flagged.ensures)
+    (fields-tested _ built_function 32 (lit< tt) (flags-tell _ 32 _ refl built_function tt) 4 c.args.m.now (modifier_at 0 + MMODE) modifier_words 128 c.functions_by.result c.functions_by.ensures)
 
 pub returns-in-Old : goal.returns-in-Old
 unfolding functions_built old_built_function old_built_functions is_one_of
 returns-in-Old c =
-    let m = c.args.m.now in
     rw c.in-Old.is
-    (fields-tested c.flags-functions-in-Old.result old_built_function (flags-tell _ _ c.flags-functions-in-Old.ensures old_built_function tt) 4 m (modifier_at 0 + MMODE) modifier_words 128 c.fields_flagged-in-Old.result c.fields_flagged-in-Old.ensures)
+    (fields-tested _ old_built_function 32 (lit< tt) (flags-tell _ 32 _ refl old_built_function tt) 4 c.args.m.now (modifier_at 0 + MMODE) modifier_words 128 c.functions_by-in-Old.result c.functions_by-in-Old.ensures)

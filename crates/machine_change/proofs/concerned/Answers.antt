@@ -1,23 +1,16 @@
 -- `machine_change::concerned` meets its contract: a change of T concerns the generator at its end.
 -- Assumes nothing.
-use native.Mathlib.Omega.{arith}
-use Rattle.machine_change.proofs.Branches.{more-concerns, fewer-concerns, register-concerns}
+use Rattle.machine_change.specs.Change.{concerned}
+use Rattle.machine_change.proofs.Branches.{sets-concern}
 use Rattle.machine_change.proofs.concerned.Goals as goal
 
-pub returns-then-kind-eq-TICK_MORE : goal.returns-then-kind-eq-TICK_MORE
-returns-then-kind-eq-TICK_MORE c =
-    let a = c.args in
-    more-concerns a.m.now a.kind a.generator 0 c.if-kind-eq-TICK_MORE.true c.ticks-t.ensures
+pub returns-in-TickMore : goal.returns-in-TickMore
+unfolding concerned
+returns-in-TickMore c = rw c.in-TickMore.is c.ticks-t.ensures
 
-pub overflow_sub-result : goal.overflow_sub-result
-overflow_sub-result c = omega (arith, c.ticks-t.ensures, c.requires.bound)
+pub returns-in-TickFewer : goal.returns-in-TickFewer
+unfolding concerned
+returns-in-TickFewer c = rw (c.in-TickFewer.is, c.ticks-t.ensures)
 
-pub returns-then-kind-eq-TICK_FEWER : goal.returns-then-kind-eq-TICK_FEWER
-returns-then-kind-eq-TICK_FEWER c =
-    let a = c.args in
-    fewer-concerns a.m.now a.kind a.generator 0 c.if-kind-eq-TICK_MORE.false c.if-kind-eq-TICK_FEWER.true c.ticks-t.ensures
-
-pub returns : goal.returns
-returns c =
-    let a = c.args in
-    register-concerns a.m.now a.kind a.generator 0 c.if-kind-eq-TICK_MORE.false c.if-kind-eq-TICK_FEWER.false c.wide.ensures
+pub returns-in-Sets : goal.returns-in-Sets
+returns-in-Sets c = let s = c.in-Sets in rw s.is (sets-concern c.args.m.now s.register s.generator s.value c.wide.ensures)

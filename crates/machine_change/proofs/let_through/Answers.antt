@@ -1,19 +1,17 @@
--- `machine_change::let_through` meets its contract: each branch asks its new word.
+-- `machine_change::let_through` meets its contract: each change asks its new word.
 -- Assumes nothing.
-use Rattle.machine_change.proofs.Branches.{more-let, fewer-let, register-let}
+use mathlib.Core.Path.{refl}
+use Rattle.machine_change.specs.AsCoded.{let_through}
+use Rattle.machine_change.proofs.Branches.{sets-let}
 use Rattle.machine_change.proofs.let_through.Goals as goal
 
-pub returns-then-kind-eq-TICK_MORE : goal.returns-then-kind-eq-TICK_MORE
-returns-then-kind-eq-TICK_MORE c =
-    let a = c.args in
-    more-let a.m.now a.kind a.generator a.value c.if-kind-eq-TICK_MORE.true
+pub returns-in-TickMore : goal.returns-in-TickMore
+unfolding let_through
+returns-in-TickMore c = rw c.in-TickMore.is refl
 
-pub returns-then-kind-eq-TICK_FEWER : goal.returns-then-kind-eq-TICK_FEWER
-returns-then-kind-eq-TICK_FEWER c =
-    let a = c.args in
-    fewer-let a.m.now a.kind a.generator a.value c.if-kind-eq-TICK_MORE.false c.if-kind-eq-TICK_FEWER.true
+pub returns-in-TickFewer : goal.returns-in-TickFewer
+unfolding let_through
+returns-in-TickFewer c = rw c.in-TickFewer.is refl
 
-pub returns : goal.returns
-returns c =
-    let a = c.args in
-    register-let a.m.now a.kind a.generator a.value c.if-kind-eq-TICK_MORE.false c.if-kind-eq-TICK_FEWER.false c.value_fits.ensures
+pub returns-in-Sets : goal.returns-in-Sets
+returns-in-Sets c = let s = c.in-Sets in rw s.is (sets-let c.args.m.now s.register s.generator s.value c.value_fits.ensures)

@@ -1,24 +1,21 @@
--- `machine_change::value_fits` meets its contract: each kind has its width.
+-- `machine_change::value_fits` meets its contract: each register has its width.
 -- Assumes nothing.
-use Rattle.machine_change.proofs.Branches.{gmode-fits, gsum-fits, gfm-fits, dac-fits}
+use mathlib.Core.Path.{refl}
+use Rattle.machine_change.specs.AsCoded.{value_fits}
 use Rattle.machine_change.proofs.value_fits.Goals as goal
 
-pub returns-then-kind-eq-GMODE_CHANGE : goal.returns-then-kind-eq-GMODE_CHANGE
-returns-then-kind-eq-GMODE_CHANGE c =
-    let a = c.args in
-    gmode-fits a.kind a.value c.if-kind-eq-GMODE_CHANGE.true c.built_gmode.ensures
+pub returns-in-Gmode : goal.returns-in-Gmode
+unfolding value_fits
+returns-in-Gmode c = rw c.in-Gmode.is c.built_gmode.ensures
 
-pub returns-then-kind-eq-GSUM_CHANGE : goal.returns-then-kind-eq-GSUM_CHANGE
-returns-then-kind-eq-GSUM_CHANGE c =
-    let a = c.args in
-    gsum-fits a.kind a.value c.if-kind-eq-GMODE_CHANGE.false c.if-kind-eq-GSUM_CHANGE.true
+pub returns-in-Gsum : goal.returns-in-Gsum
+unfolding value_fits
+returns-in-Gsum c = rw c.in-Gsum.is refl
 
-pub returns-then-kind-eq-GFM_CHANGE : goal.returns-then-kind-eq-GFM_CHANGE
-returns-then-kind-eq-GFM_CHANGE c =
-    let a = c.args in
-    gfm-fits a.kind a.value c.if-kind-eq-GMODE_CHANGE.false c.if-kind-eq-GSUM_CHANGE.false c.if-kind-eq-GFM_CHANGE.true
+pub returns-in-Gfm : goal.returns-in-Gfm
+unfolding value_fits
+returns-in-Gfm c = rw c.in-Gfm.is refl
 
-pub returns : goal.returns
-returns c =
-    let a = c.args in
-    dac-fits a.kind a.value c.if-kind-eq-GMODE_CHANGE.false c.if-kind-eq-GSUM_CHANGE.false c.if-kind-eq-GFM_CHANGE.false
+pub returns-in-Dac : goal.returns-in-Dac
+unfolding value_fits
+returns-in-Dac c = rw c.in-Dac.is refl

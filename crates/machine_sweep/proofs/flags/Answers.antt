@@ -1,27 +1,18 @@
--- `machine_sweep::flags` meets its contract: what is left to fill gives the flags.
+-- `machine_sweep::flags` meets its contract: the flags passed are those of the mask, in the end all.
 -- Assumes nothing.
-use mathlib.Core.Path.{◌≡◌, refl, sym, ◌∙◌}
-use Prim.Native.Nat.{◌-◌}
-use native.Mathlib.Omega.{arith}
-use lib.ListN.{length-set}
+use Rattle.std.proofs.Common.{◌<◌, ◌≢◌, length, ◌∙◌, arith, length-set, get_or-set_other, get_or-set_same, below_more}
 use Rattle.machine_sweep.specs.AsCoded.{flag_of}
-use Rattle.machine_sweep.proofs.Words.{filled_next, filled-done, filled-flags}
+use Rattle.machine_sweep.proofs.Words.{flags-are}
 use Rattle.machine_sweep.proofs.flags.Goals as goal
 
 pub loop-k-preserved : goal.loop-k-preserved
 unfolding flag_of
-loop-k-preserved c =
-    let f = flag_of c.args.mask in (
-      omega arith,
-      length-set c.loop-k.t c.loop-k.k (f c.loop-k.k) ∙ c.loop-k.invariant.1,
-      sym (filled_next f c.loop-k.k 32 c.loop-k.t (omega arith)) ∙ c.loop-k.invariant.2,
-    )
+loop-k-preserved g c = (
+  length-set c.loop-k.t c.loop-k.k _ ∙ c.loop-k.invariant.0,
+  below_more _ _
+      (λ k h. let ne : k ≢ c.loop-k.k = omega arith in rw get_or-set_other (c.loop-k.invariant.1 k h))
+      (let lt : c.loop-k.k < length c.loop-k.t = omega (arith, c.loop-k.invariant.0) in rw get_or-set_same c.bit.ensures),
+)
 
 pub returns : goal.returns
-returns c =
-    let mask = c.args.mask in
-    let e : 32 - c.loop-k.k ≡ 0 = omega arith in
-    filled-done (flag_of mask) c.loop-k.k (32 - c.loop-k.k) c.loop-k.t e ∙ c.loop-k.invariant.2 ∙ filled-flags mask
-
-pub loop-k-init : goal.loop-k-init
-loop-k-init c = (omega arith, refl, refl)
+returns g c = flags-are c.args.mask g.row.N _ c.loop-k.invariant.0 (λ k h. c.loop-k.invariant.1 k (omega arith))

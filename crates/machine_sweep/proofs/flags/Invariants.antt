@@ -1,15 +1,11 @@
--- `machine_sweep::flags` meets its contract: what is left to fill gives the flags.
+-- `machine_sweep::flags` meets its contract: the flags passed are those of the mask.
 -- Assumes nothing.
 use mathlib.Core.Path.{◌≡◌}
-use Prim.Native.Nat.{◌≤◌, ◌-◌}
 use mathlib.Core.Bool.{false}
-use lib.ListN.{length, replicate}
+use Prim.Native.Nat.{ℕ, ◌<◌}
+use lib.ListN.{length, get_or}
 use Rattle.machine_sweep.specs.AsCoded.{flag_of}
-use Rattle.machine_sweep.proofs.Words.{filled_from}
 use Rattle.machine_sweep.proofs.flags.Given as goal
 
 abbrev pub invariant-loop-k : goal.invariant-loop-k
-invariant-loop-k l = (l.k ≤ 32) × (length l.t ≡ 32) × (filled_from (flag_of l.mask) l.k (32 - l.k) l.t ≡ filled_from (flag_of l.mask) 0 32 (replicate 32 false))
-
-abbrev pub decreases-loop-k : goal.decreases-loop-k
-decreases-loop-k l = 32 - l.k
+invariant-loop-k g l = (length l.t ≡ g.row.N) × ((k : ℕ) → k < l.k → get_or l.t k false ≡ flag_of l.mask k)

@@ -1,6 +1,6 @@
 -- `machine_sweep::swept` meets its contract: the rows passed are below their limits.
 -- Assumes nothing.
-use mathlib.Core.Path.{◌≡◌, refl}
+use mathlib.Core.Path.{refl}
 use Prim.Native.Nat.{◌*◌}
 use native.Mathlib.Omega.{arith}
 use lib.ListN.{length}
@@ -10,7 +10,7 @@ use Rattle.machine_sweep.proofs.swept.Goals as goal
 
 pub loop-k-init : goal.loop-k-init
 unfolding swept
-loop-k-init c = (omega arith, refl)
+loop-k-init c = refl
 
 pub overflow_mul-rows-in-loop-k : goal.overflow_mul-rows-in-loop-k
 overflow_mul-rows-in-loop-k c =
@@ -22,17 +22,12 @@ overflow_add-at c =
     let a = c.args in
     omega (arith, rows_inside a.at (8 * length a.limits.now) c.loop-k.k a.times (length a.m.now) (omega arith) c.requires)
 
-pub rows_below-below-requires : goal.rows_below-below-requires
-rows_below-below-requires c =
+pub rows_below-ok-requires : goal.rows_below-ok-requires
+rows_below-ok-requires c =
     let a = c.args in
     omega (arith, rows_inside a.at (8 * length a.limits.now) c.loop-k.k a.times (length a.m.now) (omega arith) c.requires)
 
 pub loop-k-preserved : goal.loop-k-preserved
 loop-k-preserved c =
     let a = c.args in
-    (omega arith, rw (c.rows_below-below.ensures, c.loop-k.invariant.1) (swept-next a.limits.now a.m.now a.at c.loop-k.k))
-
-pub returns : goal.returns
-returns c =
-    let e : c.loop-k.k ≡ c.args.times = omega arith in
-    rw (← e) c.loop-k.invariant.1
+    rw (c.rows_below-ok.ensures, c.loop-k.invariant) (swept-next a.limits.now a.m.now a.at c.loop-k.k)

@@ -1,6 +1,6 @@
 -- `machine_sweep::words_below` meets its contract: the units passed are below the limit.
 -- Assumes nothing.
-use mathlib.Core.Path.{◌≡◌, refl}
+use mathlib.Core.Path.{refl}
 use native.Mathlib.Omega.{arith}
 use lib.Dec.{ltb}
 use lib.ListN.{length}
@@ -10,7 +10,7 @@ use Rattle.machine_sweep.proofs.words_below.Goals as goal
 
 pub loop-k-init : goal.loop-k-init
 unfolding every_word
-loop-k-init c = (omega arith, refl)
+loop-k-init c = refl
 
 pub overflow_mul-ok : goal.overflow_mul-ok
 overflow_mul-ok c =
@@ -22,11 +22,6 @@ overflow_add-ok c =
     let a = c.args in
     omega (arith, word-inside a.at a.step c.loop-k.k a.n (length a.m.now) (omega arith) c.requires)
 
-pub offset_bounds-m-at : goal.offset_bounds-m-at
-offset_bounds-m-at c =
-    let a = c.args in
-    omega (arith, word-inside a.at a.step c.loop-k.k a.n (length a.m.now) (omega arith) c.requires)
-
 pub bounds-m-at : goal.bounds-m-at
 bounds-m-at c =
     let a = c.args in
@@ -35,9 +30,4 @@ bounds-m-at c =
 pub loop-k-preserved : goal.loop-k-preserved
 loop-k-preserved c =
     let a = c.args in
-    (omega arith, rw c.loop-k.invariant.1 (word_next (λ x. ltb x a.limit) a.m.now a.at a.step c.loop-k.k))
-
-pub returns : goal.returns
-returns c =
-    let e : c.loop-k.k ≡ c.args.n = omega arith in
-    rw (← e) c.loop-k.invariant.1
+    rw c.loop-k.invariant (word_next (λ x. ltb x a.limit) a.m.now a.at a.step c.loop-k.k)

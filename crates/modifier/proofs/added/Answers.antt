@@ -5,4 +5,4 @@ use Rattle.modifier.proofs.Low.{word_of}
 use Rattle.modifier.proofs.added.Goals as goal
 
 pub returns : goal.returns
-returns c = word_of c.add20.ensures (sum_low 20 _ _)
+returns c = word_of c.add.ensures.as_signed (sum_low 20 _ _)

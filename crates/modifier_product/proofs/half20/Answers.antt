@@ -11,4 +11,4 @@ pub returns : goal.returns
 unfolding half
 returns c =
     sym
-    (half-difference _ (is-difference c.biased20.result (2 ^ 19) c.biased20.ensures.1) c.biased20.ensures.0)
+    (half-difference _ (is-difference c.biased.result (2 ^ 19) c.biased.ensures.above) c.biased.ensures.low)

@@ -12,5 +12,5 @@ unfolding less
 returns c =
     sym
     (less-difference
-    (is-difference c.biased20.result (2 ^ 19) c.biased20.ensures.1)
-    (is-difference c.biased20-2.result (2 ^ 19) c.biased20-2.ensures.1))
+    (is-difference c.biased.result (2 ^ 19) c.biased.ensures.above)
+    (is-difference c.biased-2.result (2 ^ 19) c.biased-2.ensures.above))

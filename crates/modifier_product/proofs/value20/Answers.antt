@@ -4,7 +4,7 @@ use Rattle.modifier_product.proofs.Integers.{is-fits, kept, unbiased}
 use Rattle.modifier_product.proofs.value20.Goals as goal
 
 pub overflow_sub-result : goal.overflow_sub-result
-overflow_sub-result c = is-fits (unbiased _ _ c.requires c.biased20.ensures.0 c.biased20.ensures.1) tt
+overflow_sub-result c = is-fits (unbiased _ _ c.requires c.biased.ensures.low c.biased.ensures.above) tt
 
 pub returns : goal.returns
-returns c = (kept (unbiased _ _ c.requires c.biased20.ensures.0 c.biased20.ensures.1) tt).same
+returns c = (kept (unbiased _ _ c.requires c.biased.ensures.low c.biased.ensures.above) tt).same

@@ -7,22 +7,19 @@ use Rattle.parts_shown.proofs.first_different.Goals as goal
 pub returns-then-second-i : goal.returns-then-second-i
 returns-then-second-i c =
     let a = c.args in
-    omega (arith, c.loop-i.invariant.1, shorter a.first.now a.second.now c.loop-i.i c.loop-i-test.true c.if-second-i.true)
+    omega (arith, c.loop-i.invariant, shorter a.first.now a.second.now c.loop-i.i c.loop-i-test.true c.if-second-i.true)
 
 pub returns-then-first-i : goal.returns-then-first-i
 returns-then-first-i c =
     let a = c.args in
-    omega (arith, c.loop-i.invariant.1, other_word a.first.now a.second.now c.loop-i.i c.loop-i-test.true c.if-second-i.false c.if-first-i.true)
+    omega (arith, c.loop-i.invariant, other_word a.first.now a.second.now c.loop-i.i c.loop-i-test.true c.if-second-i.false c.if-first-i.true)
 
 pub loop-i-preserved : goal.loop-i-preserved
 loop-i-preserved c =
     let a = c.args in
-    (omega arith, omega (arith, c.loop-i.invariant.1, same_word a.first.now a.second.now c.loop-i.i c.loop-i-test.true c.if-second-i.false c.if-first-i.false))
+    omega (arith, c.loop-i.invariant, same_word a.first.now a.second.now c.loop-i.i c.loop-i-test.true c.if-second-i.false c.if-first-i.false)
 
 pub returns : goal.returns
 returns c =
     let a = c.args in
-    omega (arith, c.loop-i.invariant.1, none_left a.first.now a.second.now c.loop-i.i c.loop-i-test.false)
-
-pub loop-i-init : goal.loop-i-init
-loop-i-init c = (omega arith, omega arith)
+    omega (arith, c.loop-i.invariant, none_left a.first.now a.second.now c.loop-i.i c.loop-i-test.false)

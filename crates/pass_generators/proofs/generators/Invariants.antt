@@ -1,25 +1,20 @@
 -- `generators` meets its contract: what is left of the order, from the state and the marks that the arrays hold, leaves what the whole leaves.
-use Prim.Native.Nat.{◌-◌, ◌≤◌}
+use Prim.Native.Nat.{◌≤◌}
 use mathlib.Core.Path.{◌≡◌}
-use lib.ListN.{length, drop}
+use lib.ListN.{drop}
 use Rattle.pass_model.specs.Generators.{generators_of, begun, steps}
 use Rattle.pass_model.specs.Clipped.{marked_by}
-use Rattle.pass_generators.specs.AsCoded.{Ready}
+use Rattle.pass_generators.specs.AsCoded.{Ready, state_of}
 use Rattle.pass_generators.proofs.generators.Given as goal
 
-abbrev pub invariant-loop-i : goal.invariant-loop-i
-invariant-loop-i l =
-    (l.i ≤ length l.order)
-    × (length l.m ≡ length l.initial.m)
-    × (length l.places ≡ length l.initial.places)
-    × Ready l.m
-    × (l.done.reads ≤ l.i)
-    × (l.done.writes ≤ l.i)
-    × (steps (generators_of l.text) l.items (record { words = l.m; sums = l.s; triggered = l.triggered; places = l.places; reads = l.done.reads; writes = l.done.writes }) (drop l.i l.order)
-    ≡ steps (generators_of l.text) l.items (begun l.initial.m l.initial.s l.initial.places) l.order)
-    × (marked_by (generators_of l.text) l.items (record { words = l.m; sums = l.s; triggered = l.triggered; places = l.places; reads = l.done.reads; writes = l.done.writes }) l.clipped (drop l.i l.order)
-    ≡ marked_by (generators_of l.text) l.items (begun l.initial.m l.initial.s l.initial.places) l.initial.clipped l.order)
-
-abbrev pub decreases-loop-i : goal.decreases-loop-i
-decreases-loop-i l =
-    length l.order - l.i
+abbrev pub invariant-loop-entry : goal.invariant-loop-entry
+invariant-loop-entry l =
+    record {
+      ready : Ready l.m;
+      reads : l.taking.done.reads ≤ l.entry-index;
+      writes : l.taking.done.writes ≤ l.entry-index;
+      stepped : steps (generators_of l.text) l.items (state_of l.m l.places l.taking) (drop l.entry-index l.order)
+          ≡ steps (generators_of l.text) l.items (begun l.initial.m l.fn.sums l.initial.places) l.order;
+      clipped : marked_by (generators_of l.text) l.items (state_of l.m l.places l.taking) l.taking.clipped (drop l.entry-index l.order)
+          ≡ marked_by (generators_of l.text) l.items (begun l.initial.m l.fn.sums l.initial.places) l.fn.clipped l.order;
+    }

@@ -2,29 +2,25 @@
 -- Assumes nothing.
 use mathlib.Core.Path.{sym, ◌∙◌}
 use native.Mathlib.Omega.{arith}
-use Rattle.base_lists.specs.Lists.{zeros}
 use Rattle.pass_order.proofs.Marks.{unmarked-next, unmarked-stop, unmarked-end, marks-once}
 use Rattle.pass_order.proofs.each_once.Goals as goal
 
-pub loop-i-init : goal.loop-i-init
-unfolding zeros
-loop-i-init c = (omega arith, marks-once c.args.t c.args.order.now c.requires.0 c.requires.1)
+pub loop-entry-init : goal.loop-entry-init
+loop-entry-init c = marks-once c.args.t c.args.order.now c.requires.0 c.requires.1
 
 pub returns-then-not-mark : goal.returns-then-not-mark
 returns-then-not-mark c =
     let a = c.args in
     let e = sym c.mark.ensures.value ∙ c.if-not-mark.true in
-    sym (unmarked-stop a.t c.loop-i.marks a.order.now c.loop-i.i (omega arith) e) ∙ c.loop-i.invariant.1
+    sym (unmarked-stop a.t c.loop-entry.marks a.order.now c.loop-entry.entry-index (omega arith) e) ∙ c.loop-entry.invariant
 
-pub loop-i-preserved : goal.loop-i-preserved
-loop-i-preserved c =
+pub loop-entry-preserved : goal.loop-entry-preserved
+loop-entry-preserved c =
     let a = c.args in
-    let e = sym c.mark.ensures.value ∙ c.if-not-mark.false in (
-      omega arith,
-      rw c.mark.ensures.marks_after (unmarked-next a.t c.loop-i.marks a.order.now c.loop-i.i (omega arith) e) ∙ c.loop-i.invariant.1,
-    )
+    let e = sym c.mark.ensures.value ∙ c.if-not-mark.false in
+    rw c.mark.ensures.marks_after (unmarked-next a.t c.loop-entry.marks a.order.now c.loop-entry.entry-index (omega arith) e) ∙ c.loop-entry.invariant
 
 pub returns : goal.returns
 returns c =
     let a = c.args in
-    sym (unmarked-end a.t c.loop-i.marks a.order.now c.loop-i.i (omega arith)) ∙ c.loop-i.invariant.1
+    sym (unmarked-end a.t c.loop-entry.marks a.order.now c.loop-entry.entry-index (omega arith)) ∙ c.loop-entry.invariant

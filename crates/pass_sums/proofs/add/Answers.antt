@@ -7,4 +7,4 @@ use Rattle.pass_sums.proofs.add.Goals as goal
 pub returns : goal.returns
 returns c =
     let word = c.quadrant_word-word.ensures.is in
-    (add-code _ _ _ (omega arith) word c.add20-sum.ensures, leaves-code _ _ _ (omega arith) word c.leaves20.ensures)
+    (add-code _ _ _ (omega arith) word c.add-sum.ensures.as_signed, leaves-code _ _ _ (omega arith) word c.leaves_range.ensures)

@@ -5,5 +5,5 @@ use Rattle.pass_sums.proofs.load.Goals as goal
 
 pub returns : goal.returns
 returns c =
-    load_code c.args.m.now c.quadrant_at-generator_this.result c.quadrant_at-generator_last.result c.quadrant_at-modifier_this.result c.quadrant_at-modifier_last.result
-    c.quadrant_at-generator_this.ensures c.quadrant_at-generator_last.ensures c.quadrant_at-modifier_this.ensures c.quadrant_at-modifier_last.ensures
+    load_code c.args.m.now c.quadrant-generator_this.result c.quadrant-generator_last.result c.quadrant-modifier_this.result c.quadrant-modifier_last.result
+    c.quadrant-generator_this.ensures c.quadrant-generator_last.ensures c.quadrant-modifier_this.ensures c.quadrant-modifier_last.ensures

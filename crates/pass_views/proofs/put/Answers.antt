@@ -7,7 +7,7 @@ use Rattle.pass_views.proofs.put.Goals as goal
 
 pub returns-then-msum-eq0 : goal.returns-then-msum-eq0
 unfolding with_write word_left
-returns-then-msum-eq0 c = rw (eq-eqb _ 0 c.if-msum-eq0.true, c.add20-v.ensures, c.quadrant_word.ensures.is) (refl, refl)
+returns-then-msum-eq0 c = rw (eq-eqb _ 0 c.if-msum-eq0.true, c.add-v.ensures.as_signed, c.quadrant_word.ensures.is) (refl, refl)
 
 pub returns : goal.returns
 unfolding with_write word_left

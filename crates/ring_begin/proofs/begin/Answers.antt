@@ -1,13 +1,70 @@
--- `ring_begin::begin` meets its contract: what was read, cleared, filled and put.
+-- `ring_begin::begin` meets its contract: what was read, cleared and filled, or the line of what is refused.
 -- Assumes nothing.
-use mathlib.Core.Path.{refl, ◌∙◌, ap}
-use lib.ListN.{replicate}
-use Rattle.base_lists.specs.Lists.{zeros}
-use Rattle.file_printed.specs.Text.{line_bytes}
-use Rattle.ring_begin.proofs.Clearing.{memory-cleared}
-use Rattle.ring_begin.proofs.Begun.{begins}
+use mathlib.Core.Path.{◌≡◌, refl}
+use borrow.Author.Rules.{rules}
+use lib.ListN.{length}
+use Rattle.base_questions.proofs.Refusals.{numbered}
+use Rattle.layout.specs.Layout.{memory_words}
+use Rattle.file_bench.specs.BenchFile.{command_places}
+use Rattle.ring_begin.specs.AsCoded.{printed_on}
+use Rattle.ring_begin.proofs.Begun.{machine-read, room-read, file-line, file-some, file-output, order-line, order-some, order-output, no-line, begins, output-is, memory-cleared, room-cleared}
 use Rattle.ring_begin.proofs.begin.Goals as goal
 
+pub returns-in-Err : goal.returns-in-Err
+unfolding printed_on
+returns-in-Err c =
+    let a = c.args in
+    let wide : length a.memory.now ≡ memory_words = search rules in
+    let long : length a.room.now ≡ command_places = search rules in
+    let cleared = room-cleared a.room.now long (c.fill-2.ensures.after (λ y h. h)) in
+    let zeros = memory-cleared a.memory.now wide (c.fill.ensures.after (λ y h. h)) in
+    let some = numbered c.in-Err.refusal in
+    record {
+      machine_after = machine-read a.by a.listing.now a.file.now a.m.now cleared c.in-Err.ensures;
+      room_after = room-read a.by a.listing.now a.file.now a.m.now cleared c.in-Err.ensures;
+      memory_after = zeros;
+      line_value = file-line a.by a.listing.now a.file.now a.m.now cleared c.in-Err.ensures some c.refused.ensures;
+      refused_value = file-some a.by a.listing.now a.file.now a.m.now cleared c.in-Err.ensures some;
+      begins = tt;
+      by_index = λ size h. file-output a.by a.listing.now a.file.now a.m.now cleared c.in-Err.ensures some c.refused.ensures;
+    }
+
+pub returns-in-Err-fill : goal.returns-in-Err-fill
+unfolding printed_on
+returns-in-Err-fill c =
+    let a = c.args in
+    let wide : length a.memory.now ≡ memory_words = search rules in
+    let long : length a.room.now ≡ command_places = search rules in
+    let cleared = room-cleared a.room.now long (c.fill-2.ensures.after (λ y h. h)) in
+    let zeros = memory-cleared a.memory.now wide (c.fill.ensures.after (λ y h. h)) in
+    let told = c.in-Err-fill.ensures.number_value in
+    let some = numbered c.in-Err-fill.refusal in
+    record {
+      machine_after = machine-read a.by a.listing.now a.file.now a.m.now cleared c.in-Ok.ensures;
+      room_after = room-read a.by a.listing.now a.file.now a.m.now cleared c.in-Ok.ensures;
+      memory_after = zeros;
+      line_value = order-line a.by a.listing.now a.file.now a.m.now cleared c.in-Ok.ensures refl told some c.order_refused.ensures;
+      refused_value = order-some a.by a.listing.now a.file.now a.m.now cleared c.in-Ok.ensures refl told some;
+      begins = tt;
+      by_index = λ size h. order-output a.by a.listing.now a.file.now a.m.now cleared c.in-Ok.ensures refl told some c.order_refused.ensures;
+    }
+
 pub returns : goal.returns
+unfolding printed_on
 returns c =
-    let a = c.args in let rest = begins a.by a.listing.now a.file.now a.m.now (replicate line_bytes 0) (c.clear-2.ensures ∙ ap zeros c.clear-arg-2-1.given.0.1) refl c.read-reading.ensures (memory-cleared a.memory.now c.clear-arg-1.given.0.1 c.clear.ensures) c.fill-filled.result.entries c.fill-filled.ensures.number_value c.fill-filled.ensures.entries_value (c.put_refusals-length.ensures.value, c.put_refusals-length.ensures.line_after) in record { taken_value = refl; length_value = rest.0; line_value = rest.1.0; length_in_bounds = rest.1.1.0; text_value = rest.1.1.1.0; room_after = rest.1.1.1.1.0; order_value = rest.1.1.1.1.1.0; by_index = rest.1.1.1.1.1.1 }
+    let a = c.args in
+    let wide : length a.memory.now ≡ memory_words = search rules in
+    let long : length a.room.now ≡ command_places = search rules in
+    let cleared = room-cleared a.room.now long (c.fill-2.ensures.after (λ y h. h)) in
+    let zeros = memory-cleared a.memory.now wide (c.fill.ensures.after (λ y h. h)) in
+    let told = c.in-Ok-fill.ensures.number_value in
+    let used = c.in-Ok-fill.ensures.entries_value in
+    record {
+      machine_after = machine-read a.by a.listing.now a.file.now a.m.now cleared c.in-Ok.ensures;
+      room_after = room-read a.by a.listing.now a.file.now a.m.now cleared c.in-Ok.ensures;
+      memory_after = zeros;
+      line_value = no-line a.by a.listing.now a.file.now a.m.now cleared c.in-Ok.ensures refl told refl;
+      refused_value = tt;
+      begins = begins a.by a.listing.now a.file.now a.m.now cleared c.in-Ok.ensures refl told refl c.in-Ok-fill.order used.0 used.1;
+      by_index = output-is a.by a.listing.now a.file.now a.m.now cleared c.in-Ok.ensures refl told refl c.in-Ok-fill.order used.0 used.1 zeros;
+    }

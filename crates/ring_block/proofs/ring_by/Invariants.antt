@@ -2,7 +2,9 @@
 -- Assumes nothing.
 use mathlib.Core.Path.{◌≡◌}
 use lib.ListN.{length}
-use Rattle.ring_pass.specs.BenchPass.{ordering_of, passed}
+use Rattle.base_questions.specs.Refusals.{refused}
+use Rattle.ring_pass.specs.BenchPass.{passed}
+use Rattle.ring_pass.specs.Benches.{ordering_in}
 use Rattle.ring_block.proofs.Going.{Going}
 use Rattle.ring_block.proofs.ring_by.Given as goal
 
@@ -10,8 +12,8 @@ abbrev pub invariant-loop-here : goal.invariant-loop-here
 invariant-loop-here l =
     (length l.m ≡ length l.initial.m)
     × ((length l.memory ≡ length l.initial.memory)
-    × ((l.number ≡ (passed l.text (ordering_of l.given l.order) l.m l.memory).number)
-    × Going l.text (ordering_of l.given l.order) l.dacs l.passes l.initial.m l.initial.memory l.commands l.initial.frames l.here l.m l.memory l.frames))
+    × ((refused l.known ≡ (passed l.bench.text (ordering_in l.bench) l.m l.memory).number)
+    × Going l.bench.text (ordering_in l.bench) l.dacs l.passes l.initial.m l.initial.memory l.bench.commands.now l.initial.frames l.here l.m l.memory l.frames))
 
 abbrev pub decreases-loop-here : goal.decreases-loop-here
 decreases-loop-here l = l.here.passes

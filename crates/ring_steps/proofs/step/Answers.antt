@@ -1,37 +1,49 @@
 -- `ring_steps::step` meets its contract: the step ends with a refused pass, with a refused update, or with its line.
 -- Assumes nothing.
-use native.Mathlib.Omega.{arith}
-use mathlib.Core.Path.{sym, ◌∙◌}
+use mathlib.Core.Path.{refl, sym, ◌∙◌}
 use lib.ListN.{drop}
-use Rattle.ring_pass.specs.BenchPass.{ordering_of}
+use Rattle.base_questions.proofs.Refusals.{numbered}
+use Rattle.ring_pass.specs.Benches.{ordering_in}
 use Rattle.ring_steps.specs.AsCoded.{ringing_at}
-use Rattle.ring_steps.proofs.Turns.{taken-most, lined, step-refused, step-update-refused, step-goes}
+use Rattle.ring_steps.proofs.Turns.{lined, step-refused, step-update-refused, step-goes}
 use Rattle.ring_steps.proofs.Keeping.{refused-stays, last-passes}
 use Rattle.ring_steps.proofs.step.Goals as goal
 
-pub returns-then-number-ne0 : goal.returns-then-number-ne0
-returns-then-number-ne0 c =
+pub returns-in-Err : goal.returns-in-Err
+returns-in-Err c =
     let a = c.args in
-    let n = c.requires.number_value in
-    let stays = refused-stays a.text (ordering_of a.given a.order.now) a.m.now a.memory.now (λ e. c.if-number-ne0.true (n ∙ e)) in let both = step-refused a.text (ordering_of a.given a.order.now) a.output (ringing_at a.at a.m.now a.memory.now a.commands.now) a.line.now a.at.taken c.requires.passes_nonzero c.requires.number_value stays.0 stays.1 c.if-number-ne0.true (c.put_refusal-length.ensures.value, c.put_refusal-length.ensures.line_after) in record { length_value = both.0; line_after = both.1.0; commands_after = both.1.1.0; taken_value = both.1.1.1 }
+    let r = ringing_at a.at a.m.now a.memory.now a.bench.commands.now in
+    let n = rw c.in-Err.is at c.requires.number_value in
+    let stays = refused-stays a.bench.text (ordering_in a.bench) a.m.now a.memory.now (λ e. numbered _ (n ∙ e)) in
+    let both = step-refused a.bench.text (ordering_in a.bench) a.output r a.line.now a.at.taken c.requires.passes_nonzero n stays.0 stays.1 (numbered _) (refl, c.ended.ensures.line_after) in
+    record { length_value = rw c.ended.ensures.value both.0; line_after = both.1.0; commands_after = rw c.ended.ensures.value both.1.1.0; taken_value = rw c.ended.ensures.value both.1.1.1 }
 
-pub ring_update-count-requires : goal.ring_update-count-requires
-ring_update-count-requires c = rw c.run.ensures.0 (last-passes _ (ordering_of c.args.given c.args.order.now) c.args.m.now c.args.memory.now (sym c.requires.number_value ∙ c.if-number-ne0.false))
-
-pub overflow_add-taken : goal.overflow_add-taken
-overflow_add-taken c =
+pub ring_update-update-requires : goal.ring_update-update-requires
+ring_update-update-requires c =
     let a = c.args in
-    omega (arith, c.well_formed.1.1.1.1.0.0, taken-most a.text _ a.commands.now a.at.taken c.ring_update-count.ensures.value)
+    let z = sym (rw c.in_default.is at c.requires.number_value) in
+    rw c.run.ensures.m_after (last-passes a.bench.text (ordering_in a.bench) a.m.now a.memory.now z)
 
-pub returns-then-refused-ne0 : goal.returns-then-refused-ne0
-returns-then-refused-ne0 c =
-    let a = c.args in let both = step-update-refused a.text (ordering_of a.given a.order.now) a.output (ringing_at a.at a.m.now a.memory.now a.commands.now) a.line.now a.at.taken c.requires.passes_nonzero c.requires.number_value c.run.ensures.0 c.run.ensures.1 c.if-number-ne0.false c.ring_update-count.ensures.commands_after c.ring_update-count.ensures.value c.if-refused-ne0.true (c.put_refusal-length-then-refused-ne0.ensures.value, c.put_refusal-length-then-refused-ne0.ensures.line_after) in record { length_value = both.0; line_after = both.1.0; commands_after = both.1.1.0; taken_value = both.1.1.1 }
+pub returns-in-Err-end : goal.returns-in-Err-end
+returns-in-Err-end c =
+    let a = c.args in
+    let r = ringing_at a.at a.m.now a.memory.now a.bench.commands.now in
+    let n = rw c.in_default.is at c.requires.number_value in
+    let u = rw c.in-Err-end.is at c.ring_update-update.ensures.commands_after in
+    let both = step-update-refused a.bench.text (ordering_in a.bench) a.output r a.line.now a.at.taken c.requires.passes_nonzero n c.run.ensures.m_after c.run.ensures.memory_after refl u c.ring_update-update.ensures.value (numbered _) (refl, c.ended-in-Err-end.ensures.line_after) in
+    record { length_value = rw c.ended-in-Err-end.ensures.value both.0; line_after = both.1.0; commands_after = rw c.ended-in-Err-end.ensures.value both.1.1.0; taken_value = rw c.ended-in-Err-end.ensures.value both.1.1.1 }
 
 pub put_machine-length-requires : goal.put_machine-length-requires
 put_machine-length-requires c =
     let a = c.args in
-    lined a.text _ (drop a.at.taken a.commands.now) (rw c.run.ensures.0 (last-passes a.text (ordering_of a.given a.order.now) a.m.now a.memory.now (sym c.requires.number_value ∙ c.if-number-ne0.false))) c.ring_update-count.ensures.commands_after
+    let z = sym (rw c.in_default.is at c.requires.number_value) in
+    lined a.bench.text _ (drop a.at.taken a.bench.commands.now) (rw c.run.ensures.m_after (last-passes a.bench.text (ordering_in a.bench) a.m.now a.memory.now z)) c.ring_update-update.ensures.commands_after
 
 pub returns : goal.returns
 returns c =
-    let a = c.args in let both = step-goes a.text (ordering_of a.given a.order.now) a.output (ringing_at a.at a.m.now a.memory.now a.commands.now) a.line.now a.at.taken c.requires.passes_nonzero c.requires.number_value c.run.ensures.0 c.run.ensures.1 c.if-number-ne0.false c.ring_update-count.ensures.commands_after c.ring_update-count.ensures.value c.if-refused-ne0.false (c.put_machine-length.ensures.value, c.put_machine-length.ensures.line_after) in record { length_value = both.0; line_after = both.1.0; commands_after = both.1.1.0; taken_value = both.1.1.1 }
+    let a = c.args in
+    let r = ringing_at a.at a.m.now a.memory.now a.bench.commands.now in
+    let n = rw c.in_default.is at c.requires.number_value in
+    let u = rw c.in_default-end.is at c.ring_update-update.ensures.commands_after in
+    let both = step-goes a.bench.text (ordering_in a.bench) a.output r a.line.now a.at.taken c.requires.passes_nonzero n c.run.ensures.m_after c.run.ensures.memory_after refl u c.ring_update-update.ensures.value refl (c.put_machine-length.ensures.value, c.put_machine-length.ensures.line_after) in
+    record { length_value = both.0; line_after = both.1.0; commands_after = both.1.1.0; taken_value = both.1.1.1 }

@@ -6,4 +6,4 @@ use Rattle.speed.proofs.multiplied.Goals as goal
 
 pub returns : goal.returns
 unfolding sum
-returns c = rw c.add20.ensures (low-lt 20 _)
+returns c = rw c.add.ensures.as_signed (low-lt 20 _)

@@ -3,40 +3,41 @@
 use native.Mathlib.Omega.{arith}
 use Rattle.generator_envelope.proofs.Levels.{level-low}
 use Rattle.generator.specs.Generator.{v_of}
-use Rattle.generator.proofs.Turns.{output-of-j, output-of-gk, output-shaped, output-cosines, output-rest}
+use Rattle.generator.proofs.Turns.{k-of-j, k-of-gk, output-shaped, output-cosines, output-sine}
 use Rattle.generator.proofs.Generator.output.Goals as goal
+use Rattle.generator.proofs.Generator.output.Goals.{in_default-via-then-mode-lt1, in_default-via-else-mode-lt1+else-mode-lt4}
 
 pub sine_under-requires : goal.sine_under-requires
-sine_under-requires c = record { sine_value = c.requires.sine_value.0; gm_bound = (c.requires.ranged.gm-low, omega (arith, c.requires.j_bound), rw c.level-v.ensures (level-low _ _ _)) }
+sine_under-requires c = (c.requires.ranged.gm-low, omega (arith, c.requires.j_bound), rw c.level-v.ensures (level-low _ _ _))
 
-pub returns-then-self-eq8 : goal.returns-then-self-eq8
+pub returns-in-8 : goal.returns-in-8
 unfolding v_of
-returns-then-self-eq8 c = output-of-j _ c.args.self _ _ _ c.level-v.ensures c.sine_under.ensures c.if-self-eq8.true
-
-pub sine_under-requires-then-self-eq0 : goal.sine_under-requires-then-self-eq0
-sine_under-requires-then-self-eq0 c = record { sine_value = c.requires.sine_value.0; gm_bound = (c.requires.ranged.gm-low, omega (arith, c.requires.ranged.gk-low), rw c.level-v.ensures (level-low _ _ _)) }
-
-pub returns-then-self-eq0 : goal.returns-then-self-eq0
-unfolding v_of
-returns-then-self-eq0 c = output-of-gk _ c.args.self _ _ _ c.level-v.ensures c.sine_under-then-self-eq0.ensures c.if-self-eq0.true
+returns-in-8 c =
+    output-sine _ c.args.self _ _ _ _ c.level-v.ensures (k-of-j c.args.self _ c.in-8.is) c.sine_under.ensures
+    (λ e. omega (arith, c.in-8.is, e)) (λ e. omega (arith, c.in-8.is, e)) (λ e. omega (arith, c.in-8.is, e)) (λ e. omega (arith, c.in-8.is, e))
 
 pub cosines_under-requires : goal.cosines_under-requires
-cosines_under-requires c = record { sine_value = c.requires.sine_value.0; gn_bound = (c.requires.ranged.gn-low, c.requires.ranged.gm-low, omega (arith, c.requires.ranged.gk-low), rw c.level-v.ensures (level-low _ _ _)) }
+cosines_under-requires c = (c.requires.ranged.gn-low, c.requires.ranged.gm-low, omega (arith, c.requires.ranged.gk-low), rw c.level-v.ensures (level-low _ _ _))
 
-pub returns-then-self-eq4 : goal.returns-then-self-eq4
+pub returns-in-4 : goal.returns-in-4
 unfolding v_of
-returns-then-self-eq4 c = output-cosines _ c.args.self _ _ _ c.level-v.ensures c.cosines_under.ensures c.if-self-eq4.true
+returns-in-4 c = output-cosines _ c.args.self _ _ _ _ c.level-v.ensures (k-of-gk c.args.self _ (λ e. omega (arith, c.in-4.is, e))) c.cosines_under.ensures c.in-4.is
 
 pub enveloped-requires : goal.enveloped-requires
 enveloped-requires c = (c.shaped.ensures.bit, c.shaped.ensures.low, rw c.level-v.ensures (level-low _ _ _))
 
-pub returns-then-self-lt4 : goal.returns-then-self-lt4
+pub returns-in-1-to-3 : goal.returns-in-1-to-3
 unfolding v_of
-returns-then-self-lt4 c = output-shaped _ c.args.self _ _ _ c.level-v.ensures c.enveloped.ensures c.shaped.ensures c.if-self-lt4.true
+returns-in-1-to-3 c = output-shaped _ c.args.self _ _ _ _ c.level-v.ensures (k-of-gk c.args.self _ (λ e. omega arith)) c.enveloped.ensures c.shaped.ensures
 
-pub sine_under-requires-2 : goal.sine_under-requires-2
-sine_under-requires-2 c = record { sine_value = c.requires.sine_value.0; gm_bound = (c.requires.ranged.gm-low, omega (arith, c.requires.ranged.gk-low), rw c.level-v.ensures (level-low _ _ _)) }
+pub sine_under-requires-in_default : goal.sine_under-requires-in_default
+sine_under-requires-in_default c = (c.requires.ranged.gm-low, omega (arith, c.requires.ranged.gk-low), rw c.level-v.ensures (level-low _ _ _))
 
-pub returns : goal.returns
+pub returns-in_default : goal.returns-in_default
 unfolding v_of
-returns c = output-rest _ c.args.self _ _ _ c.level-v.ensures c.sine_under-2.ensures c.if-self-eq8.false c.if-self-eq4.false c.if-self-lt4.false
+returns-in_default c =
+    let sine = output-sine _ c.args.self _ _ _ _ c.level-v.ensures (k-of-gk c.args.self _ (λ e. omega arith)) c.sine_under-in_default.ensures in
+    elim c.in_default.branch [
+      | in_default-via-then-mode-lt1 w ↦ sine (λ e. omega arith) (λ e. omega arith) (λ e. omega arith) (λ e. omega arith)
+      | in_default-via-else-mode-lt1+else-mode-lt4 w ↦ sine (λ e. omega arith) (λ e. omega arith) (λ e. omega arith) (λ e. omega arith)
+    ]

@@ -6,14 +6,14 @@ use native.Mathlib.Omega.{arith}
 use Rattle.generator_oscillator.specs.Oscillator.{wave_of}
 use Rattle.generator.proofs.Generator.shaped.Goals as goal
 
-pub returns-then-mode-eq1 : goal.returns-then-mode-eq1
+pub returns-in-1 : goal.returns-in-1
 unfolding wave_of
-returns-then-mode-eq1 c = rw c.if-mode-eq1.true c.sawtooth.ensures
+returns-in-1 c = rw c.in-1.is c.sawtooth.ensures
 
-pub returns-then-mode-eq2 : goal.returns-then-mode-eq2
+pub returns-in-2 : goal.returns-in-2
 unfolding wave_of
-returns-then-mode-eq2 c = rw c.if-mode-eq2.true c.square.ensures
+returns-in-2 c = rw c.in-2.is c.square.ensures
 
-pub returns : goal.returns
+pub returns-in_default : goal.returns-in_default
 unfolding wave_of
-returns c = let e : c.args.self.gmode % 16 ≡ 3 = omega arith in rw (e, ← c.left_range.ensures) c.pulse.ensures
+returns-in_default c = let e : c.args.self.gmode % 16 ≡ 3 = omega arith in rw (e, ← c.left_range.ensures) c.pulse.ensures

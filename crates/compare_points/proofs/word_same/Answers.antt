@@ -1,9 +1,0 @@
--- `compare_points::word_same` meets its contract: its three tests are the definition's.
--- Assumes nothing.
-use mathlib.Core.Path.{refl}
-use Rattle.compare_points.specs.AsCoded.{same_at, word_by}
-use Rattle.compare_points.proofs.word_same.Goals as goal
-
-pub returns : goal.returns
-unfolding word_by same_at
-returns c = refl
