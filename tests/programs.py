@@ -5,7 +5,9 @@ ring, wav and sorted is made by an edit, built without a proof and run on an inp
 
 Run from the repository root. Each input is run by the program as it is, which must write what is expected, and by the wrong
 ones, which must write something else: compiled with checks, and where it can by an interpreter too (`rt try`, in a folder of its
-own, over the crates' sources as they are). It takes some minutes and proves nothing: outside the gate. --list only says what there is.
+own, over the crates' sources as they are). It takes some minutes and proves nothing: outside the gate. --list only says what there is
+and whether each edit still fits. Exit status 1: a wrong program writes what is expected or doesn't run, an edit's text doesn't stand
+exactly once in its file, or there are other than as many wrong programs as docs/TESTED.md says; nothing is run then.
 """
 
 import os
@@ -41,8 +43,8 @@ class Case(NamedTuple):
 
 
 class Wrong(NamedTuple):
-    """A wrong program: its name, the program, its input, and the edits that make it, each a file, what stands there and what
-    shall. Of several lists of edits the first that fits the sources is taken."""
+    """A wrong program: its name, the program, its input, and the edits that make it, each a file, what stands there, exactly once, and
+    what shall."""
 
     name: str
     program: str
@@ -97,58 +99,53 @@ CASES = {
 
 # Wrong programs
 
-ROOM = ((STREAMS, "FILE_ROOM: usize = file_lines::FILE_BYTES + 1;", "FILE_ROOM: usize = file_lines::FILE_BYTES;"),)
-
-
-def one_byte_less(path):
-    """Files are read without the byte more: by the function for all programs, or in main where it stands there."""
-    return ROOM, ((path, "[0u8; file_lines::FILE_BYTES + 1]", "[0u8; file_lines::FILE_BYTES]"),)
-
-
-def order_cut(path):
-    """No more is taken of an order file than the longest has."""
-    return (((path, "    let length = request.length;\n", f"    let mut length = request.length;\n    if {len(LONGEST)} < length {{\n        length = {len(LONGEST)};\n    }}\n"),),)
-
-
-def by_number(path):
-    """The order file is read and not gone by."""
-    return (((path, "let by = request.by;", "let by = By::Number;"),),)
-
+LESS_ROOM = ((STREAMS, "FILE_ROOM: usize = file_lines::FILE_BYTES + 1;", "FILE_ROOM: usize = file_lines::FILE_BYTES;"),)
+# No more is taken of an order file than the longest has.
+CUT = f"&listing[..listing.len().min({len(LONGEST)})]"
 
 WRONG = (
-    Wrong("ring_reads_no_byte_more", "ring", "ring, one byte too many", one_byte_less(RING)),
-    Wrong("wav_reads_no_byte_more", "wav", "wav, one byte too many", one_byte_less(WAV)),
-    Wrong("sorted_reads_no_byte_more", "sorted", "sorted, one byte too many", one_byte_less(SORTED)),
-    Wrong("ring_memory_of_ones", "ring", "ring, an echo", (
-        ((RING, "    let length = start.length;\n", "    memory = [1u32; layout::MEMORY_WORDS];\n    let length = start.length;\n"),),
-        ((RING, "let mut memory = [0u32; layout::MEMORY_WORDS];", "let mut memory = [1u32; layout::MEMORY_WORDS];"),))),
-    Wrong("ring_without_commands", "ring", "ring, a command", (((RING, "&room[0..count]", "&room[0..0]"),),)),
-    Wrong("ring_ends_with_its_first_part", "ring", "ring, more than a buffer", (((RING, "while at.passes != 0 {", "if at.passes != 0 {"),),)),
+    # Files are read without the byte more.
+    Wrong("ring_reads_no_byte_more", "ring", "ring, one byte too many", LESS_ROOM),
+    Wrong("wav_reads_no_byte_more", "wav", "wav, one byte too many", LESS_ROOM),
+    Wrong("sorted_reads_no_byte_more", "sorted", "sorted, one byte too many", LESS_ROOM),
+    # `begin` clears the delay memory: the ones are written after it.
+    Wrong("ring_memory_of_ones", "ring", "ring, an echo", ((RING, "    ring_all(rt, bench,", "    memory = [1u32; layout::MEMORY_WORDS];\n    ring_all(rt, bench,"),)),
+    Wrong("ring_without_commands", "ring", "ring, a command", ((RING, "&room[..start.count]", "&room[..0]"),)),
+    Wrong("ring_ends_with_its_first_part", "ring", "ring, more than a buffer", ((RING, "while at.passes != 0 {", "if at.passes != 0 {"),)),
     Wrong("ring_by_1978_alone", "ring", "ring, an old file", (
-        ((RING, "let text = start.text;", "let text = Text::Of1978;"),), ((RING, "let text = reading.text;", "let text = Text::Of1978;"),))),
-    Wrong("wav_refusal_on_standard_output", "wav", "wav, a refused file", (((WAV, "rt.stderr().write_all(&line[0..error])", "rt.write_all(&line[0..error])"),),)),
-    Wrong("sorted_takes_two_files", "sorted", "sorted, two order files", (((STREAMS, "if is_given(rt, 2) {", "if is_given(rt, 3) {"),),)),
-    Wrong("sorted_by_its_own_name", "sorted", "sorted, an order file", (((STREAMS, "rt.arg(1, &mut name)", "rt.arg(0, &mut name)"),),)),
-    Wrong("sorted_without_its_argument", "sorted", "sorted, an order file", (((STREAMS, "if !is_given(rt, 1) {", "if !is_given(rt, 2) {"),),)),
-    Wrong("sorted_files_exchanged", "sorted", "sorted, an order file", (
-        ((SORTED, "print(rt, &file[..n], by, &order[..length])", "print(rt, &order[..length], by, &file[..n])"),),)),
-    Wrong("ring_ignores_its_order", "ring", "ring, an order that is heard", by_number(RING)),
-    Wrong("wav_ignores_its_order", "wav", "wav, an order that is heard", by_number(WAV)),
-    Wrong("ring_cuts_its_order_file", "ring", "ring, the longest order file and one byte more", order_cut(RING)),
-    Wrong("sorted_cuts_its_order_file", "sorted", "sorted, the longest order file and one byte more", order_cut(SORTED)),
-    Wrong("ring_files_exchanged", "ring", "ring, an order file", (((RING, "ring(rt, &file[..n], by, &order[..length])", "ring(rt, &order[..length], by, &file[..n])"),),)),
-    Wrong("wav_files_exchanged", "wav", "wav, an order file", (((WAV, "sound(rt, &file[..n], by, &order[..length])", "sound(rt, &order[..length], by, &file[..n])"),),)),
+        (RING, "use ring_order::By;\n", "use layout_texts::Text;\nuse ring_order::By;\n"), (RING, "text: start.text,", "text: Text::Of1978,"))),
+    Wrong("wav_refusal_on_standard_output", "wav", "wav, a refused file", ((WAV, "rt.stderr().write_all(line.bytes())", "rt.write_all(line.bytes())"),)),
+    Wrong("sorted_takes_two_files", "sorted", "sorted, two order files", ((STREAMS, "if is_given(rt, 2) {", "if is_given(rt, 3) {"),)),
+    Wrong("sorted_by_its_own_name", "sorted", "sorted, an order file", ((STREAMS, "rt.arg(1, &mut name)", "rt.arg(0, &mut name)"),)),
+    Wrong("sorted_without_its_argument", "sorted", "sorted, an order file", ((STREAMS, "if !is_given(rt, 1) {", "if !is_given(rt, 2) {"),)),
+    Wrong("sorted_files_exchanged", "sorted", "sorted, an order file", ((SORTED, "print(rt, file, by, listing)", "print(rt, listing, by, file)"),)),
+    # The order file is read and not gone by.
+    Wrong("ring_ignores_its_order", "ring", "ring, an order that is heard", ((RING, "ring(rt, file, by, listing)", "ring(rt, file, By::Number, listing)"),)),
+    Wrong("wav_ignores_its_order", "wav", "wav, an order that is heard", ((WAV, "sound(rt, file, by, listing)", "sound(rt, file, By::Number, listing)"),)),
+    Wrong("ring_cuts_its_order_file", "ring", "ring, the longest order file and one byte more", ((RING, "begin(file, by, listing,", f"begin(file, by, {CUT},"),)),
+    Wrong("sorted_cuts_its_order_file", "sorted", "sorted, the longest order file and one byte more", ((SORTED, "findings(file, by, listing,", f"findings(file, by, {CUT},"),)),
+    Wrong("ring_files_exchanged", "ring", "ring, an order file", ((RING, "ring(rt, file, by, listing)", "ring(rt, listing, by, file)"),)),
+    Wrong("wav_files_exchanged", "wav", "wav, an order file", ((WAV, "sound(rt, file, by, listing)", "sound(rt, listing, by, file)"),)),
 )
-# Where ring and wav take no order file, they have none to exchange.
-TAKE_NONE = () if "by, &order[..length]" in open(os.path.join(ROOT, RING)).read() else ("ring_files_exchanged", "wav_files_exchanged")
 
 
-def fitting(wrong):
-    """The first list of edits whose texts all stand in the sources."""
-    for edits in wrong.edits:
-        if all(os.path.exists(path) and old in open(path).read() for path, old, _ in ((os.path.join(ROOT, file), old, new) for file, old, new in edits)):
-            return edits
-    return None
+def misfit(wrong):
+    """What is amiss with the edits of a wrong program, or nothing: each one's text stands in its file exactly once."""
+    for file, old, _ in wrong.edits:
+        path = os.path.join(ROOT, file)
+        times = open(path).read().count(old) if os.path.exists(path) else 0
+        if times != 1:
+            return f"its edit fits {times} times: {file}: {old.strip()}"
+    return ""
+
+
+def faults():
+    """What is amiss before anything is run, a line each: an edit that doesn't fit, and another number of wrong programs than is told."""
+    yield from (f"{wrong.name}: {amiss}" for wrong in WRONG if (amiss := misfit(wrong)))
+    told = re.search(r"(\d+) wrong ones are shown to fail", open(os.path.join(ROOT, "docs/TESTED.md")).read())
+    names = {wrong.name for wrong in WRONG}
+    if not told or len(names) != int(told.group(1)):
+        yield f"{len(names)} wrong programs, and docs/TESTED.md says {told.group(1) if told else 'nothing of them'}"
 
 
 # Running
@@ -187,21 +184,26 @@ def fault(said, wrong):
 
 def main(arguments):
     """Reads the arguments; see the head of this file."""
-    names = [name for name in arguments if name != "--list"] or [wrong.name for wrong in WRONG if wrong.name not in TAKE_NONE]
-    asked = [wrong for wrong in WRONG if wrong.name in names]
+    names = [name for name in arguments if name != "--list"]
+    asked = [wrong for wrong in WRONG if not names or wrong.name in names]
+    unknown = [f"no wrong program has the name {name}" for name in names if name not in {wrong.name for wrong in WRONG}]
     if "--list" in arguments:
-        print("\n".join(f"{wrong.name}: {wrong.case}" + ("" if fitting(wrong) else ": its edit fits no source") for wrong in asked))
+        print("\n".join(f"{wrong.name}: {wrong.case}" for wrong in asked))
+    if amiss := [*faults(), *unknown]:
+        print("\n".join(amiss))
+        return 1
+    if "--list" in arguments:
         return 0
     met, good = Counter(), {}
     for wrong in asked:
-        case, edits = CASES[wrong.case], fitting(wrong)
+        case = CASES[wrong.case]
         if wrong.case not in good:
             good[wrong.case] = fault(tried(wrong.program, case), False)
-        amiss = good[wrong.case] or ("its edit fits no source" if edits is None else fault(tried(wrong.program, case, edits), True))
+        amiss = good[wrong.case] or fault(tried(wrong.program, case, wrong.edits), True)
         met["amiss" if amiss else "wrong programs that fail"] += 1
         print(f"{wrong.name}: {amiss or 'fails, as it must'} ({wrong.case})", flush=True)
     print(f"{met['wrong programs that fail']} wrong programs fail on {len(good)} inputs of the tests, {met['amiss']} amiss")
-    return 1 if met["amiss"] or not asked else 0
+    return 1 if met["amiss"] else 0
 
 
 if __name__ == "__main__":

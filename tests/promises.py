@@ -55,10 +55,10 @@ REACHABLE = {
 }
 
 # Calls that read and write: what a program reads or writes has no contract in the language.
-STREAMS = {("ring_streams", "run"), ("trial_octets", "read_full")}
+STREAMS = {("ring_streams", "run"), ("ring_streams", "read_arguments"), ("ring_streams", "read_bench"), ("ring_streams", "complain"), ("trial_octets", "read_full")}
 
 # Makers of a value whose type says what is promised of it: a ghost field of its own or of its fields' types, which is proved where it is made.
-BY_TYPE = {("generator_sine", "new"): "Quarter", ("generator_exponential", "new"): "Entries", ("layout_modes", "new"): "Rows", ("generator", "new"): "Tables"}
+BY_TYPE = {("generator_sine", "new"): "Quarter", ("generator_exponential", "new"): "Entries", ("layout_modes", "new"): "Rows", ("generator", "new"): "Tables", ("ring_pass", "new"): "Numbers"}
 
 # The named forms: what it is, the crate, and a pattern that its source has.
 FORMS = (
@@ -68,7 +68,7 @@ FORMS = (
     ("a tail of the caller's commands", "command_update", r"pub struct Updated<'a> \{\s*pub rest: &'a \[u32\],"),
     ("a tail at the count taken", "command_update", r"rest: &commands\[taken\.count\.\.\]"),
     ("sum memory as four arrays of 64", "pass_sums", r"= \[u32; layout::QUADRANT_WORDS\];\s*pub type Sums = \[Quadrant; layout::QUADRANTS\];"),
-    ("sum memory by value in a pass", "pass", r"let sums = pass_sums::load\(m\);"),
+    ("sum memory by value in a pass", "pass", r"sums: pass_sums::load\(m\),"),
     ("pass for C", "karvelorn", r'pub extern "C" fn karvelorn_pass\('),
     ("update for C", "karvelorn", r'pub extern "C" fn karvelorn_update\('),
     ("compare for C", "karvelorn", r'pub extern "C" fn karvelorn_compare\('),
@@ -92,9 +92,11 @@ ENSURED = re.compile(r"\bensures(?: \w+)? (?=\{)")
 
 
 def library_of(crate):
-    """The source of a library crate, else nothing."""
-    path = CRATES / crate / "src" / "lib.rt"
-    return path.read_text() if path.exists() else ""
+    """The source of a library crate, all its files, lib.rt first; else nothing."""
+    folder = CRATES / crate / "src"
+    if not (folder / "lib.rt").exists():
+        return ""
+    return "\n".join(path.read_text() for path in sorted(folder.glob("*.rt"), key=lambda path: (path.name != "lib.rt", path.name)))
 
 
 def contracts_of(crate):

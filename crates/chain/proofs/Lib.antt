@@ -1,3 +1,4 @@
+pub mod Loops
 pub mod Refusals
 pub mod Answers
 pub mod Claimed

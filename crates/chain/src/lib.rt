@@ -1,7 +1,7 @@
 // Numbers for a chain of modifiers.
 #![tactic(auto)]
 
-ghost use Rattle.std.specs.Prelude.{◌≡◌, length};
+ghost use Rattle.std.specs.Prelude.{◌≡◌, ◌≤◌, length, get_or};
 ghost use Rattle.base_questions.specs.Refusals.{refused};
 ghost use Rattle.base_fills.specs.Fills.{filled};
 ghost use Rattle.chain_entries.specs.Entries.{size};
@@ -35,12 +35,22 @@ fn refusal(chain: &Chain, found: &mut Numbers) -> Result<(), Refusal>
     Ok(())
 }
 
+// Puts the first n of the numbers found, and touches no other.
+fn put(found: &Numbers, n: usize, numbers: &mut Numbers)
+    requires { n ≤ modifiers }
+    ensures { numbers.new ≡ filled 0 1 n (λ k. get_or found.now k 0) numbers.old }
+{
+    for k in 0..n {
+        numbers[k] = found[k];
+    }
+}
+
 // The earliest numbers for a chain. A refused call leaves the run for them as it was.
 pub fn chain(chain: &Chain, numbers: &mut Numbers) -> Result<(), Refusal>
     ensures { record { number = refused result; numbers = numbers.new } ≡ chain_of (record { entries = chain.now.entries.now; names = chain.now.names.now }) numbers.old }
 {
-    let mut found = *numbers;
+    let mut found = [0u32; layout::MODIFIERS];
     refusal(chain, &mut found)?;
-    *numbers = found;
+    put(&found, chain.size(), numbers);
     Ok(())
 }

@@ -45,7 +45,8 @@ impl<'a> Chain<'a> {
         requires { at + n ≤ length self.now.names.now }
         ensures { result ≡ names_below self.now.names.now at n i }
     {
-        (0..n).all(|k| layout::wide(self.names[at + k]) < i)
+        let names = &self.names[at..at + n];
+        (0..n).all(|k| layout::wide(names[k]) < i)
     }
 
     // Whether entry i fits.

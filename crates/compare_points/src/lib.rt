@@ -51,6 +51,8 @@ fn first_difference(first: &[u32], second: &[u32], n: usize) -> Option<usize>
 }
 
 impl<'a> Orders<'a> {
+    // Not inlined: the two traces that it moves into place are then off the stack again when the points are asked, so that a thread with 16 kB of stack can compare.
+    #[inline(never)]
     pub fn new(text: Text, m: &'a [u32], first: &'a [u32], second: &'a [u32]) -> Orders<'a>
         requires traceable { Traceable m.now }
         requires order { IsOrder (ticks_of m.now) first.now × IsOrder (ticks_of m.now) second.now }

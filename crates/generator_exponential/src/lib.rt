@@ -79,16 +79,23 @@ const EXPONENTIAL: [u16; TABLE_SIZE as usize] = [
 ];
 
 // The exponential table, which a caller makes once and hands on.
-#[derive(Drop)]
+#[derive(Clone, Copy)]
 pub struct Entries {
     table: [u16; TABLE_SIZE as usize],
-    ghost right: { table ≡ entries table_size },
+    pub ghost right: { table ≡ entries table_size },
 }
 
 impl Entries {
     // The table is copied.
     pub fn new() -> Entries {
         Entries { table: EXPONENTIAL }
+    }
+
+    // The table's entries.
+    pub fn entries(&self) -> &[u16; TABLE_SIZE as usize]
+        ensures { result.now ≡ entries table_size }
+    {
+        &self.table
     }
 
     // The exponential of the high 14 bits of GQ.

@@ -159,16 +159,23 @@ pub fn sign(k: u32) -> u32
 }
 
 // The quarter table, which a caller makes once and hands on.
-#[derive(Drop)]
+#[derive(Clone, Copy)]
 pub struct Quarter {
     table: [u16; 2048],
-    ghost right: { table ≡ quarter },
+    pub ghost right: { table ≡ quarter },
 }
 
 impl Quarter {
     // The table is copied.
     pub fn new() -> Quarter {
         Quarter { table: SINE }
+    }
+
+    // The table's entries.
+    pub fn entries(&self) -> &[u16; 2048]
+        ensures { result.now ≡ quarter }
+    {
+        &self.table
     }
 
     // The magnitude of the sine of k.

@@ -79,16 +79,23 @@ fn output_by(number: u8) -> Output
 }
 
 // The switches' table, which a caller makes once and hands on.
-#[derive(Drop)]
+#[derive(Clone, Copy)]
 pub struct Rows {
     table: [[u8; 4]; 16],
-    ghost right: { table ≡ rows },
+    pub ghost right: { table ≡ rows },
 }
 
 impl Rows {
     // The table is copied.
     pub fn new() -> Rows {
         Rows { table: SWITCHES }
+    }
+
+    // The table's rows.
+    pub fn rows(&self) -> &[[u8; 4]; 16]
+        ensures { result.now ≡ rows }
+    {
+        &self.table
     }
 
     // The switches of a run mode.

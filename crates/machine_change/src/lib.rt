@@ -145,3 +145,36 @@ pub fn make(m: &mut [u32], change: PartialChange)
         } => set_register(m, register, generator, value),
     }
 }
+
+// The same three of the change that three numbers ask for: where there is none, nothing is let through.
+pub fn let_through_by_numbers(m: &[u32], kind: u32, generator: u32, value: u32) -> bool
+    requires { Reaches m.now }
+    ensures { result ≡ let_through m.now (record { kind = kind; generator = generator; value = value }) }
+{
+    match of_numbers(kind, generator, value) {
+        Some(change) => let_through(m, change),
+        None => false,
+    }
+}
+
+pub fn concerned_by_numbers(m: &[u32], kind: u32, generator: u32) -> usize
+    requires reaches { Reaches m.now }
+    requires bound { 1 ≤ ticks_of m.now }
+    ensures { result ≡ concerned m.now (record { kind = kind; generator = generator; value = 0 }) }
+{
+    match of_numbers(kind, generator, 0) {
+        Some(change) => concerned(m, change),
+        None => layout::wide(generator),
+    }
+}
+
+pub fn make_by_numbers(m: &mut [u32], kind: u32, generator: u32, value: u32)
+    requires m_len { (length m.old ≡ machine_length) × (valid Of1978 m.old ≡ true) }
+    requires value_value { let_through m.old (record { kind = kind; generator = generator; value = value }) ≡ true }
+    ensures { m.new ≡ changed_by m.old (record { kind = kind; generator = generator; value = value }) }
+{
+    match of_numbers(kind, generator, value) {
+        Some(change) => make(m, change),
+        None => {}
+    }
+}

@@ -83,3 +83,17 @@ pub fn flagged<const N: usize>(
     }
     ok
 }
+
+// One word of each of n units, by as many of its right bits as there are flags, of a table of any length: each has its flag.
+pub fn words_flagged(t: &[bool], m: &[u32], at: usize, step: usize, n: usize) -> bool
+    requires some { 0 < length t.now }
+    requires inside { at + step * n < length m.now + step }
+    ensures { result ≡ every_word (λ x. get_or t.now (x % length t.now) false) m.now at step 0 n }
+{
+    let mut ok = true;
+    for k in 0..n {
+        let i = m[at + step * k] as usize % t.len();
+        ok = t[i] & ok;
+    }
+    ok
+}

@@ -12,6 +12,8 @@ ghost use Rattle.pass.specs.Answers.{outcome_of};
 use base_questions::Refusal;
 use generator::Tables;
 use layout_texts::Text;
+use pass_order::Counts;
+use pass_outputs::Taking;
 use pass_sums::Clipped;
 
 // What a pass answers that no question refuses: how many items it read and wrote, and a mark for each word of generator-this that left its range.
@@ -47,11 +49,17 @@ pub fn run(
     ensures { outcome_of (Ok result) m.new places.new memory.new ≡ ran text m.old (record { order = order.entry.now; items = items.now; places = places.old; memory = memory.old }) }
 {
     let t = layout::ticks(m);
-    let sums = pass_sums::load(m);
-    let unmarked = [0u8; layout::QUADRANT_WORDS];
-    let mut taking = pass_generators::generators(
-        text, tables, m, sums, unmarked, order, items, places,
-    );
+    // Written out: handed through a function, sum memory was copied twice more in each pass.
+    let mut taking = Taking {
+        sums: pass_sums::load(m),
+        clipped: [0; layout::QUADRANT_WORDS],
+        triggered: [false; layout::GENERATORS],
+        done: Counts {
+            reads: 0,
+            writes: 0,
+        },
+    };
+    pass_generators::generators(text, tables, m, &mut taking, order, items, places);
     pass_modifiers::modifiers(text, m, &mut taking.sums, memory, t, t / 2);
     pass_sums::close(m, &taking.sums);
     count(m);

@@ -16,7 +16,6 @@ use generator::{Generator, Tables};
 use layout_modes::Switches;
 use layout_texts::Text;
 use pass_outputs::Taking;
-use pass_sums::{Clipped, Sums};
 
 // Generator g of the machine.
 fn generator_at(m: &[u32], g: usize) -> Generator
@@ -108,33 +107,23 @@ fn step(
     taking.send(text, m, places, run, unit, f);
 }
 
-// The generators of an order are taken one after the other, from nothing triggered, read and written; words that left their range are marked. The tables are handed on, so that a caller of many passes copies them once.
+// The generators of an order are taken one after the other, from nothing triggered, read and written; words that left their range are marked. The tables are handed on, so that a caller of many passes copies them once, and what is taken is handed on too: by value it was copied at each hand-over.
 pub fn generators(
     text: Text,
     tables: &Tables,
     m: &mut [u32],
-    sums: Sums,
-    clipped: Clipped,
+    taking: &mut Taking,
     order: &[u32],
     items: &[u32],
     places: &mut [u32],
-) -> Taking
+)
     requires ready { Ready m.old }
     requires numbers { Numbers order.now }
-    ensures writes_after { record { words = m.new; sums = result.sums; places = places.new; reads = result.done.reads; writes = result.done.writes } ≡ taken_by (generators_of text) items.now (begun m.old sums places.old) order.now }
-    ensures clipped_after { result.clipped ≡ marked_by (generators_of text) items.now (begun m.old sums places.old) clipped order.now }
+    ensures writes_after { record { words = m.new; sums = taking.new.sums; places = places.new; reads = taking.new.done.reads; writes = taking.new.done.writes } ≡ taken_by (generators_of text) items.now (begun m.old taking.old.sums places.old) order.now }
+    ensures clipped_after { taking.new.clipped ≡ marked_by (generators_of text) items.now (begun m.old taking.old.sums places.old) taking.old.clipped order.now }
 {
-    let mut taking = Taking::new(sums, clipped);
+    taking.begin();
     for entry in order {
-        step(
-            text,
-            tables,
-            m,
-            &mut taking,
-            items,
-            places,
-            layout::wide(*entry),
-        );
+        step(text, tables, m, taking, items, places, layout::wide(*entry));
     }
-    taking
 }

@@ -44,6 +44,17 @@ impl Taking {
         }
     }
 
+    // Begins again, with the sums and marks that there are: nothing has triggered, been read or written.
+    pub fn begin(&mut self)
+        ensures { self.new ≡ untaken self.old.sums self.old.clipped }
+    {
+        self.triggered = [false; layout::GENERATORS];
+        self.done = Counts {
+            reads: 0,
+            writes: 0,
+        };
+    }
+
     // Whether the lower neighbour of g has triggered.
     pub fn triggered_below(&self, text: Text, g: usize) -> bool
         requires { g < 256 }

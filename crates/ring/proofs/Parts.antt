@@ -24,5 +24,5 @@ pub gathered-within : (text : Text) (by : Ordering) (out : List ℕ) (r : Ringin
 gathered-within text by out r es ea = put-within out (gathered text by Lines (length out) r).bytes (gathered-length text by Lines (length out) r) es ea
 
 -- Each part leaves fewer passes.
-pub part_falls : (text : Text) (by : Ordering) (r : Ringing) {next : Ringing} → r.passes ≢ 0 → next ≡ (gathered text by Lines 49152 r).next → next.passes < r.passes
-part_falls text by r n e = rw e (gathered-falls text by Lines 49152 r (lit≤ tt) n)
+pub part_falls : (text : Text) (by : Ordering) (r : Ringing) {next : Ringing} → r.passes ≢ 0 → next ≡ (gathered text by Lines 65536 r).next → next.passes < r.passes
+part_falls text by r n e = rw e (gathered-falls text by Lines 65536 r (lit≤ tt) n)

@@ -15,7 +15,7 @@ use ring_steps::{Output, Progress};
 use std::io;
 
 // The buffer for lines that are printed together. With the files, the machine, its memory and the tables it has room in a stack of 512 kB.
-const OUTPUT_BYTES: usize = 49152;
+const OUTPUT_BYTES: usize = 65536;
 
 // Rings as many passes as the buffer has room for, and prints them; answers what is left to ring.
 fn ring_part(
@@ -25,7 +25,7 @@ fn ring_part(
     m: &mut [u32],
     memory: &mut [u32],
 ) -> io::Result<Progress>
-    ensures { IfOk result (λ next. ringing_at next m.new memory.new bench.entry.commands.now ≡ (gathered bench.entry.text (ordering_in bench.entry) Lines 49152 (ringing_at at m.old memory.old bench.entry.commands.now)).next) }
+    ensures { IfOk result (λ next. ringing_at next m.new memory.new bench.entry.commands.now ≡ (gathered bench.entry.text (ordering_in bench.entry) Lines 65536 (ringing_at at m.old memory.old bench.entry.commands.now)).next) }
 {
     let mut out = [0u8; OUTPUT_BYTES];
     let next = ring_gathering::gather(bench, Output::Lines, at, m, memory, &mut out);
@@ -64,13 +64,7 @@ fn ring(rt: HostRuntime, file: &[u8], by: By, listing: &[u8]) -> io::Result<()> 
         numbers: &Numbers::new(),
         tables: &Tables::new(),
     };
-    let at = Progress {
-        passes: start.passes,
-        taken: 0,
-        length: 0,
-        end: Ok(()),
-    };
-    ring_all(rt, bench, at, &mut m, &mut memory)
+    ring_all(rt, bench, start.start(), &mut m, &mut memory)
 }
 
 fn main(rt: HostRuntime) {

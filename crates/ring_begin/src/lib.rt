@@ -1,18 +1,21 @@
 // The beginning of a ringing: the machine and the commands of a bench file, a delay memory of zeros, no command taken, and the order that its passes go by.
 #![tactic(auto)]
 
-ghost use Rattle.std.specs.Prelude.{◌≡◌, ◌≢◌, ℕ, ◌≤◌, [], length, option_copied, option_map, IfOk, IfErr};
+ghost use Rattle.std.specs.Prelude.{◌≡◌, ◌≢◌, ℕ, ◌≤◌, List, [], length, take, option_copied, option_map, IfOk, IfErr};
+ghost use Rattle.layout.specs.Machine.{Machine, Memory};
 ghost use Rattle.base_lists.specs.Lists.{zeros};
 ghost use Rattle.file_printed.specs.Text.{line_bytes};
 ghost use Rattle.file_bench.specs.BenchFile.{read_of, command_places};
 ghost use Rattle.ring_order.specs.Filled.{filled_part, InRoom};
 ghost use Rattle.ring_steps.specs.Ringing.{memory_at_first, output_of};
-ghost use Rattle.ring_begin.specs.AsCoded.{refused_line, printed_on};
+ghost use Rattle.ring_steps.specs.AsCoded.{ringing_at};
+ghost use Rattle.ring_begin.specs.AsCoded.{refused_line, ringing_of, printed_on};
 ghost use Rattle.ring_begin.specs.Begun.{line_of, Begins};
 
 use file_order::Entries;
 use layout_texts::Text;
 use ring_order::By;
+use ring_steps::Progress;
 
 mod line;
 
@@ -36,6 +39,18 @@ fn filled_part(filled: &Entries) -> &[u32]
 }
 
 impl Beginning {
+    // How far the ringing is: all passes are left, no command is taken, and nothing is refused.
+    pub fn start(&self) -> Progress
+        ensures { (m : Machine) (memory : Memory) (room : List ℕ) → ringing_at result m memory (take self.now.count room) ≡ ringing_of self.now m memory room }
+    {
+        Progress {
+            passes: self.passes,
+            taken: 0,
+            length: 0,
+            end: Ok(()),
+        }
+    }
+
     // The entries of the order.
     pub fn order(&self) -> Option<&[u32]>
         requires { InRoom self.now.order }

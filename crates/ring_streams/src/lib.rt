@@ -12,20 +12,20 @@ use std::io::Read;
 use std::{io, str};
 
 // The room for a file: one byte more than it may have, so that a longer one is told apart.
-const FILE_ROOM: usize = file_lines::FILE_BYTES + 1;
+pub const FILE_ROOM: usize = file_lines::FILE_BYTES + 1;
 
 // The room for an argument. A longer one names no file.
 const NAME_ROOM: usize = 4096;
 
 // What a program is asked for: by what the passes go, and how many bytes the order file has.
 #[derive(Clone, Copy)]
-struct Request {
-    by: By,
-    length: usize,
+pub struct Request {
+    pub by: By,
+    pub length: usize,
 }
 
 // Writes a line to standard error: the program's name, and what went wrong.
-fn complain(rt: HostRuntime, program: &[u8], fault: &[u8]) {
+pub fn complain(rt: HostRuntime, program: &[u8], fault: &[u8]) {
     let error = rt.stderr();
     let _ = error.write_all(program);
     let _ = error.write_all(fault);
@@ -47,7 +47,9 @@ fn read_all<R: Read>(stream: &mut R, buffer: &mut [u8]) -> io::Result<usize>
 }
 
 // Reads the bench file, from standard input, as far as its room goes. A read that fails is told on standard error.
-fn read_bench(rt: HostRuntime, program: &[u8], file: &mut [u8; FILE_ROOM]) -> Option<usize>
+// Not inlined, as `read_arguments`: what a reader needs of the stack is free again when the work begins, so that `ring` runs within 512 kB.
+#[inline(never)]
+pub fn read_bench(rt: HostRuntime, program: &[u8], file: &mut [u8; FILE_ROOM]) -> Option<usize>
     ensures { IfSome result (λ n. IsPrefixLen n file.new) }
 {
     let Ok(length) = read_all(&mut rt.stdin(), file) else {
@@ -110,7 +112,12 @@ fn is_given(rt: HostRuntime, number: usize) -> bool {
 }
 
 // What the program's arguments ask for: none by number, one what it names. More, and one that cannot be read, are told on standard error.
-fn read_arguments(rt: HostRuntime, program: &[u8], file: &mut [u8; FILE_ROOM]) -> Option<Request>
+#[inline(never)]
+pub fn read_arguments(
+    rt: HostRuntime,
+    program: &[u8],
+    file: &mut [u8; FILE_ROOM],
+) -> Option<Request>
     ensures { IfSome result (λ r. IsPrefixLen r.length file.new) }
 {
     if !is_given(rt, 1) {

@@ -32,7 +32,8 @@ pub fn read_full<R: Read>(input: &mut R, buffer: &mut [u8]) -> usize
     ensures { result ≤ length buffer.new }
 {
     let mut done = 0;
-    while let Ok(n) = input.read(&mut buffer[done..])
+    while done < buffer.len()
+        && let Ok(n) = input.read(&mut buffer[done..])
         && 0 < n
     {
         done += n;

@@ -11,7 +11,7 @@ use Rattle.pass_generators.proofs.generators.Goals as goal
 
 pub loop-entry-init : goal.loop-entry-init
 unfolding begun untaken
-loop-entry-init c = let e = c.new-taking.ensures in record { ready = c.requires.ready; reads = rw e (omega arith); writes = rw e (omega arith); stepped = rw e refl; clipped = rw e refl }
+loop-entry-init c = let e = c.begin.ensures in record { ready = c.requires.ready; reads = rw e (omega arith); writes = rw e (omega arith); stepped = rw e refl; clipped = rw e refl }
 
 pub step-requires : goal.step-requires
 step-requires c =

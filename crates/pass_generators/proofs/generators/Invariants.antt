@@ -14,7 +14,7 @@ invariant-loop-entry l =
       reads : l.taking.done.reads ≤ l.entry-index;
       writes : l.taking.done.writes ≤ l.entry-index;
       stepped : steps (generators_of l.text) l.items (state_of l.m l.places l.taking) (drop l.entry-index l.order)
-          ≡ steps (generators_of l.text) l.items (begun l.initial.m l.fn.sums l.initial.places) l.order;
+          ≡ steps (generators_of l.text) l.items (begun l.initial.m l.fn.taking.sums l.initial.places) l.order;
       clipped : marked_by (generators_of l.text) l.items (state_of l.m l.places l.taking) l.taking.clipped (drop l.entry-index l.order)
-          ≡ marked_by (generators_of l.text) l.items (begun l.initial.m l.fn.sums l.initial.places) l.fn.clipped l.order;
+          ≡ marked_by (generators_of l.text) l.items (begun l.initial.m l.fn.taking.sums l.initial.places) l.fn.taking.clipped l.order;
     }

@@ -10,9 +10,9 @@ use Rattle.ring.proofs.ring_part.Goals as goal
 pub slice_bounds-out-end : goal.slice_bounds-out-end
 slice_bounds-out-end c =
     let a = c.args in
-    gathered-within a.bench.text (ordering_in a.bench) (replicate 49152 0) (ringing_at a.at a.m.now a.memory.now a.bench.commands.now) c.gather-next.ensures.length_value c.gather-next.ensures.out_after
+    gathered-within a.bench.text (ordering_in a.bench) (replicate 65536 0) (ringing_at a.at a.m.now a.memory.now a.bench.commands.now) c.gather-next.ensures.length_value c.gather-next.ensures.out_after
 
 pub slice_bounds-write_all-end : goal.slice_bounds-write_all-end
 slice_bounds-write_all-end c =
     let a = c.args in
-    omega (arith, length-take c.gather-next.result.length c.gather-next.new.out, gathered-within a.bench.text (ordering_in a.bench) (replicate 49152 0) (ringing_at a.at a.m.now a.memory.now a.bench.commands.now) c.gather-next.ensures.length_value c.gather-next.ensures.out_after)
+    omega (arith, length-take c.gather-next.result.length c.gather-next.new.out, gathered-within a.bench.text (ordering_in a.bench) (replicate 65536 0) (ringing_at a.at a.m.now a.memory.now a.bench.commands.now) c.gather-next.ensures.length_value c.gather-next.ensures.out_after)
