@@ -41,7 +41,8 @@ fn filled_part(filled: &Entries) -> &[u32]
 impl Beginning {
     // How far the ringing is: all passes are left, no command is taken, and nothing is refused.
     pub fn start(&self) -> Progress
-        ensures { (m : Machine) (memory : Memory) (room : List ℕ) → ringing_at result m memory (take self.now.count room) ≡ ringing_of self.now m memory room }
+        ensures taken_value { result.taken ≡ 0 }
+        ensures begins { (m : Machine) (memory : Memory) (room : List ℕ) → ringing_at result m memory (take self.now.count room) ≡ ringing_of self.now m memory room }
     {
         Progress {
             passes: self.passes,
