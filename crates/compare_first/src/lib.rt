@@ -10,6 +10,7 @@ ghost use Rattle.compare_traces.specs.AsCoded.{Traceable};
 ghost use Rattle.compare_first.specs.Found.{found};
 
 use compare_points::Orders;
+use compare_traces::Trace;
 use layout_texts::Text;
 
 // The first of the four points that fails: its number, 1 to 4, which the C interface hands on, the lowest place at which it fails,
@@ -67,7 +68,20 @@ pub fn first_point(text: Text, m: &[u32], first: &[u32], second: &[u32]) -> Opti
     requires order { IsOrder (ticks_of m.now) first.now × IsOrder (ticks_of m.now) second.now }
     ensures { result ≡ found (first_point (settings_of text m.now) first.now second.now) }
 {
-    first_failing(&Orders::new(text, m, first, second))
+    let runs = compare_roles::runs(text, m);
+    let mut first_trace = Trace::new();
+    first_trace.follow(text, m, &runs, first);
+    let mut second_trace = Trace::new();
+    second_trace.follow(text, m, &runs, second);
+    first_failing(&Orders {
+        text,
+        m,
+        first,
+        second,
+        runs: &runs,
+        first_trace: &first_trace,
+        second_trace: &second_trace,
+    })
 }
 
 // Whether none of the four points fails.

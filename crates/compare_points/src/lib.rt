@@ -19,22 +19,23 @@ use layout_texts::Text;
 // A mark for each sum word.
 type Marks = [u8; layout::QUADRANT_WORDS];
 
-// Two orders of a machine's generators, with what the points look at: the generators' run modes and the traces of the orders.
+// Two orders of a machine's generators, with what the points look at: the generators' run modes and the traces of the orders. These are
+// borrowed: by value they lay on the stack three times, and a thread with 16 kB of it could not compare.
 #[derive(Drop)]
 pub struct Orders<'a> {
     pub text: Text,
     pub m: &'a [u32],
     pub first: &'a [u32],
     pub second: &'a [u32],
-    pub runs: Runs,
-    pub first_trace: Trace,
-    pub second_trace: Trace,
+    pub runs: &'a Runs,
+    pub first_trace: &'a Trace,
+    pub second_trace: &'a Trace,
     pub ghost traceable: { Traceable m.now },
     pub ghost first_order: { IsOrder (ticks_of m.now) first.now },
     pub ghost second_order: { IsOrder (ticks_of m.now) second.now },
-    pub ghost runs_of: { RunsOf text m.now runs },
-    pub ghost first_traced: { first_trace ≡ trace_of text m.now first.now },
-    pub ghost second_traced: { second_trace ≡ trace_of text m.now second.now },
+    pub ghost runs_of: { RunsOf text m.now runs.now },
+    pub ghost first_traced: { first_trace.now ≡ trace_of text m.now first.now },
+    pub ghost second_traced: { second_trace.now ≡ trace_of text m.now second.now },
 }
 
 // The lowest of n places at which two arrays hold another number.
@@ -51,32 +52,10 @@ fn first_difference(first: &[u32], second: &[u32], n: usize) -> Option<usize>
 }
 
 impl<'a> Orders<'a> {
-    // Not inlined: the two traces that it moves into place are then off the stack again when the points are asked, so that a thread with 16 kB of stack can compare.
-    #[inline(never)]
-    pub fn new(text: Text, m: &'a [u32], first: &'a [u32], second: &'a [u32]) -> Orders<'a>
-        requires traceable { Traceable m.now }
-        requires order { IsOrder (ticks_of m.now) first.now × IsOrder (ticks_of m.now) second.now }
-        ensures machine { (result.text ≡ text) × (result.m.now ≡ m.now) }
-        ensures orders { (result.first.now ≡ first.now) × (result.second.now ≡ second.now) }
-    {
-        let runs = compare_roles::runs(text, m);
-        let first_trace = Trace::of(text, m, &runs, first);
-        let second_trace = Trace::of(text, m, &runs, second);
-        Orders {
-            text,
-            m,
-            first,
-            second,
-            runs,
-            first_trace,
-            second_trace,
-        }
-    }
-
     // Whether g and h stand in the same sequence in both.
     pub fn same_side(&self, g: usize, h: usize) -> bool
         requires { (g < generators) × (h < generators) }
-        ensures { result ≡ side_by (sides self.now.first_trace self.now.second_trace) g h }
+        ensures { result ≡ side_by (sides self.now.first_trace.now self.now.second_trace.now) g h }
     {
         let first = &self.first_trace.place;
         let second = &self.second_trace.place;
@@ -86,9 +65,9 @@ impl<'a> Orders<'a> {
     // The first point at generator g.
     fn neighbour_same(&self, g: usize) -> bool
         requires { g < ticks_of self.now.m.now }
-        ensures { result ≡ neighbour_by self.now.text self.now.m.now (sides self.now.first_trace self.now.second_trace) g }
+        ensures { result ≡ neighbour_by self.now.text self.now.m.now (sides self.now.first_trace.now self.now.second_trace.now) g }
     {
-        if compare_roles::run_at(self.text, self.m, &self.runs, g) != layout_modes::WAIT {
+        if compare_roles::run_at(self.text, self.m, self.runs, g) != layout_modes::WAIT {
             return true;
         }
         if !compare_roles::awaits(self.text, self.m, g) {
@@ -128,9 +107,9 @@ impl<'a> Orders<'a> {
     // If generator g adds to a word and stands on another side of the word's last 0111 in one order than in the other, the word is marked.
     fn adder(&self, marks: &mut Marks, g: usize)
         requires { g < ticks_of self.now.m.now }
-        ensures { marks.new ≡ word_marked_by self.now.text self.now.m.now (sides self.now.first_trace self.now.second_trace) self.now.first_trace.replaced.last g marks.old }
+        ensures { marks.new ≡ word_marked_by self.now.text self.now.m.now (sides self.now.first_trace.now self.now.second_trace.now) self.now.first_trace.now.replaced.last g marks.old }
     {
-        if !compare_roles::adding(compare_roles::run_at(self.text, self.m, &self.runs, g)) {
+        if !compare_roles::adding(compare_roles::run_at(self.text, self.m, self.runs, g)) {
             return;
         }
         let w = layout::gsum(self.m, g);
@@ -146,7 +125,7 @@ impl<'a> Orders<'a> {
 
     // The words are marked of which an adding generator stands on another side of the last 0111 in one order than in the other.
     fn adders(&self) -> Marks
-        ensures { result ≡ marks_of self.now.text self.now.m.now (sides self.now.first_trace self.now.second_trace) self.now.first_trace.replaced.last (ticks_of self.now.m.now) }
+        ensures { result ≡ marks_of self.now.text self.now.m.now (sides self.now.first_trace.now self.now.second_trace.now) self.now.first_trace.now.replaced.last (ticks_of self.now.m.now) }
     {
         let mut marks = [0u8; layout::QUADRANT_WORDS];
         for g in 0..layout::ticks(self.m) {
@@ -158,7 +137,7 @@ impl<'a> Orders<'a> {
     // The fourth point at word w.
     fn word_same(&self, marks: &Marks, w: usize) -> bool
         requires { w < quadrant_words }
-        ensures { result ≡ word_by self.now.first_trace.replaced self.now.second_trace.replaced marks.now w }
+        ensures { result ≡ word_by self.now.first_trace.now.replaced self.now.second_trace.now.replaced marks.now w }
     {
         let first = &self.first_trace.replaced;
         let second = &self.second_trace.replaced;

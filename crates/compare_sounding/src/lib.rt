@@ -15,7 +15,7 @@ use compare_points::Orders;
 // Whether g, if it adds to word w, stands on the same side of generator l in both orders.
 fn adder_same(orders: &Orders, w: usize, l: usize, g: usize) -> bool
     requires { (l < generators) × (g < generators) }
-    ensures { result ≡ adder_on orders.now.text orders.now.m.now (sides orders.now.first_trace orders.now.second_trace) w l g }
+    ensures { result ≡ adder_on orders.now.text orders.now.m.now (sides orders.now.first_trace.now orders.now.second_trace.now) w l g }
 {
     if layout::gsum(orders.m, g) != w {
         return true;
@@ -30,7 +30,7 @@ fn adder_same(orders: &Orders, w: usize, l: usize, g: usize) -> bool
 // at a word where the fourth point fails there is one.
 fn adder_point(orders: &Orders, w: usize, l: usize) -> usize
     requires { l < generators }
-    ensures { result ≡ first_failing (adder_on orders.now.text orders.now.m.now (sides orders.now.first_trace orders.now.second_trace) w l) (ticks_of orders.now.m.now) }
+    ensures { result ≡ first_failing (adder_on orders.now.text orders.now.m.now (sides orders.now.first_trace.now orders.now.second_trace.now) w l) (ticks_of orders.now.m.now) }
 {
     let t = layout::ticks(orders.m);
     for g in 0..t {

@@ -51,7 +51,7 @@ pub struct Trace {
 
 impl Trace {
     // Of no entries.
-    fn new() -> Trace
+    pub fn new() -> Trace
         ensures { result ≡ untraced }
     {
         Trace {
@@ -95,6 +95,18 @@ impl Trace {
         }
     }
 
+    // From no entries to an order, in place: a trace that is handed over is copied, 1.9 kB of it.
+    pub fn follow(&mut self, text: Text, m: &[u32], runs: &Runs, order: &[u32])
+        requires traceable { Traceable m.now × RunsOf text m.now runs.now }
+        requires order { IsOrder (ticks_of m.now) order.now }
+        requires untraced { self.old ≡ untraced }
+        ensures { self.new ≡ trace_of text m.now order.now }
+    {
+        for (i, entry) in order.iter().enumerate() {
+            self.step(text, m, runs, i, layout::wide(*entry));
+        }
+    }
+
     // Of an order.
     pub fn of(text: Text, m: &[u32], runs: &Runs, order: &[u32]) -> Trace
         requires traceable { Traceable m.now × RunsOf text m.now runs.now }
@@ -102,9 +114,7 @@ impl Trace {
         ensures { result ≡ trace_of text m.now order.now }
     {
         let mut trace = Trace::new();
-        for (i, entry) in order.iter().enumerate() {
-            trace.step(text, m, runs, i, layout::wide(*entry));
-        }
+        trace.follow(text, m, runs, order);
         trace
     }
 }

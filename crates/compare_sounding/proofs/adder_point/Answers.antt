@@ -16,14 +16,14 @@ pub returns-then-not-adder_same : goal.returns-then-not-adder_same
 returns-then-not-adder_same c =
     let a = c.args in
     let o = a.orders.now in
-    sym (failing-here (adder_on o.text o.m.now (sides o.first_trace o.second_trace) a.w a.l) c.loop-g.g (ticks_of o.m.now) (omega (arith, c.ticks-t.ensures)) c.loop-g.invariant
+    sym (failing-here (adder_on o.text o.m.now (sides o.first_trace.now o.second_trace.now) a.w a.l) c.loop-g.g (ticks_of o.m.now) (omega (arith, c.ticks-t.ensures)) c.loop-g.invariant
     (sym c.adder_same.ensures ∙ c.if-not-adder_same.true))
 
 pub loop-g-preserved : goal.loop-g-preserved
 loop-g-preserved c =
     let a = c.args in
     let o = a.orders.now in
-    failing-next (adder_on o.text o.m.now (sides o.first_trace o.second_trace) a.w a.l) c.loop-g.g c.loop-g.invariant (sym c.adder_same.ensures ∙ c.if-not-adder_same.false)
+    failing-next (adder_on o.text o.m.now (sides o.first_trace.now o.second_trace.now) a.w a.l) c.loop-g.g c.loop-g.invariant (sym c.adder_same.ensures ∙ c.if-not-adder_same.false)
 
 pub returns : goal.returns
 returns c =
@@ -31,4 +31,4 @@ returns c =
     let o = a.orders.now in
     let e : c.loop-g.g ≡ c.ticks-t.result = omega arith in
     let f : c.loop-g.g ≡ ticks_of o.m.now = e ∙ c.ticks-t.ensures in
-    sym e ∙ sym c.loop-g.invariant ∙ ap (first_failing (adder_on o.text o.m.now (sides o.first_trace o.second_trace) a.w a.l)) f
+    sym e ∙ sym c.loop-g.invariant ∙ ap (first_failing (adder_on o.text o.m.now (sides o.first_trace.now o.second_trace.now) a.w a.l)) f

@@ -10,12 +10,12 @@ use Rattle.compare_points.proofs.Orders.adder.Goals as goal
 pub returns-then-not-adding : goal.returns-then-not-adding
 returns-then-not-adding c =
     let o = c.args.self.now in
-    no_add o.text o.m.now (sides o.first_trace o.second_trace) o.first_trace.replaced.last c.args.marks.now c.args.g c.run_at.ensures (sym c.adding.ensures ∙ c.if-not-adding.true)
+    no_add o.text o.m.now (sides o.first_trace.now o.second_trace.now) o.first_trace.now.replaced.last c.args.marks.now c.args.g c.run_at.ensures (sym c.adding.ensures ∙ c.if-not-adding.true)
 
 pub returns-then-l-eq0 : goal.returns-then-l-eq0
 returns-then-l-eq0 c =
     let o = c.args.self.now in
-    no-replaced o.text o.m.now (sides o.first_trace o.second_trace) o.first_trace.replaced.last c.args.marks.now c.args.g c.run_at.ensures (sym c.adding.ensures ∙ c.if-not-adding.false)
+    no-replaced o.text o.m.now (sides o.first_trace.now o.second_trace.now) o.first_trace.now.replaced.last c.args.marks.now c.args.g c.run_at.ensures (sym c.adding.ensures ∙ c.if-not-adding.false)
     c.gsum-w.ensures c.wide-l.ensures c.if-l-eq0.true
 
 pub same_side-requires : goal.same_side-requires
@@ -28,11 +28,11 @@ same_side-requires c =
 pub returns-then-same_side : goal.returns-then-same_side
 returns-then-same_side c =
     let o = c.args.self.now in
-    one_side o.text o.m.now (sides o.first_trace o.second_trace) o.first_trace.replaced.last c.args.marks.now c.args.g c.run_at.ensures (sym c.adding.ensures ∙ c.if-not-adding.false)
+    one_side o.text o.m.now (sides o.first_trace.now o.second_trace.now) o.first_trace.now.replaced.last c.args.marks.now c.args.g c.run_at.ensures (sym c.adding.ensures ∙ c.if-not-adding.false)
     c.gsum-w.ensures c.wide-l.ensures c.if-l-eq0.false (sym c.same_side.ensures ∙ c.if-same_side.true)
 
 pub returns : goal.returns
 returns c =
     let o = c.args.self.now in
-    two-sides o.text o.m.now (sides o.first_trace o.second_trace) o.first_trace.replaced.last c.args.marks.now c.args.g c.run_at.ensures (sym c.adding.ensures ∙ c.if-not-adding.false)
+    two-sides o.text o.m.now (sides o.first_trace.now o.second_trace.now) o.first_trace.now.replaced.last c.args.marks.now c.args.g c.run_at.ensures (sym c.adding.ensures ∙ c.if-not-adding.false)
     c.gsum-w.ensures c.wide-l.ensures c.if-l-eq0.false (sym c.same_side.ensures ∙ c.if-same_side.false)

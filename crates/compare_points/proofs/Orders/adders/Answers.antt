@@ -12,15 +12,15 @@ pub loop-g-init : goal.loop-g-init
 unfolding zeros
 loop-g-init c =
     let o = c.args.self.now in
-    marked-none o.text o.m.now (sides o.first_trace o.second_trace) o.first_trace.replaced.last
+    marked-none o.text o.m.now (sides o.first_trace.now o.second_trace.now) o.first_trace.now.replaced.last
 
 pub loop-g-preserved : goal.loop-g-preserved
 loop-g-preserved c =
     let o = c.args.self.now in
-    marked_next o.text o.m.now (sides o.first_trace o.second_trace) o.first_trace.replaced.last c.loop-g.g c.loop-g.invariant c.adder.ensures
+    marked_next o.text o.m.now (sides o.first_trace.now o.second_trace.now) o.first_trace.now.replaced.last c.loop-g.g c.loop-g.invariant c.adder.ensures
 
 pub returns : goal.returns
 returns c =
     let o = c.args.self.now in
     let e : c.loop-g.g ≡ ticks_of o.m.now = omega (arith, c.ticks-g-end.ensures) in
-    c.loop-g.invariant ∙ ap (marks_of o.text o.m.now (sides o.first_trace o.second_trace) o.first_trace.replaced.last) e
+    c.loop-g.invariant ∙ ap (marks_of o.text o.m.now (sides o.first_trace.now o.second_trace.now) o.first_trace.now.replaced.last) e

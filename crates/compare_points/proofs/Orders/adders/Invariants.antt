@@ -5,4 +5,4 @@ use Rattle.compare_points.specs.AsCoded.{sides, marks_of}
 use Rattle.compare_points.proofs.Orders.adders.Given as goal
 
 abbrev pub invariant-loop-g : goal.invariant-loop-g
-invariant-loop-g l = l.marks ≡ marks_of l.self.text l.self.m.now (sides l.self.first_trace l.self.second_trace) l.self.first_trace.replaced.last l.g
+invariant-loop-g l = l.marks ≡ marks_of l.self.text l.self.m.now (sides l.self.first_trace.now l.self.second_trace.now) l.self.first_trace.now.replaced.last l.g

@@ -15,17 +15,17 @@ loop-g-init c = failing-zero _
 pub returns-then-not-neighbour_same : goal.returns-then-not-neighbour_same
 returns-then-not-neighbour_same c =
     let o = c.args.self.now in
-    fails_there (neighbour_by o.text o.m.now (sides o.first_trace o.second_trace)) c.loop-g.invariant (omega (arith, c.ticks-g-end.ensures))
+    fails_there (neighbour_by o.text o.m.now (sides o.first_trace.now o.second_trace.now)) c.loop-g.invariant (omega (arith, c.ticks-g-end.ensures))
     (sym c.neighbour_same.ensures ∙ c.if-not-neighbour_same.true)
     ∙ ap (where_failing (ticks_of o.m.now)) (neighbours-held o.text o.m.now o.first.now o.second.now o.traceable (o.first_order, o.second_order) o.first_traced o.second_traced)
 
 pub loop-g-preserved : goal.loop-g-preserved
 loop-g-preserved c =
     let o = c.args.self.now in
-    failing-next (neighbour_by o.text o.m.now (sides o.first_trace o.second_trace)) c.loop-g.g c.loop-g.invariant (sym c.neighbour_same.ensures ∙ c.if-not-neighbour_same.false)
+    failing-next (neighbour_by o.text o.m.now (sides o.first_trace.now o.second_trace.now)) c.loop-g.g c.loop-g.invariant (sym c.neighbour_same.ensures ∙ c.if-not-neighbour_same.false)
 
 pub returns : goal.returns
 returns c =
     let o = c.args.self.now in
-    fails_nowhere (neighbour_by o.text o.m.now (sides o.first_trace o.second_trace)) c.loop-g.invariant (omega (arith, c.ticks-g-end.ensures))
+    fails_nowhere (neighbour_by o.text o.m.now (sides o.first_trace.now o.second_trace.now)) c.loop-g.invariant (omega (arith, c.ticks-g-end.ensures))
     ∙ ap (where_failing (ticks_of o.m.now)) (neighbours-held o.text o.m.now o.first.now o.second.now o.traceable (o.first_order, o.second_order) o.first_traced o.second_traced)

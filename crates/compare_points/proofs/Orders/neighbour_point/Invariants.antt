@@ -6,4 +6,4 @@ use Rattle.compare_points.specs.AsCoded.{sides, neighbour_by}
 use Rattle.compare_points.proofs.Orders.neighbour_point.Given as goal
 
 abbrev pub invariant-loop-g : goal.invariant-loop-g
-invariant-loop-g l = first_failing (neighbour_by l.self.text l.self.m.now (sides l.self.first_trace l.self.second_trace)) l.g ≡ l.g
+invariant-loop-g l = first_failing (neighbour_by l.self.text l.self.m.now (sides l.self.first_trace.now l.self.second_trace.now)) l.g ≡ l.g

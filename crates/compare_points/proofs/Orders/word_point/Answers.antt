@@ -15,17 +15,17 @@ loop-w-init c = failing-zero _
 pub returns-then-not-word_same : goal.returns-then-not-word_same
 returns-then-not-word_same c =
     let o = c.args.self.now in
-    fails_there (word_by o.first_trace.replaced o.second_trace.replaced c.adders-marks.result) c.loop-w.invariant (omega arith)
+    fails_there (word_by o.first_trace.now.replaced o.second_trace.now.replaced c.adders-marks.result) c.loop-w.invariant (omega arith)
     (sym c.word_same.ensures ∙ c.if-not-word_same.true)
     ∙ ap (where_failing quadrant_words) (words-held o.text o.m.now o.first.now o.second.now o.traceable (o.first_order, o.second_order) o.first_traced o.second_traced c.adders-marks.ensures)
 
 pub loop-w-preserved : goal.loop-w-preserved
 loop-w-preserved c =
     let o = c.args.self.now in
-    failing-next (word_by o.first_trace.replaced o.second_trace.replaced c.adders-marks.result) c.loop-w.w c.loop-w.invariant (sym c.word_same.ensures ∙ c.if-not-word_same.false)
+    failing-next (word_by o.first_trace.now.replaced o.second_trace.now.replaced c.adders-marks.result) c.loop-w.w c.loop-w.invariant (sym c.word_same.ensures ∙ c.if-not-word_same.false)
 
 pub returns : goal.returns
 returns c =
     let o = c.args.self.now in
-    fails_nowhere (word_by o.first_trace.replaced o.second_trace.replaced c.adders-marks.result) c.loop-w.invariant (omega arith)
+    fails_nowhere (word_by o.first_trace.now.replaced o.second_trace.now.replaced c.adders-marks.result) c.loop-w.invariant (omega arith)
     ∙ ap (where_failing quadrant_words) (words-held o.text o.m.now o.first.now o.second.now o.traceable (o.first_order, o.second_order) o.first_traced o.second_traced c.adders-marks.ensures)

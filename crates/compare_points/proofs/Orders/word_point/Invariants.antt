@@ -6,4 +6,4 @@ use Rattle.compare_points.specs.AsCoded.{word_by}
 use Rattle.compare_points.proofs.Orders.word_point.Given as goal
 
 abbrev pub invariant-loop-w : goal.invariant-loop-w
-invariant-loop-w l = first_failing (word_by l.self.first_trace.replaced l.self.second_trace.replaced l.marks) l.w ≡ l.w
+invariant-loop-w l = first_failing (word_by l.self.first_trace.now.replaced l.self.second_trace.now.replaced l.marks) l.w ≡ l.w
