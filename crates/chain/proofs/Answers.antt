@@ -1,6 +1,6 @@
 -- What the call answers and leaves, by the number of the refusing question.
 -- Assumes nothing.
-use mathlib.Core.Path.{◌≡◌}
+use mathlib.Core.Path.{◌≡◌, ◌∙◌}
 use mathlib.Core.Logic.{◌≢◌}
 use mathlib.Core.List.{List}
 use Prim.Native.Nat.{ℕ, ◌+◌, ◌*◌, ◌≤◌, ◌<◌}
@@ -19,10 +19,15 @@ module _ (c : Chain) (run : List ℕ) where
   unfolding chain_of
   run-left {number} e h = rw (← e, ne_eqb number 0 h)
 
-  pub numbers-put : 0 ≡ chain_refusal c → size c ≤ modifiers → (zero-run found : List ℕ) → length zero-run ≡ modifiers → found ≡ filled 0 1 (size c) (earliest c) zero-run
-      → {numbers : List ℕ} → numbers ≡ filled 0 1 (size c) (λ k. get_or found k 0) run → ◌≡◌ {A = Numbered} (record { number = 0; numbers = numbers }) (chain_of c run)
+  pub numbers-put : 0 ≡ chain_refusal c → {numbers : List ℕ} → numbers ≡ filled 0 1 (size c) (earliest c) run
+      → ◌≡◌ {A = Numbered} (record { number = 0; numbers = numbers }) (chain_of c run)
   unfolding chain_of
-  numbers-put e few zero-run found long q p = rw (← e, p, filled-same 0 1 (size c) (λ k. get_or found k 0) (earliest c) run each)
+  numbers-put e p = rw (← e, p)
+
+  -- Numbers that were found elsewhere and put are the same.
+  pub found-put : 0 ≡ chain_refusal c → size c ≤ modifiers → (zero-run found : List ℕ) → length zero-run ≡ modifiers → found ≡ filled 0 1 (size c) (earliest c) zero-run
+      → {numbers : List ℕ} → numbers ≡ filled 0 1 (size c) (λ k. get_or found k 0) run → ◌≡◌ {A = Numbered} (record { number = 0; numbers = numbers }) (chain_of c run)
+  found-put e few zero-run found long q p = numbers-put e (p ∙ filled-same 0 1 (size c) (λ k. get_or found k 0) (earliest c) run each)
     where
       each : (k : ℕ) → k < size c → get_or found k 0 ≡ earliest c k
       each k l =

@@ -7,7 +7,7 @@ use Rattle.std.proofs.lemmas.Result.{err_from_is_err_and}
 use Rattle.base_questions.proofs.Refusals.{numbered}
 use Rattle.chain_entries.specs.Entries.{Chain}
 use Rattle.chain.proofs.Refusals.{few}
-use Rattle.chain.proofs.Answers.{run-left, numbers-put}
+use Rattle.chain.proofs.Answers.{run-left, found-put}
 use Rattle.chain.proofs.chain.Goals as goal
 
 pub returns-in_err-refusal : goal.returns-in_err-refusal
@@ -27,5 +27,5 @@ pub returns : goal.returns
 returns c =
     let a = c.args in
     let e : Chain = record { entries = a.chain.now.entries.now; names = a.chain.now.names.now } in
-    numbers-put e a.numbers.now c.in_ok-refusal.ensures.value (few e (sym c.in_ok-refusal.ensures.value)) (replicate 128 0) c.refusal.new.found refl
+    found-put e a.numbers.now c.in_ok-refusal.ensures.value (few e (sym c.in_ok-refusal.ensures.value)) (replicate 128 0) c.refusal.new.found refl
     (c.in_ok-refusal.ensures.found_after refl) (rw c.size.ensures at c.put.ensures)
